@@ -19,7 +19,7 @@ use Rattle.row_columns.specs.declared.layout.Layout.{Layout as Coded}
 use Rattle.row_columns.specs.Layouts.{layout_of}
 use Rattle.row_columns.specs.Columns.{whole_in, ballot_from, vote_at, row_in, row_of, row_from, first_of, damage_of, damage_in, item_from, item_in, saved_in, AreSound}
 use Rattle.acceptor_store.specs.Sqlite.{Lists, IsRefusal}
-use Rattle.acceptor_store.specs.declared.reading.Reader.{Reader}
+use Rattle.acceptor_store.specs.declared.reading.RowReader.{RowReader}
 use Rattle.acceptor_store.specs.Reading.{SeesFront, SeesAll, HasSeen}
 use Rattle.acceptor_store.proofs.ListLemmas.{lists, no_damage}
 
@@ -167,7 +167,7 @@ module _ (rise : Rise) (listed : Listed) (layout : Layout) (s : State) (are : Is
 
 -- ---- what a reader leaves
 
-module _ {V : Type 0} (rise : Rise) (listed : Listed) (saw : V → V → List (ℕ × Row) → Type 0) (coded : Coded) (s : State) (old new : Reader V) (fresh : old.fault ≡ None) (same_layout : old.layout ≡ coded) where
+module _ {V : Type 0} (rise : Rise) (listed : Listed) (saw : V → V → List (ℕ × Row) → Type 0) (coded : Coded) (s : State) (old new : RowReader V) (fresh : old.fault ≡ None) (same_layout : old.layout ≡ coded) where
   -- the one leads to the other by the rows of a listing
   abbrev pub Took : List Columns → Type 0
   Took rows = (old.visitor.ghost_name ≡ new.visitor.ghost_name) × (new.layout ≡ old.layout) × (old.fault ≡ None → HasSeen saw (layout_of old.layout) new.fault old.visitor.now new.visitor.now rows)
@@ -179,14 +179,14 @@ module _ {V : Type 0} (rise : Rise) (listed : Listed) (saw : V → V → List (�
       (first : (new ≡ old) ⊎ ((rows : List Columns) × ListsFirst (layout_of coded) s rows × Took rows)) where
     pub front_read : SeesFront saw old.visitor.now new.visitor.now (saved_in (layout_of coded) s.now.trees)
     front_read = elim first [
-      | inl same ↦ inl (ap (λ (r : Reader V). r.visitor.now) same)
+      | inl same ↦ inl (ap (λ (r : RowReader V). r.visitor.now) same)
       | inr h ↦ front_seen rise listed (layout_of coded) s are sound saw old.visitor.now new.visitor.now new.fault h.0 (seen_of h.0 h.2) h.1
     ]
 
     pub refusal_read : (r : Result Bool RowsFault) → IfErr r (λ f. new.fault ≡ Some f) → IfErr r IsRefusal
     refusal_read (Ok all) h = tt
     refusal_read (Err f) h = elim first [
-      | inl same ↦ absurd (let none : None ≡ Some f = sym (ap (λ (r : Reader V). r.fault) same ∙ fresh) ∙ h in cc)
+      | inl same ↦ absurd (let none : None ≡ Some f = sym (ap (λ (r : RowReader V). r.fault) same ∙ fresh) ∙ h in cc)
       | inr h' ↦ refused rise listed (layout_of coded) s are sound saw old.visitor.now new.visitor.now new.fault h'.0 (seen_of h'.0 h'.2) h'.1 f h
     ]
 

@@ -63,7 +63,7 @@ fn next_item(
 
 /// Shows the rows of a listing to a visitor, up to the first that is no saved row.
 #[derive(Drop)]
-struct Reader<'a, V: RowVisitor> {
+struct RowReader<'a, V: RowVisitor> {
     alloc: Global,
     layout: Layout,
     visitor: &'a mut V,
@@ -73,7 +73,7 @@ struct Reader<'a, V: RowVisitor> {
     fault: Option<RowsFault>,
 }
 
-impl<V: RowVisitor> Taker for Reader<'_, V> {
+impl<V: RowVisitor> Taker for RowReader<'_, V> {
     ghost took = { λ old new rows. (old.visitor.ghost_name ≡ new.visitor.ghost_name) × (new.layout ≡ old.layout)
         × (old.fault ≡ None → HasSeen V.saw (layout_of old.layout) new.fault old.visitor.now new.visitor.now rows) };
 
@@ -148,7 +148,7 @@ pub(crate) fn show_all<S: Alter, V: RowVisitor>(
 {
     rising_is_listed();
     rows_rise();
-    let mut reader = Reader {
+    let mut reader = RowReader {
         alloc,
         layout,
         visitor,

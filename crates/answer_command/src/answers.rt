@@ -12,7 +12,7 @@ ghost use Rattle.answer_command.specs.Seats.{asked_at, line_at, lines_at, answer
 ghost use Rattle.command_ends.specs.Ends.{IsOfInput};
 ghost use Rattle.command_ends.specs.declared.end.End.TheVariants.{Done};
 
-use crate::line::{Seat, answer_line};
+use crate::line::{AcceptorSeat, answer_line};
 use ballots::Member;
 use command_ends::{End, Fault};
 use saved_rows::MemoryRows;
@@ -35,7 +35,7 @@ fn lines_of<'a>(alloc: Global, input: &'a [u8]) -> Result<Vec<&'a [u8]>, AllocEr
 
 /// Why the lines are not answered to their end.
 #[derive(Clone, Copy)]
-enum Stop {
+enum AnswerStop {
     Memory,
     CannotWrite,
 }
@@ -43,11 +43,11 @@ enum Stop {
 /// Answers one line that is not blank.
 fn put_line<W: Write>(
     alloc: Global,
-    seat: &Seat,
+    seat: &AcceptorSeat,
     rows: &mut MemoryRows,
     line: &[u8],
     out: &mut W,
-) -> Result<(), Stop>
+) -> Result<(), AnswerStop>
     requires { rows.old.version ≡ version_of seat.now.wire }
     ensures text { OnOk result (Appends (W.contents out.old) (W.contents out.new) (line_at seat.now (saved rows.old) line.now ++ 10 ∷ [])) }
     ensures front { OnErr result (AppendsFront (W.contents out.old) (W.contents out.new) (line_at seat.now (saved rows.old) line.now ++ 10 ∷ [])) }
@@ -55,19 +55,24 @@ fn put_line<W: Write>(
     ensures version { rows.new.version ≡ rows.old.version }
 {
     let Ok(mut text) = answer_line(alloc, *seat, rows, line) else {
-        return Err(Stop::Memory);
+        return Err(AnswerStop::Memory);
     };
     if text.push(b'\n').is_err() {
-        return Err(Stop::Memory);
+        return Err(AnswerStop::Memory);
     }
     match put_all(out, &text) {
         Ok(()) => Ok(()),
-        Err(_) => Err(Stop::CannotWrite),
+        Err(_) => Err(AnswerStop::CannotWrite),
     }
 }
 
 /// Answers the lines, one after the other.
-fn put_lines<W: Write>(alloc: Global, seat: &Seat, lines: &[&[u8]], out: &mut W) -> Result<(), Stop>
+fn put_lines<W: Write>(
+    alloc: Global,
+    seat: &AcceptorSeat,
+    lines: &[&[u8]],
+    out: &mut W,
+) -> Result<(), AnswerStop>
     ensures text { OnOk result (Appends (W.contents out.old) (W.contents out.new) (lines_at seat.now (map (λ l. l.now) lines.now))) }
     ensures front { OnErr result (AppendsFront (W.contents out.old) (W.contents out.new) (lines_at seat.now (map (λ l. l.now) lines.now))) }
 {
@@ -82,30 +87,35 @@ fn put_lines<W: Write>(alloc: Global, seat: &Seat, lines: &[&[u8]], out: &mut W)
     Ok(())
 }
 
-fn put_answer<W: Write>(alloc: Global, seat: &Seat, input: &[u8], out: &mut W) -> Result<(), Stop>
+fn put_answer<W: Write>(
+    alloc: Global,
+    seat: &AcceptorSeat,
+    input: &[u8],
+    out: &mut W,
+) -> Result<(), AnswerStop>
     ensures text { OnOk result (Appends (W.contents out.old) (W.contents out.new) (answer_at seat.now input.now)) }
     ensures front { OnErr result (AppendsFront (W.contents out.old) (W.contents out.new) (answer_at seat.now input.now)) }
 {
     match lines_of(alloc, input) {
         Ok(lines) => put_lines(alloc, seat, &lines, out),
-        Err(_) => Err(Stop::Memory),
+        Err(_) => Err(AnswerStop::Memory),
     }
 }
 
 /// The same, with all of it handed on.
 fn put_and_flush<W: Write>(
     alloc: Global,
-    seat: &Seat,
+    seat: &AcceptorSeat,
     input: &[u8],
     out: &mut W,
-) -> Result<(), Stop>
+) -> Result<(), AnswerStop>
     ensures text { OnOk result (Appends (W.contents out.old) (W.contents out.new) (answer_at seat.now input.now)) }
     ensures front { OnErr result (AppendsFront (W.contents out.old) (W.contents out.new) (answer_at seat.now input.now)) }
 {
     put_answer(alloc, seat, input, out)?;
     match out.flush() {
         Ok(()) => Ok(()),
-        Err(_) => Err(Stop::CannotWrite),
+        Err(_) => Err(AnswerStop::CannotWrite),
     }
 }
 
@@ -127,14 +137,14 @@ pub fn answer<R: Read, W: Write, E: Write>(
     ensures front { WritesAnswerFront circuit me (version_of wire) (R.remaining input.old) (W.contents out.old) (W.contents out.new) }
     ensures ends { IsOfInput result }
 {
-    let seat = Seat { circuit, me, wire };
+    let seat = AcceptorSeat { circuit, me, wire };
     let bytes = match read_input(alloc, input) {
         Ok(bytes) => bytes,
         Err(fault) => return Fault::of_input(fault, "-").tell(err),
     };
     match put_and_flush(alloc, &seat, &bytes, out) {
         Ok(()) => End::Done,
-        Err(Stop::Memory) => Fault::OutOfMemory.tell(err),
-        Err(Stop::CannotWrite) => Fault::CannotWrite.tell(err),
+        Err(AnswerStop::Memory) => Fault::OutOfMemory.tell(err),
+        Err(AnswerStop::CannotWrite) => Fault::CannotWrite.tell(err),
     }
 }

@@ -27,7 +27,7 @@ use tape_frames::{EntryRef, Version};
 
 /// Where the acceptor that answers sits.
 #[derive(Clone, Copy)]
-pub struct Seat {
+pub struct AcceptorSeat {
     pub circuit: u16,
     pub me: Member,
     /// The version that it reads and replies in; at version 2 it reads version 1 too.
@@ -55,7 +55,7 @@ fn hex_of(alloc: Global, packet: &PacketRef<'_>, wire: Version) -> Result<Vec<u8
 /// The packet that goes back to the sender.
 fn send_back(
     alloc: Global,
-    seat: Seat,
+    seat: AcceptorSeat,
     packet: &PacketRef<'_>,
     body: BodyRef<'_>,
 ) -> Result<Vec<u8>, AllocError>
@@ -94,7 +94,7 @@ fn raise(rows: &mut MemoryRows, number: Number, ballot: Ballot) -> Result<(), Al
 #[tactic(auto, using(crate::proofs::History::stays_on_ok))]
 fn answer_prepare(
     alloc: Global,
-    seat: Seat,
+    seat: AcceptorSeat,
     rows: &mut MemoryRows,
     packet: &PacketRef<'_>,
 ) -> Result<Vec<u8>, AllocError>
@@ -132,7 +132,7 @@ fn answer_prepare(
 #[tactic(auto, using(crate::proofs::History::stays_on_ok))]
 fn answer_accept(
     alloc: Global,
-    seat: Seat,
+    seat: AcceptorSeat,
     rows: &mut MemoryRows,
     packet: &PacketRef<'_>,
     entry: &EntryRef<'_>,
@@ -167,7 +167,7 @@ fn answer_accept(
 /// Tells the sender of the row's vote.
 fn send_vote(
     alloc: Global,
-    seat: Seat,
+    seat: AcceptorSeat,
     packet: &PacketRef<'_>,
     row: &Row,
 ) -> Result<Vec<u8>, AllocError>
@@ -187,7 +187,7 @@ fn send_vote(
 
 fn answer_packet(
     alloc: Global,
-    seat: Seat,
+    seat: AcceptorSeat,
     rows: &mut MemoryRows,
     packet: &PacketRef<'_>,
 ) -> Result<Vec<u8>, AllocError>
@@ -213,7 +213,7 @@ fn answer_packet(
 /// The text of a line that is not blank, and the rows after it.
 pub fn answer_line(
     alloc: Global,
-    seat: Seat,
+    seat: AcceptorSeat,
     rows: &mut MemoryRows,
     line: &[u8],
 ) -> Result<Vec<u8>, AllocError>

@@ -3,7 +3,7 @@
 use ballots::Member;
 use command_ends::{ScriptPaths, TapePaths};
 use log_terms::LogTerms;
-use tape_drawing::Page;
+use tape_drawing::DrawingForm;
 use tape_frames::Version;
 
 /// How it is told how a station stands.
@@ -34,13 +34,13 @@ pub enum Asked<'a> {
     /// To draw a tape.
     Draw {
         paths: TapePaths<'a>,
-        page: Page,
+        page: DrawingForm,
     },
     /// To chart a code table with widths.
     Chart {
         table: &'a str,
         widths: &'a str,
-        page: Page,
+        page: DrawingForm,
     },
     /// To punch the text at a path, with the ligatures that are named, as a tape for which this version has room.
     Punch {

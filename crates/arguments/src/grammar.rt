@@ -51,7 +51,7 @@ struct Choice<'a> {
 
 /// How an argument stands on the line.
 #[derive(Clone, Copy)]
-enum Shape<'a> {
+enum ArgumentShape<'a> {
     /// A value at its place, which can't be left out.
     Word(Value),
     /// Texts at the end of the line, one or more.
@@ -66,48 +66,48 @@ enum Shape<'a> {
 
 /// An argument, with its help.
 #[derive(Clone, Copy)]
-struct Given<'a> {
+struct ArgumentForm<'a> {
     name: &'a str,
-    shape: Shape<'a>,
+    shape: ArgumentShape<'a>,
     help: &'a str,
 }
 
 /// A command, with its help.
 #[derive(Clone, Copy)]
-struct Form<'a> {
+struct CommandForm<'a> {
     name: &'a str,
     about: &'a str,
     example: &'a str,
-    given: &'a [Given<'a>],
+    given: &'a [ArgumentForm<'a>],
 }
 
-const TABLE: Given = Given {
+const TABLE: ArgumentForm = ArgumentForm {
     name: "TABLE",
-    shape: Shape::Word(Value::Text),
+    shape: ArgumentShape::Word(Value::Text),
     help: "The code table, as examples/codes.toml",
 };
 
-const WIDTHS: Given = Given {
+const WIDTHS: ArgumentForm = ArgumentForm {
     name: "WIDTHS",
-    shape: Shape::Word(Value::Text),
+    shape: ArgumentShape::Word(Value::Text),
     help: "The width file, as examples/widths.toml",
 };
 
-const TAPE: Given = Given {
+const TAPE: ArgumentForm = ArgumentForm {
     name: "TAPE",
-    shape: Shape::Word(Value::Text),
+    shape: ArgumentShape::Word(Value::Text),
     help: "The tape, one frame per byte; - is standard input",
 };
 
-const DB: Given = Given {
+const DB: ArgumentForm = ArgumentForm {
     name: "DB",
-    shape: Shape::Word(Value::Text),
+    shape: ArgumentShape::Word(Value::Text),
     help: "The station's database, as its configuration names it",
 };
 
-const CREATE: Given = Given {
+const CREATE: ArgumentForm = ArgumentForm {
     name: "create",
-    shape: Shape::Flag,
+    shape: ArgumentShape::Flag,
     help: "Make the row file: for the first start of a station, and never again",
 };
 
@@ -117,24 +117,24 @@ Example: member 1 asks member 2 of circuit 7 to promise ballot 1.1 for number 12
   $ echo 544e0101000701020000000c0000000101 | circuitd answer 7 2
   544e0102000702010000000c000000010100";
 
-const ANSWER: Form = Form {
+const ANSWER: CommandForm = CommandForm {
     name: "answer",
     about: "Answers requests as one acceptor: a datagram in hex per line in, its reply per line out",
     example: ANSWER_EXAMPLE,
     given: &[
-        Given {
+        ArgumentForm {
             name: "CIRCUIT",
-            shape: Shape::Word(Value::Circuit),
+            shape: ArgumentShape::Word(Value::Circuit),
             help: "The circuit's number, 0 to 65535",
         },
-        Given {
+        ArgumentForm {
             name: "MEMBER",
-            shape: Shape::Word(Value::Member),
+            shape: ArgumentShape::Word(Value::Member),
             help: "The member that answers, 1 to 15",
         },
-        Given {
+        ArgumentForm {
             name: "wire",
-            shape: Shape::Choice(Choice {
+            shape: ArgumentShape::Choice(Choice {
                 shown: "V",
                 value: Value::Version,
                 absence: Absence::Default("1"),
@@ -157,7 +157,7 @@ A tape that does not set is told with its place, counted in frames from 0:
   $ circuitd check codes.toml widths.toml overset.tape
   fault: overset 1 at 7 line 1";
 
-const CHECK: Form = Form {
+const CHECK: CommandForm = CommandForm {
     name: "check",
     about: "Sets a tape by a code table and a width file, and writes its galley: one line per slug",
     example: CHECK_EXAMPLE,
@@ -165,9 +165,9 @@ const CHECK: Form = Form {
         TABLE,
         WIDTHS,
         TAPE,
-        Given {
+        ArgumentForm {
             name: "holes",
-            shape: Shape::Flag,
+            shape: ArgumentShape::Flag,
             help: "First write one line per frame: its holes, and the frame in decimal",
         },
     ],
@@ -183,7 +183,7 @@ A tape that does not set is drawn whole, each line with its fault, and the first
   $ circuitd draw codes.toml widths.toml overset.tape > overset.svg
   fault: overset 1 at 7 line 1";
 
-const DRAW: Form = Form {
+const DRAW: CommandForm = CommandForm {
     name: "draw",
     about: "Draws a tape as an SVG document: its holes, what each frame means, and its slugs to scale",
     example: DRAW_EXAMPLE,
@@ -191,9 +191,9 @@ const DRAW: Form = Form {
         TABLE,
         WIDTHS,
         TAPE,
-        Given {
+        ArgumentForm {
             name: "html",
-            shape: Shape::Flag,
+            shape: ArgumentShape::Flag,
             help: "Write a page in HTML, with a heading and each line as a drawing of its own",
         },
     ],
@@ -204,16 +204,16 @@ Example: what all 64 combinations of a code table mean, and how wide that is, in
 
   $ circuitd chart codes.toml widths.toml > chart.svg";
 
-const CHART: Form = Form {
+const CHART: CommandForm = CommandForm {
     name: "chart",
     about: "Draws a code table as a chart of all 64 combinations: holes, both meanings and widths",
     example: CHART_EXAMPLE,
     given: &[
         TABLE,
         WIDTHS,
-        Given {
+        ArgumentForm {
             name: "html",
-            shape: Shape::Flag,
+            shape: ArgumentShape::Flag,
             help: "Write a page in HTML, with each combination as a drawing of its own",
         },
     ],
@@ -232,20 +232,20 @@ What the table has no frame for is told with its place:
   $ echo 'a?' | circuitd punch codes.toml -
   text: no code for \"?\" at line 1 column 2";
 
-const PUNCH: Form = Form {
+const PUNCH: CommandForm = CommandForm {
     name: "punch",
     about: "Punches a text by a code table: writes its tape, one frame per byte",
     example: PUNCH_EXAMPLE,
     given: &[
         TABLE,
-        Given {
+        ArgumentForm {
             name: "TEXT",
-            shape: Shape::Word(Value::Text),
+            shape: ArgumentShape::Word(Value::Text),
             help: "The text, as examples/wire/river.txt; - is standard input",
         },
-        Given {
+        ArgumentForm {
             name: "ligatures",
-            shape: Shape::Choice(Choice {
+            shape: ArgumentShape::Choice(Choice {
                 shown: "NAMES",
                 value: Value::Text,
                 absence: Absence::Empty,
@@ -253,9 +253,9 @@ const PUNCH: Form = Form {
             }),
             help: "Letters that are one matrix where they stand outside braces, as fi,fl,ffi: the longest first",
         },
-        Given {
+        ArgumentForm {
             name: "most",
-            shape: Shape::Choice(Choice {
+            shape: ArgumentShape::Choice(Choice {
                 shown: "N",
                 value: Value::Most,
                 absence: Absence::Default("16384"),
@@ -273,16 +273,16 @@ Example: the text of a tape, which is punched as that tape again, frame for fram
   B{@quadcenter}
   A{@quadright}";
 
-const SPELL: Form = Form {
+const SPELL: CommandForm = CommandForm {
     name: "spell",
     about: "Spells a tape by a code table: writes the text of which it is punched",
     example: SPELL_EXAMPLE,
     given: &[
         TABLE,
         TAPE,
-        Given {
+        ArgumentForm {
             name: "plain",
-            shape: Shape::Flag,
+            shape: ArgumentShape::Flag,
             help: "Write what a reader reads: letters, blanks and line ends alone",
         },
     ],
@@ -297,7 +297,7 @@ greatest width.
      1        overset 1         31 .. 39   ab ab a
   1 of 1 lines do not set";
 
-const FIT: Form = Form {
+const FIT: CommandForm = CommandForm {
     name: "fit",
     about: "Tells of each line of a tape how it fits, whatever is wrong with the others",
     example: FIT_EXAMPLE,
@@ -305,9 +305,9 @@ const FIT: Form = Form {
         TABLE,
         WIDTHS,
         TAPE,
-        Given {
+        ArgumentForm {
             name: "text",
-            shape: Shape::Flag,
+            shape: ArgumentShape::Flag,
             help: "The third file is a text, which is punched first",
         },
     ],
@@ -316,7 +316,7 @@ const FIT: Form = Form {
 const ROWS_EXAMPLE: &str =
     "Example:\n  $ circuitd rows station2.db\n  station 2 of 3 circuit 7\n  3 1.1 - -\n  12 1.3 1.1 010204";
 
-const ROWS: Form = Form {
+const ROWS: CommandForm = CommandForm {
     name: "rows",
     about: "Lists what a station saved: per number its promise, its vote and the frames of that, in hex",
     example: ROWS_EXAMPLE,
@@ -329,7 +329,7 @@ Example: a station goes over between two runs, and all that it saved stays:
   $ circuitd upgrade station2.db
   layout 2";
 
-const UPGRADE: Form = Form {
+const UPGRADE: CommandForm = CommandForm {
     name: "upgrade",
     about: "Takes what a station saved over to layout 2: it speaks version 2 then, and a number may be withdrawn",
     example: UPGRADE_EXAMPLE,
@@ -345,19 +345,19 @@ Example: the row file of a station that never ran, for a circuit that is new:
 Where a file is there already, or its log, nothing is made: a station that starts over an empty row file has
 forgotten what it promised.";
 
-const CREATION: Form = Form {
+const CREATION: CommandForm = CommandForm {
     name: "create",
     about: "Makes the row file of a station that never ran: what it promises and votes for is saved there",
     example: CREATION_EXAMPLE,
     given: &[
-        Given {
+        ArgumentForm {
             name: "CONFIG",
-            shape: Shape::Word(Value::Text),
+            shape: ArgumentShape::Word(Value::Text),
             help: "The station's configuration: its circuit, its member, its files and the addresses of all stations",
         },
-        Given {
+        ArgumentForm {
             name: "layout",
-            shape: Shape::Choice(Choice {
+            shape: ArgumentShape::Choice(Choice {
                 shown: "L",
                 value: Value::Version,
                 absence: Absence::Default("2"),
@@ -381,19 +381,19 @@ Later a plant that missed the story asks the others for it:
 
   $ circuitd serve station3.toml --turns 1200 --seek 12";
 
-const SERVE: Form = Form {
+const SERVE: CommandForm = CommandForm {
     name: "serve",
     about: "Runs this plant's station on the wire, and prints each story that the circuit has agreed on",
     example: SERVE_EXAMPLE,
     given: &[
-        Given {
+        ArgumentForm {
             name: "CONFIG",
-            shape: Shape::Word(Value::Text),
+            shape: ArgumentShape::Word(Value::Text),
             help: "The station's configuration: its circuit, its member, its files and the addresses of all stations",
         },
-        Given {
+        ArgumentForm {
             name: "turns",
-            shape: Shape::Choice(Choice {
+            shape: ArgumentShape::Choice(Choice {
                 shown: "T",
                 value: Value::Turns,
                 absence: Absence::Refused,
@@ -402,9 +402,9 @@ const SERVE: Form = Form {
             help: "How many turns to serve, 1 to 1000000: a turn takes in one datagram, or waits for 50 milliseconds",
         },
         CREATE,
-        Given {
+        ArgumentForm {
             name: "layout",
-            shape: Shape::Choice(Choice {
+            shape: ArgumentShape::Choice(Choice {
                 shown: "L",
                 value: Value::Version,
                 absence: Absence::Empty,
@@ -412,9 +412,9 @@ const SERVE: Form = Form {
             }),
             help: "The layout of the row file that is made, 1 where none is named: in layout 2 a number may be withdrawn; goes with --create",
         },
-        Given {
+        ArgumentForm {
             name: "number",
-            shape: Shape::Choice(Choice {
+            shape: ArgumentShape::Choice(Choice {
                 shown: "N",
                 value: Value::Number,
                 absence: Absence::Empty,
@@ -422,9 +422,9 @@ const SERVE: Form = Form {
             }),
             help: "First offer a story under this number, 1 to 999999; goes with --tape",
         },
-        Given {
+        ArgumentForm {
             name: "tape",
-            shape: Shape::Choice(Choice {
+            shape: ArgumentShape::Choice(Choice {
                 shown: "FILE",
                 value: Value::Text,
                 absence: Absence::Empty,
@@ -432,9 +432,9 @@ const SERVE: Form = Form {
             }),
             help: "The tape that is offered, one frame per byte; goes with --number",
         },
-        Given {
+        ArgumentForm {
             name: "withdraw",
-            shape: Shape::Choice(Choice {
+            shape: ArgumentShape::Choice(Choice {
                 shown: "N",
                 value: Value::Number,
                 absence: Absence::Empty,
@@ -442,9 +442,9 @@ const SERVE: Form = Form {
             }),
             help: "Then withdraw this number, 1 to 999999, so that no story goes out under it; refused by rows of version 1",
         },
-        Given {
+        ArgumentForm {
             name: "seek",
-            shape: Shape::Choice(Choice {
+            shape: ArgumentShape::Choice(Choice {
                 shown: "N",
                 value: Value::Number,
                 absence: Absence::Empty,
@@ -466,20 +466,20 @@ Where the configuration names folders, the file `12.tape` among the offers is of
 number 13. What the circuit has agreed on is put among the releases: `12.tape` and `12.galley`, or
 `14.void`. The file `stop` among the offers ends the station, and is taken away at its next start.";
 
-const RUN: Form = Form {
+const RUN: CommandForm = CommandForm {
     name: "run",
     about: "Runs this plant's station until it is stopped: stories are offered and released as files",
     example: RUN_EXAMPLE,
     given: &[
-        Given {
+        ArgumentForm {
             name: "CONFIG",
-            shape: Shape::Word(Value::Text),
+            shape: ArgumentShape::Word(Value::Text),
             help: "The station's configuration: its circuit, its member, its files and folders, and the addresses of all stations",
         },
         CREATE,
-        Given {
+        ArgumentForm {
             name: "layout",
-            shape: Shape::Choice(Choice {
+            shape: ArgumentShape::Choice(Choice {
                 shown: "L",
                 value: Value::Version,
                 absence: Absence::Default("1"),
@@ -487,19 +487,19 @@ const RUN: Form = Form {
             }),
             help: "The layout of the row file that is made: in layout 2 a number may be withdrawn; goes with --create",
         },
-        Given {
+        ArgumentForm {
             name: "quiet",
-            shape: Shape::Rival("verbose"),
+            shape: ArgumentShape::Rival("verbose"),
             help: "Tell faults alone, and not what becomes of each number",
         },
-        Given {
+        ArgumentForm {
             name: "verbose",
-            shape: Shape::Rival("quiet"),
+            shape: ArgumentShape::Rival("quiet"),
             help: "Tell each ballot of each number, and each file that was sent, too",
         },
-        Given {
+        ArgumentForm {
             name: "times",
-            shape: Shape::Flag,
+            shape: ArgumentShape::Flag,
             help: "Put the moment before each line, in Coordinated Universal Time",
         },
     ],
@@ -514,13 +514,13 @@ Example: what is found about the configuration of a plant, before its row file i
   station 3 at 127.0.0.1:7003 is on this host too
   there is no station1.db yet: circuitd create makes it, for a station that never ran";
 
-const CONFIG_CHECK: Form = Form {
+const CONFIG_CHECK: CommandForm = CommandForm {
     name: "check-config",
     about: "Tells of a configuration what is at fault and what is odd, and which addresses are this host's; nothing is touched",
     example: CONFIG_CHECK_EXAMPLE,
-    given: &[Given {
+    given: &[ArgumentForm {
         name: "CONFIG",
-        shape: Shape::Word(Value::Text),
+        shape: ArgumentShape::Word(Value::Text),
         help: "The station's configuration: its circuit, its member, its files and folders, and the addresses of all stations",
     }],
 };
@@ -533,13 +533,13 @@ Example: a station that `circuitd run station1.toml` runs ends, and its row file
 The file `stop` is laid among the offers that the configuration names. Where the station has not ended within
 30 seconds, that is told.";
 
-const STOP: Form = Form {
+const STOP: CommandForm = CommandForm {
     name: "stop",
     about: "Ends the station that runs with this configuration, and waits until it has ended",
     example: STOP_EXAMPLE,
-    given: &[Given {
+    given: &[ArgumentForm {
         name: "CONFIG",
-        shape: Shape::Word(Value::Text),
+        shape: ArgumentShape::Word(Value::Text),
         help: "The station's configuration, which names its folder of offers",
     }],
 };
@@ -560,24 +560,24 @@ Example: how a station stands whose configuration has `status = \"status.txt\"` 
 
 It exits with 0 where the station is well, with 1 where it is not, and with 3 where nothing can be told.";
 
-const STATUS: Form = Form {
+const STATUS: CommandForm = CommandForm {
     name: "status",
     about: "Tells how this plant's station stands, as its status file has it, and whether it is well",
     example: STATUS_EXAMPLE,
     given: &[
-        Given {
+        ArgumentForm {
             name: "CONFIG",
-            shape: Shape::Word(Value::Text),
+            shape: ArgumentShape::Word(Value::Text),
             help: "The station's configuration, which names its status file",
         },
-        Given {
+        ArgumentForm {
             name: "json",
-            shape: Shape::Rival("watch"),
+            shape: ArgumentShape::Rival("watch"),
             help: "Print one object of JSON in place of lines",
         },
-        Given {
+        ArgumentForm {
             name: "watch",
-            shape: Shape::Rival("json"),
+            shape: ArgumentShape::Rival("json"),
             help: "Print it again each second, on a terminal, until the file is gone or the command is interrupted",
         },
     ],
@@ -599,24 +599,24 @@ The lines of this script print what each member did and what it sent:
   2 promised 1.1
    #3 promise 2>1 12 1.1";
 
-const REHEARSE: Form = Form {
+const REHEARSE: CommandForm = CommandForm {
     name: "rehearse",
     about: "Rehearses a whole circuit by a script: who offers, what is delivered when, who starts again",
     example: REHEARSE_EXAMPLE,
     given: &[
-        Given {
+        ArgumentForm {
             name: "TABLE",
-            shape: Shape::Word(Value::Text),
+            shape: ArgumentShape::Word(Value::Text),
             help: "The code table of all members, as examples/codes.toml",
         },
-        Given {
+        ArgumentForm {
             name: "WIDTHS",
-            shape: Shape::Word(Value::Text),
+            shape: ArgumentShape::Word(Value::Text),
             help: "The width file of all members, as examples/widths.toml",
         },
-        Given {
+        ArgumentForm {
             name: "SCRIPT",
-            shape: Shape::Word(Value::Text),
+            shape: ArgumentShape::Word(Value::Text),
             help: "The script, as examples/story.script",
         },
     ],
@@ -632,19 +632,19 @@ Example: a roll from a reader that has level 0 in its highest bit and sets the t
   002.tape frames 1 from 6
   tapes: 2, frames in the reel: 7";
 
-const IMPORT: Form = Form {
+const IMPORT: CommandForm = CommandForm {
     name: "import",
     about: "Makes tapes of a reel from a reader of real tape: 001.tape, 002.tape, .. in a folder",
     example: IMPORT_EXAMPLE,
     given: &[
-        Given {
+        ArgumentForm {
             name: "REEL",
-            shape: Shape::Word(Value::Text),
+            shape: ArgumentShape::Word(Value::Text),
             help: "What the reader gave, one frame per byte; - is standard input",
         },
-        Given {
+        ArgumentForm {
             name: "to",
-            shape: Shape::Choice(Choice {
+            shape: ArgumentShape::Choice(Choice {
                 shown: "DIR",
                 value: Value::Text,
                 absence: Absence::Refused,
@@ -652,9 +652,9 @@ const IMPORT: Form = Form {
             }),
             help: "The folder that the tapes are put into, over no file that is there",
         },
-        Given {
+        ArgumentForm {
             name: "mask",
-            shape: Shape::Choice(Choice {
+            shape: ArgumentShape::Choice(Choice {
                 shown: "BYTE",
                 value: Value::Text,
                 absence: Absence::Default("0x3f"),
@@ -662,9 +662,9 @@ const IMPORT: Form = Form {
             }),
             help: "Which six bits of a byte hold levels; the others are passed over",
         },
-        Given {
+        ArgumentForm {
             name: "levels",
-            shape: Shape::Choice(Choice {
+            shape: ArgumentShape::Choice(Choice {
                 shown: "DIGITS",
                 value: Value::Text,
                 absence: Absence::Default("543210"),
@@ -672,14 +672,14 @@ const IMPORT: Form = Form {
             }),
             help: "Which level each bit of the mask holds, from its highest bit on",
         },
-        Given {
+        ArgumentForm {
             name: "invert",
-            shape: Shape::Flag,
+            shape: ArgumentShape::Flag,
             help: "A clear bit is a hole, and not a set one",
         },
-        Given {
+        ArgumentForm {
             name: "split",
-            shape: Shape::Choice(Choice {
+            shape: ArgumentShape::Choice(Choice {
                 shown: "N",
                 value: Value::Blanks,
                 absence: Absence::Empty,
@@ -687,9 +687,9 @@ const IMPORT: Form = Form {
             }),
             help: "Cut the roll where so many blanks stand one behind the other, 1 to 1000000",
         },
-        Given {
+        ArgumentForm {
             name: "trim",
-            shape: Shape::Flag,
+            shape: ArgumentShape::Flag,
             help: "Take each tape without the blanks and rub-outs at its beginning and its end",
         },
     ],
@@ -704,26 +704,26 @@ Example: how the first frames come in a tape, and what stands around them.
       1  o.....        2           a             A
          flood.tape 0  [a]b a b{@elevate}";
 
-const SURVEY: Form = Form {
+const SURVEY: CommandForm = CommandForm {
     name: "survey",
     about: "Tells of each of the 64 frames how often it comes in tapes, what it means or lacks, and where it comes first",
     example: SURVEY_EXAMPLE,
     given: &[
         TABLE,
         WIDTHS,
-        Given {
+        ArgumentForm {
             name: "TAPE",
-            shape: Shape::Words,
+            shape: ArgumentShape::Words,
             help: "The tapes, one frame per byte",
         },
     ],
 };
 
 /// The commands over tapes, in the order in which the help lists them.
-const TAPE_FORMS: &[Form] = &[ANSWER, CHECK, DRAW, CHART, PUNCH, SPELL, FIT];
+const TAPE_FORMS: &[CommandForm] = &[ANSWER, CHECK, DRAW, CHART, PUNCH, SPELL, FIT];
 
 /// Those over stations, behind them.
-const STATION_FORMS: &[Form] = &[
+const STATION_FORMS: &[CommandForm] = &[
     ROWS,
     UPGRADE,
     CREATION,
@@ -736,21 +736,21 @@ const STATION_FORMS: &[Form] = &[
 ];
 
 /// Those over reels of real tape, behind them.
-const REEL_FORMS: &[Form] = &[IMPORT, SURVEY];
+const REEL_FORMS: &[CommandForm] = &[IMPORT, SURVEY];
 
 /// The commands over tapes. This function alone names the table, since each that names it is proved with all of its texts; all
 /// commands in one table are more than the prover takes at once.
-fn tape_forms() -> &'static [Form<'static>] {
+fn tape_forms() -> &'static [CommandForm<'static>] {
     TAPE_FORMS
 }
 
 /// Those over stations, the same way.
-fn station_forms() -> &'static [Form<'static>] {
+fn station_forms() -> &'static [CommandForm<'static>] {
     STATION_FORMS
 }
 
 /// Those over reels, the same way.
-fn reel_forms() -> &'static [Form<'static>] {
+fn reel_forms() -> &'static [CommandForm<'static>] {
     REEL_FORMS
 }
 
@@ -789,25 +789,25 @@ fn choice_of<'a>(arg: Arg<'a>, name: &'a str, choice: Choice<'a>) -> Result<Arg<
     }
 }
 
-fn arg_of<'a>(alloc: Global, given: Given<'a>) -> Result<Arg<'a>, AllocError> {
+fn arg_of<'a>(alloc: Global, given: ArgumentForm<'a>) -> Result<Arg<'a>, AllocError> {
     let arg = Arg::new(alloc, given.name).help(given.help);
     match given.shape {
-        Shape::Word(value) => Ok(
+        ArgumentShape::Word(value) => Ok(
             arg.required(true)
                 .action(ArgAction::Set)
                 .value_parser(parser_of(value)),
         ),
-        Shape::Words => Ok(arg.required(true).action(ArgAction::Append).num_args(1..)),
-        Shape::Flag => Ok(arg.long(given.name).action(ArgAction::SetTrue)),
-        Shape::Rival(other) => arg
+        ArgumentShape::Words => Ok(arg.required(true).action(ArgAction::Append).num_args(1..)),
+        ArgumentShape::Flag => Ok(arg.long(given.name).action(ArgAction::SetTrue)),
+        ArgumentShape::Rival(other) => arg
             .long(given.name)
             .action(ArgAction::SetTrue)
             .conflicts_with(other),
-        Shape::Choice(choice) => choice_of(arg, given.name, choice),
+        ArgumentShape::Choice(choice) => choice_of(arg, given.name, choice),
     }
 }
 
-fn command_of<'a>(alloc: Global, form: Form<'a>) -> Result<Command<'a>, AllocError> {
+fn command_of<'a>(alloc: Global, form: CommandForm<'a>) -> Result<Command<'a>, AllocError> {
     let mut command = Command::new(alloc, form.name)
         .about(form.about)
         .after_help(form.example);
@@ -818,7 +818,7 @@ fn command_of<'a>(alloc: Global, form: Form<'a>) -> Result<Command<'a>, AllocErr
 }
 
 /// Whether one of these commands has this name.
-fn is_among(forms: &[Form<'_>], name: &str) -> bool {
+fn is_among(forms: &[CommandForm<'_>], name: &str) -> bool {
     forms.iter().any(|form| form.name == name)
 }
 
@@ -834,7 +834,7 @@ fn is_needed(name: &str, first: &str) -> bool {
 fn with_forms<'a>(
     alloc: Global,
     program: Command<'a>,
-    forms: &'a [Form<'a>],
+    forms: &'a [CommandForm<'a>],
     first: &str,
 ) -> Result<Command<'a>, AllocError> {
     let mut program = program;

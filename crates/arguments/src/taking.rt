@@ -7,7 +7,7 @@ use clap::{ArgMatches, Error};
 use command_ends::{ScriptPaths, TapePaths};
 use log_terms::{LogTerms, loudness_of};
 use std::alloc::Global;
-use tape_drawing::Page;
+use tape_drawing::DrawingForm;
 use tape_frames::Version;
 
 fn matches_of<'a>(alloc: Global, words: &'a [String]) -> Result<ArgMatches<'a>, Error> {
@@ -48,11 +48,11 @@ fn check_of<'a>(matches: &ArgMatches<'a>) -> Option<Asked<'a>> {
     Some(Asked::Check { paths, listing })
 }
 
-fn page_of<'a>(matches: &ArgMatches<'a>) -> Page {
+fn page_of<'a>(matches: &ArgMatches<'a>) -> DrawingForm {
     if matches.get_flag("html") {
-        Page::Html
+        DrawingForm::Html
     } else {
-        Page::Svg
+        DrawingForm::Svg
     }
 }
 

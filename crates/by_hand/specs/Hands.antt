@@ -2,8 +2,8 @@
 use Rattle.std.specs.Prelude.{◌≡◌, ◌≤◌, ◌<◌, ◌+◌, ◌⊎◌, ℕ, Bool, true, false, ◌&&◌, not, nat_le, List, [], ◌∷◌, ◌++◌, length, Option, Some, None, if◌then◌else◌}
 use Rattle.protocol.specs.Limits.{last_number}
 use Rattle.gone_out.specs.Numbers.{has}
-use Rattle.by_hand.specs.declared.answer.Answer.{Answer}
-use Rattle.by_hand.specs.declared.answer.Answer.TheVariants.{Nothing}
+use Rattle.by_hand.specs.declared.answer.SearchEnd.{SearchEnd}
+use Rattle.by_hand.specs.declared.answer.SearchEnd.TheVariants.{Nothing}
 use Rattle.by_hand.specs.Answers.{answer_by, answer_after}
 use Rattle.by_hand.specs.Lists.{is_among, without}
 use Rattle.by_hand.specs.Scans.{IsOpenFrom}
@@ -24,7 +24,7 @@ abbrev pub covers : HandValue → ℕ → Bool
 covers h n = nat_le h.first n && nat_le n h.last
 
 -- what came of a number so far
-abbrev pub answer_of : HandValue → ℕ → Answer
+abbrev pub answer_of : HandValue → ℕ → SearchEnd
 answer_of h n = answer_by (has h.tapes n) (has h.voids n)
 
 -- each number of the range has an answer
@@ -74,7 +74,7 @@ abbrev pub put_off : HandValue → ℕ → HandValue
 put_off h n = if covers h n then record h { flying = without n h.flying } else h
 
 -- a number of the range has an answer
-pub record IsAnswered (old new : HandValue) (n : ℕ) (told : Answer) : Type 0 where
+pub record IsAnswered (old new : HandValue) (n : ℕ) (told : SearchEnd) : Type 0 where
   pub first : new.first ≡ old.first
   pub last : new.last ≡ old.last
   pub here : has new.answered n ≡ true
@@ -85,7 +85,7 @@ pub record IsAnswered (old new : HandValue) (n : ℕ) (told : Answer) : Type 0 w
   pub next : new.next ≡ old.next
 
 -- what came of a number is kept, and nothing else changes
-pub record IsNoted (old new : HandValue) (n : ℕ) (told : Answer) : Type 0 where
+pub record IsNoted (old new : HandValue) (n : ℕ) (told : SearchEnd) : Type 0 where
   pub same : new ≡ record old { tapes = new.tapes; voids = new.voids }
   pub answer : answer_of new n ≡ answer_after (answer_of old n) told
   pub answers : (m : ℕ) → ¬ (m ≡ n) → answer_of new m ≡ answer_of old m
@@ -97,7 +97,7 @@ pub record IsSettled (old new : HandValue) (n : ℕ) : Type 0 where
   pub others : (m : ℕ) → ¬ (m ≡ n) → has new.answered m ≡ has old.answered m
 
 -- what comes of an answer: nothing, where the number is none of the range
-pub record IsTold (old new : HandValue) (n : ℕ) (told : Answer) : Type 0 where
+pub record IsTold (old new : HandValue) (n : ℕ) (told : SearchEnd) : Type 0 where
   pub within : covers old n ≡ true → IsAnswered old new n told
   pub outside : covers old n ≡ false → new ≡ old
 

@@ -5,7 +5,7 @@ ghost use Rattle.by_hand.specs.Answers.{answer_word};
 
 /// What came of a number that was asked for.
 #[derive(Clone, Copy, PartialEq, Eq)]
-pub enum Answer {
+pub enum SearchEnd {
     /// A tape stands there.
     Tape,
     /// The number is withdrawn.
@@ -14,15 +14,15 @@ pub enum Answer {
     Nothing,
 }
 
-impl Answer {
+impl SearchEnd {
     /// Its word in the text.
     pub(crate) fn word(self) -> &'static str
         ensures { result.now ≡ answer_word self }
     {
         match self {
-            Answer::Tape => "tape",
-            Answer::Void => "void",
-            Answer::Nothing => "nothing",
+            SearchEnd::Tape => "tape",
+            SearchEnd::Void => "void",
+            SearchEnd::Nothing => "nothing",
         }
     }
 }

@@ -2,13 +2,13 @@
 
 ghost use Rattle.std.specs.Prelude.{◌≡◌, ◌≤◌, ◌+◌, ◌↔◌, IsTrue, true, false, None, IfOk, IfSome, string_bytes, if◌then◌else◌};
 ghost use Rattle.protocol.specs.Limits.{last_number};
-ghost use Rattle.by_hand.specs.declared.answer.Answer.TheVariants.{Tape, Void, Nothing};
+ghost use Rattle.by_hand.specs.declared.answer.SearchEnd.TheVariants.{Tape, Void, Nothing};
 ghost use Rattle.by_hand.specs.Answers.{answer_after};
 ghost use Rattle.by_hand.specs.Lists.{is_among};
 ghost use Rattle.by_hand.specs.Hands.{answer_of, covers, waits, put_off, IsBegun, IsDone, IsFirstWaiting, IsNext, IsNoted, IsSettled, IsTold, IsTurnOf, NoneWaits};
 ghost use Rattle.by_hand.specs.Texts.{IsTextOf};
 
-use crate::answer::Answer;
+use crate::answer::SearchEnd;
 use crate::flying::{Flying, is_among, without};
 use crate::lines::text_of;
 use crate::scan::{end_of, first_open, missing};
@@ -106,15 +106,15 @@ impl Hand {
     }
 
     /// What came of a number so far.
-    pub fn answer(&self, number: Number) -> Answer
+    pub fn answer(&self, number: Number) -> SearchEnd
         ensures { result ≡ answer_of self.now number }
     {
         if self.tapes.contains(number) {
-            Answer::Tape
+            SearchEnd::Tape
         } else if self.voids.contains(number) {
-            Answer::Void
+            SearchEnd::Void
         } else {
-            Answer::Nothing
+            SearchEnd::Nothing
         }
     }
 
@@ -183,20 +183,20 @@ impl Hand {
     }
 
     /// What came of a number is kept. What was found of it before stands.
-    fn note(&mut self, number: Number, answer: Answer)
+    fn note(&mut self, number: Number, answer: SearchEnd)
         ensures { IsNoted self.old self.new number answer }
     {
-        if self.answer(number) != Answer::Nothing {
+        if self.answer(number) != SearchEnd::Nothing {
             return;
         }
         match answer {
-            Answer::Tape => {
+            SearchEnd::Tape => {
                 self.tapes.insert(number);
             }
-            Answer::Void => {
+            SearchEnd::Void => {
                 self.voids.insert(number);
             }
-            Answer::Nothing => {}
+            SearchEnd::Nothing => {}
         }
     }
 
@@ -213,7 +213,7 @@ impl Hand {
     }
 
     /// A number has this answer.
-    fn tell(&mut self, number: Number, answer: Answer)
+    fn tell(&mut self, number: Number, answer: SearchEnd)
         ensures { IsTold self.old self.new number answer }
     {
         if self.covers(number) {
@@ -226,7 +226,11 @@ impl Hand {
     pub fn found(&mut self, number: Number, is_tape: bool)
         ensures { IsTold self.old self.new number (if is_tape then Tape else Void) }
     {
-        let answer = if is_tape { Answer::Tape } else { Answer::Void };
+        let answer = if is_tape {
+            SearchEnd::Tape
+        } else {
+            SearchEnd::Void
+        };
         self.tell(number, answer);
     }
 
@@ -234,7 +238,7 @@ impl Hand {
     pub fn found_nothing(&mut self, number: Number)
         ensures { IsTold self.old self.new number Nothing }
     {
-        self.tell(number, Answer::Nothing);
+        self.tell(number, SearchEnd::Nothing);
     }
 
     /// Whether each number of the range has an answer.

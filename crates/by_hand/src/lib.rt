@@ -9,5 +9,5 @@ pub mod laws;
 mod lines;
 mod scan;
 
-pub use answer::Answer;
+pub use answer::SearchEnd;
 pub use hand::Hand;

@@ -5,17 +5,17 @@ ghost use Rattle.protocol.specs.Limits.{last_number};
 ghost use Rattle.by_hand.specs.Hands.{answer_of};
 ghost use Rattle.by_hand.specs.Texts.{line_text, IsLineFrom, IsNextWith, IsTextOf};
 
-use crate::answer::Answer;
+use crate::answer::SearchEnd;
 use crate::hand::Hand;
 use ballots::Number;
 use std::alloc::{AllocError, Global};
 
 /// Numbers that follow one another, from the first to the last, and what came of each.
 #[derive(Clone, Copy)]
-pub(crate) struct Line {
+pub(crate) struct HandLine {
     first: Number,
     last: Number,
-    answer: Answer,
+    answer: SearchEnd,
 }
 
 /// The number behind one, if there is one.
@@ -27,7 +27,7 @@ fn behind(number: Number) -> Option<Number>
 }
 
 /// The number behind one that has this answer too, if it is one of the range.
-fn next_with(hand: &Hand, number: Number, answer: Answer) -> Option<Number>
+fn next_with(hand: &Hand, number: Number, answer: SearchEnd) -> Option<Number>
     ensures some { IfSome result (IsNextWith hand.now number answer) }
     ensures none { result ≡ None → number < hand.now.last → ¬ (answer_of hand.now (number + 1) ≡ answer) }
 {
@@ -41,7 +41,7 @@ fn next_with(hand: &Hand, number: Number, answer: Answer) -> Option<Number>
 }
 
 /// The longest line from a number on.
-fn line_from(hand: &Hand, first: Number) -> Line
+fn line_from(hand: &Hand, first: Number) -> HandLine
     requires { first ≤ hand.now.last }
     ensures { IsLineFrom hand.now first result }
 {
@@ -50,7 +50,7 @@ fn line_from(hand: &Hand, first: Number) -> Line
     while let Some(next) = next_with(hand, last, answer) {
         last = next;
     }
-    Line {
+    HandLine {
         first,
         last,
         answer,
@@ -58,7 +58,7 @@ fn line_from(hand: &Hand, first: Number) -> Line
 }
 
 /// Puts a line behind a text.
-fn push_line(text: &mut String, line: &Line) -> Result<(), AllocError>
+fn push_line(text: &mut String, line: &HandLine) -> Result<(), AllocError>
     ensures { OnOk result (string_bytes text.new ≡ string_bytes text.old ++ line_text line.now) }
 {
     let first = line.first.get();

@@ -10,7 +10,7 @@ use Rattle.healing.specs.Healing.{HealingValue}
 use Rattle.rolls.specs.Rolls.{Roll}
 use Rattle.catch_up.specs.declared.errand.Errand.{Errand}
 use Rattle.catch_up.specs.declared.errand.Errand.TheVariants.{Send, Tell, Seek}
-use Rattle.catch_up.specs.declared.wave.Asking.{Asking}
+use Rattle.catch_up.specs.declared.wave.AskedNumbers.{AskedNumbers}
 use Rattle.catch_up.specs.Values.{without}
 use Rattle.catch_up.specs.Own.{OwnValue, GoesOn, asked_again, begun, recall_to}
 use Rattle.catch_up.specs.Errands.{IsGoodErrand}
@@ -81,7 +81,7 @@ lacked now (Some h) batch want = want.0.0
 
 -- the first errand of what is recalled now
 first_errand :
-    (c : CatchUpValue) (wave : Option Asking) (now : ℕ) (v : OwnValue) (w : Option OwnValue) (e : Option Errand)
+    (c : CatchUpValue) (wave : Option AskedNumbers) (now : ℕ) (v : OwnValue) (w : Option OwnValue) (e : Option Errand)
     → (IsNewRecall c wave now v ⊎ IsRecallAgain c wave now v) → IsRecalling c.own c.healing v → GoesOnFrom (Some v) w e → IfSome e (IsHealed c wave now)
 first_errand c wave now v w None is recalling goes = tt
 first_errand c wave now v None (Some errand) is recalling goes = absurd goes
@@ -91,7 +91,7 @@ first_errand c wave now v (Some u) (Some (Tell number to)) is recalling goes = (
 
 -- of what is lacked
 pub recalled_errand :
-    (c : CatchUpValue) (wave : Option Asking) (now : ℕ) (batch : List ℕ) (w : Option OwnValue) (e : Option Errand) → IsWantOf c.healing now (Recalls batch)
+    (c : CatchUpValue) (wave : Option AskedNumbers) (now : ℕ) (batch : List ℕ) (w : Option OwnValue) (e : Option Errand) → IsWantOf c.healing now (Recalls batch)
     → AreAskedIn c.wave wave batch → GoesOnFrom (Some (begun c.own (next_batch c) batch)) w e → IfSome e (IsHealed c wave now)
 recalled_errand c wave now batch w e want asked goes =
     first_errand c wave now (begun c.own (next_batch c) batch) w e (inl (batch, lacked now c.healing batch want, refl, asked)) (wanted_in c.own _ now c.healing batch want) goes
@@ -110,7 +110,7 @@ left_good v w (Tell number to) goes = tt
 left_good v w (Seek number) goes = tt
 left_good v w (Send to bytes) goes = inl (recall_to v to, goes.1, refl)
 
-healed_good : (c : CatchUpValue) (wave : Option Asking) (now : ℕ) (e : Errand) → IsHealed c wave now e → IsGoodErrand e
+healed_good : (c : CatchUpValue) (wave : Option AskedNumbers) (now : ℕ) (e : Errand) → IsHealed c wave now e → IsGoodErrand e
 healed_good c wave now (Tell number to) healed = tt
 healed_good c wave now (Seek number) healed = tt
 healed_good c wave now (Send to bytes) healed = left_good healed.0 healed.1 (Send to bytes) healed.4

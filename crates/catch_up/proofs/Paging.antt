@@ -5,7 +5,7 @@ use Rattle.std.proofs.lemmas.Bool.{cases_eq, cases_lt, eq-eqb, eqb-true, le-ltb,
 use Rattle.rolls.specs.Pages.{page_of}
 use Rattle.rolls.specs.Votes.{Votes, bit_of, has_vote}
 use Rattle.rolls.specs.Pages as pages
-use Rattle.catch_up.specs.declared.hearing.Telling.{Telling}
+use Rattle.catch_up.specs.declared.hearing.TellingMember.{TellingMember}
 use Rattle.catch_up.specs.Before.{collects}
 use Rattle.catch_up.specs.Lacking.{own_in}
 use Rattle.catch_up.specs.CatchUp.{CatchUpValue}

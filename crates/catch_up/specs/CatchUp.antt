@@ -6,7 +6,7 @@ use Rattle.rolls.specs.Rolls.{Roll}
 use Rattle.rolls.specs.Spelling.{spelling}
 use Rattle.roll_call.specs.RollCall.{RollCallValue}
 use Rattle.catch_up.specs.declared.before.Before.{Before}
-use Rattle.catch_up.specs.declared.wave.Asking.{Asking}
+use Rattle.catch_up.specs.declared.wave.AskedNumbers.{AskedNumbers}
 use Rattle.catch_up.specs.declared.wave.Wave.{Wave}
 use Rattle.catch_up.specs.declared.errand.Errand.{Errand}
 use Rattle.catch_up.specs.declared.errand.Errand.TheVariants.{Send, Tell, Seek}
@@ -27,7 +27,7 @@ pub record CatchUpValue : Type 0 where
   pub rolls : Option RollCallValue
   pub asks : Bool
   pub before : Before
-  pub wave : Option Asking
+  pub wave : Option AskedNumbers
   pub batches : ℕ
   pub recalling : Option OwnValue
   pub asked : AskedValue
@@ -58,23 +58,23 @@ IsLeft old new errand =
     × (new ≡ record old { recalling = Some w })
 
 -- a batch of what is lacked is recalled
-abbrev pub IsNewRecall : CatchUpValue → Option Asking → ℕ → OwnValue → Type 0
+abbrev pub IsNewRecall : CatchUpValue → Option AskedNumbers → ℕ → OwnValue → Type 0
 IsNewRecall c wave now v =
     (batch : List ℕ) × AreLacked c.healing now batch × (v ≡ begun c.own (next_batch c) batch) × AreAskedIn c.wave wave batch
 
 -- or what is waited for is asked for once more
-abbrev pub IsRecallAgain : CatchUpValue → Option Asking → ℕ → OwnValue → Type 0
+abbrev pub IsRecallAgain : CatchUpValue → Option AskedNumbers → ℕ → OwnValue → Type 0
 IsRecallAgain c wave now v =
     (batch : List ℕ) × AreAwaitedOf c.healing now batch × (v ≡ asked_again c.own (next_batch c) batch) × (wave ≡ c.wave)
 
 -- a member is asked, or a number is told to the plant itself, by what is recalled now
-abbrev pub IsRecalled : CatchUpValue → Option Asking → ℕ → Errand → Type 0
+abbrev pub IsRecalled : CatchUpValue → Option AskedNumbers → ℕ → Errand → Type 0
 IsRecalled c wave now errand =
     (v : OwnValue) × (w : OwnValue) × (IsNewRecall c wave now v ⊎ IsRecallAgain c wave now v) × IsRecalling c.own c.healing v
     × GoesOn v w (Some errand)
 
 -- what is lacked is seen to: by a recall, or a number is sought
-abbrev pub IsHealed : CatchUpValue → Option Asking → ℕ → Errand → Type 0
+abbrev pub IsHealed : CatchUpValue → Option AskedNumbers → ℕ → Errand → Type 0
 IsHealed c wave now (Seek number) = IsToBeSought c.healing now number × (gone_in c.healing number ≡ false) × (wave ≡ c.wave)
 IsHealed c wave now (Send to bytes) = IsRecalled c wave now (Send to bytes)
 IsHealed c wave now (Tell number to) = IsRecalled c wave now (Tell number to)

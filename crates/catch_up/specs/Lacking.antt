@@ -2,8 +2,8 @@
 use Rattle.std.specs.Prelude.{◌≡◌, ℕ, ◌+◌, Bool, true, false, not, ◌&&◌, nat_lt, List, [], ◌∷◌, length, min, Option, Some, None, is_some}
 use Rattle.std.specs.Option.{option_map}
 use Rattle.gone_out.specs.Numbers.{has}
-use Rattle.healing.specs.declared.case.Case.{Case}
-use Rattle.healing.specs.declared.news.News.{News}
+use Rattle.healing.specs.declared.case.LackedNumber.{LackedNumber}
+use Rattle.healing.specs.declared.news.NumberNews.{NumberNews}
 use Rattle.healing.specs.declared.wanted.Want.{Want}
 use Rattle.healing.specs.Lists.{is_among}
 use Rattle.healing.specs.Healing.{HealingValue, case_at, AllRest, AreAwaited, AreDueIn, IsRipeIn, IsTold, IsOut, IsWanted, NoneIsOut}
@@ -14,7 +14,7 @@ gone_in None n = false
 gone_in (Some h) n = has h.gone n
 
 -- what is known of a number that did not go out
-abbrev pub case_of : Option HealingValue → ℕ → Option Case
+abbrev pub case_of : Option HealingValue → ℕ → Option LackedNumber
 case_of None n = None
 case_of (Some h) n = case_at h n
 
@@ -40,13 +40,13 @@ abbrev pub taken_in : Option HealingValue → Option HealingValue
 taken_in h = option_map (λ (h : HealingValue). record h { taken = min (h.taken + 1) 256 }) h
 
 -- one piece of news of a number
-abbrev pub IsToldOf : Option HealingValue → Option HealingValue → ℕ → News → ℕ → Type 0
+abbrev pub IsToldOf : Option HealingValue → Option HealingValue → ℕ → NumberNews → ℕ → Type 0
 IsToldOf None new number news now = new ≡ None
 IsToldOf (Some h) None number news now = ⊥
 IsToldOf (Some h) (Some k) number news now = IsTold h k number news now
 
 -- pieces of news of a number, one after the other
-abbrev pub AreToldOf : Option HealingValue → Option HealingValue → ℕ → List News → ℕ → Type 0
+abbrev pub AreToldOf : Option HealingValue → Option HealingValue → ℕ → List NumberNews → ℕ → Type 0
 AreToldOf old new number [] now = new ≡ old
 AreToldOf old new number (news ∷ more) now = (between : Option HealingValue) × IsToldOf old between number news now × AreToldOf between new number more now
 

@@ -4,8 +4,8 @@ use Rattle.protocol.specs.Limits.{last_number}
 use Rattle.gone_out.specs.declared.origin.Origin.{Origin}
 use Rattle.gone_out.specs.declared.known.Known.{Known}
 use Rattle.gone_out.specs.Numbers.{has}
-use Rattle.healing.specs.declared.case.Case.{Case}
-use Rattle.healing.specs.declared.news.News.TheVariants.{Saved}
+use Rattle.healing.specs.declared.case.LackedNumber.{LackedNumber}
+use Rattle.healing.specs.declared.news.NumberNews.TheVariants.{Saved}
 use Rattle.healing.specs.Cases.{fresh}
 use Rattle.healing.specs.Healing.{HealingValue, case_at}
 use Rattle.roll_call.specs.Answers.{nothing_asked}
@@ -13,11 +13,11 @@ use Rattle.roll_call.specs.Asks.{asks_from}
 use Rattle.roll_call.specs.Held.{AreCounted}
 use Rattle.roll_call.specs.RollCall.{RollCallValue}
 use Rattle.catch_up.specs.declared.start.Start.{Start}
-use Rattle.catch_up.specs.declared.wave.Asking.{Asking}
+use Rattle.catch_up.specs.declared.wave.AskedNumbers.{AskedNumbers}
 use Rattle.catch_up.specs.Waves.{IsNothingAsked}
 
 -- what a number is at the start: known, where it has a row and did not go out
-abbrev pub first_case : ℕ → Known → List Bool → ℕ → ℕ → Option Case
+abbrev pub first_case : ℕ → Known → List Bool → ℕ → ℕ → Option LackedNumber
 first_case own known gone now n = if has known.rows n && not (has gone n) then fresh own (Saved (has known.votes n)) now else None
 
 -- each circuit number is as at the start
@@ -43,6 +43,6 @@ CallsFrom own (Some known) now (Some c) =
     (c.own ≡ own) × (c.held.votes ≡ known.votes) × AreCounted c.held.votes c.held.counts × (c.answers ≡ nothing_asked) × (c.asks ≡ asks_from own now)
 
 -- nothing was asked for, where anything ever is
-abbrev pub AsksFrom : Bool → Option Asking → Type 0
+abbrev pub AsksFrom : Bool → Option AskedNumbers → Type 0
 AsksFrom asks None = asks ≡ false
 AsksFrom asks (Some a) = (asks ≡ true) × IsNothingAsked a

@@ -9,7 +9,7 @@ use Rattle.rolls.specs.declared.fault.RollFault.{RollFault}
 use Rattle.rolls.specs.declared.fault.RollFault.TheVariants as roll_faults
 use Rattle.rolls.specs.declared.aside.Aside.{Aside}
 use Rattle.rolls.specs.declared.aside.Aside.TheVariants as asides
-use Rattle.catch_up.specs.declared.unheard.Way.{Way}
+use Rattle.catch_up.specs.declared.unheard.Route.{Route}
 use Rattle.catch_up.specs.declared.unheard.Unheard.{Unheard}
 use Rattle.catch_up.specs.declared.unheard.Unheard.TheVariants.{Bad, BadRoll, WrongCircuit, NotForMe, Stranger}
 
@@ -47,14 +47,14 @@ text_of NotForMe = codes "not-for-me"
 text_of Stranger = codes "stranger"
 
 -- of which circuit a recall or a roll is, from which member, and to which
-abbrev pub recall_way : Recall → Way
+abbrev pub recall_way : Recall → Route
 recall_way r = record { circuit = r.circuit; from = r.from; to = r.to }
 
-abbrev pub roll_way : Roll → Way
+abbrev pub roll_way : Roll → Route
 roll_way r = record { circuit = r.circuit; from = r.from; to = r.to }
 
 -- whether what came is of this circuit, to this station, from a member; and the first reason where it is not
-abbrev pub checked : Origin → Way → Result (Unit {0}) Unheard
+abbrev pub checked : Origin → Route → Result (Unit {0}) Unheard
 checked own way =
     if not (way.circuit == own.circuit) then Err WrongCircuit
     else if not (way.to == own.member) then Err NotForMe

@@ -4,22 +4,22 @@ ghost use Rattle.std.specs.Prelude.{◌≡◌, ◌<◌, ◌≤◌, IfOk, IfSome,
 ghost use Rattle.catch_up.specs.Values.{AreNumbers};
 ghost use Rattle.catch_up.specs.Asked.{asked_all, asked_one, is_ready, nobody, nothing_asked, TakesTurn, told_to, turn_of};
 
-use crate::asker::Asker;
+use crate::asker::RecallAsker;
 use ballots::{MOST_MEMBERS, Member, Number};
 use std::alloc::{AllocError, Global};
 use std::marker::Model;
 
 /// What waits to be told to each member, and how many numbers were dropped.
 #[derive(Drop)]
-pub(crate) struct Asked {
+pub(crate) struct RecallQueue {
     /// One for each member of the greatest circuit, in rising order.
-    askers: Vec<Asker>,
+    askers: Vec<RecallAsker>,
     /// The place of the member from which on one is sought that is ready.
     next: usize,
     dropped: u64,
 }
 
-impl Model for Asked {
+impl Model for RecallQueue {
     ghost use Rattle.std.specs.Prelude.{◌≡◌, ◌≤◌, length};
     ghost use Rattle.catch_up.specs.Asked.{AskedValue};
 
@@ -31,30 +31,30 @@ impl Model for Asked {
 }
 
 /// Members that asked for nothing.
-fn new_askers(alloc: Global) -> Result<Vec<Asker>, AllocError>
+fn new_askers(alloc: Global) -> Result<Vec<RecallAsker>, AllocError>
     ensures { IfOk result (λ v. v.items ≡ replicate 15 nobody) }
 {
     let mut askers = Vec::new(alloc);
     for _ in 0..MOST_MEMBERS {
-        askers.push(Asker::new())?;
+        askers.push(RecallAsker::new())?;
     }
     Ok(askers)
 }
 
 /// The first place of a member that is ready.
-fn first_of(askers: &[Asker], now: u64) -> Option<usize>
+fn first_of(askers: &[RecallAsker], now: u64) -> Option<usize>
     ensures place { result ≡ position (is_ready now) askers.now }
     ensures within { IfSome result (λ place. place < length askers.now) }
 {
     askers.iter().position(|asker| asker.is_ready(now))
 }
 
-impl Asked {
+impl RecallQueue {
     /// Nobody asked for anything.
-    pub(crate) fn new(alloc: Global) -> Result<Asked, AllocError>
+    pub(crate) fn new(alloc: Global) -> Result<RecallQueue, AllocError>
         ensures { IfOk result (λ a. a ≡ nothing_asked) }
     {
-        Ok(Asked {
+        Ok(RecallQueue {
             askers: new_askers(alloc)?,
             next: 0,
             dropped: 0,

@@ -16,7 +16,7 @@ const MOST_BYTES: u64 = 1_000_000;
 
 /// A member that may ask: the numbers that wait to be told to it, the first asked first, and how much it was told of late.
 #[derive(Drop)]
-pub(crate) struct Asker {
+pub(crate) struct RecallAsker {
     waiting: Values,
     /// When the present second began, in milliseconds.
     since: Option<u64>,
@@ -24,7 +24,7 @@ pub(crate) struct Asker {
     told: u64,
 }
 
-impl Model for Asker {
+impl Model for RecallAsker {
     ghost use Rattle.std.specs.Prelude.{◌≤◌, length};
     ghost use Rattle.catch_up.specs.Values.{AreNumbers};
     ghost use Rattle.catch_up.specs.Asked.{AskerValue};
@@ -36,12 +36,12 @@ impl Model for Asker {
     ghost invariant = { λ s. AreNumbers s.waiting.items × (length s.waiting.items ≤ 64) };
 }
 
-impl Asker {
+impl RecallAsker {
     /// It asked for nothing yet, and was told nothing.
-    pub(crate) fn new() -> Asker
+    pub(crate) fn new() -> RecallAsker
         ensures { result ≡ nobody }
     {
-        Asker {
+        RecallAsker {
             waiting: ArrayVec::new(),
             since: None,
             told: 0,

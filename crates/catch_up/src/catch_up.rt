@@ -1,7 +1,7 @@
 //! What a plant does to catch up.
 
 ghost use Rattle.std.specs.Prelude.{◌≡◌, ◌&&◌, ◌||◌, ◌+◌, ◌-◌, ◌^◌, None, IfOk, IfSome, OnOk, is_some, min};
-ghost use Rattle.healing.specs.declared.news.News.TheVariants.{Closed};
+ghost use Rattle.healing.specs.declared.news.NumberNews.TheVariants.{Closed};
 ghost use Rattle.catch_up.specs.News.{all_news, packet_news};
 ghost use Rattle.catch_up.specs.Asked.{nothing_asked, told_to};
 ghost use Rattle.catch_up.specs.Before.{IsBegunBefore, handed_out, left_before, settled_before};
@@ -12,20 +12,20 @@ ghost use Rattle.catch_up.specs.Starting.{AsksFrom, CallsFrom, StartsWith};
 ghost use Rattle.catch_up.specs.Waves.{IsHandedOut, missed_in, out_in};
 ghost use Rattle.catch_up.specs.CatchUp.{IsOver};
 
-use crate::asked::Asked;
+use crate::asked::RecallQueue;
 use crate::before::Before;
 use crate::calls;
 use crate::lacking::{has_gone_out, is_busy, leave, take_in, tell};
 use crate::news::{news_of, news_of_packet};
-use crate::own::Own;
-use crate::packet::Packet;
+use crate::own::OwnRecalls;
+use crate::packet::PacketHead;
 use crate::recalling::recall_no_longer;
 use crate::start::{Start, asking_of, calls_of, healing_of};
-use crate::wave::{Asking, ToldBy, Wave, finished, leave_wave, missed_of};
+use crate::wave::{AskedNumbers, ToldBy, Wave, finished, leave_wave, missed_of};
 use arrayvec::ArrayVec;
 use ballots::{Member, Number};
 use gone_out::{Numbers, Origin};
-use healing::{Healing, News};
+use healing::{Healing, NumberNews};
 use node_core::Note;
 use roll_call::RollCall;
 use std::alloc::{AllocError, Global};
@@ -45,12 +45,12 @@ pub struct CatchUp {
     pub(crate) asks: bool,
     pub(crate) before: Before,
     /// What was asked for of late; `None` where the plant never asks.
-    pub(crate) wave: Option<Asking>,
+    pub(crate) wave: Option<AskedNumbers>,
     /// How many batches were recalled, as far as there are numbers.
     pub(crate) batches: u32,
     /// The numbers that are recalled.
-    pub(crate) recalling: Option<Own>,
-    pub(crate) asked: Asked,
+    pub(crate) recalling: Option<OwnRecalls>,
+    pub(crate) asked: RecallQueue,
     /// Whether there may be an errand.
     pub(crate) is_stirred: bool,
     /// Whether the last errand was an own one, so that those for others come first.
@@ -103,7 +103,7 @@ impl CatchUp {
             wave,
             batches: 0,
             recalling: None,
-            asked: Asked::new(alloc)?,
+            asked: RecallQueue::new(alloc)?,
             is_stirred: true,
             others_first: false,
             replies_first: false,
@@ -131,7 +131,7 @@ impl CatchUp {
     /// # Errors
     ///
     /// Out of memory. What is known of numbers is then as before.
-    pub fn came(&mut self, packet: Packet, now: u64) -> Result<(), AllocError>
+    pub fn came(&mut self, packet: PacketHead, now: u64) -> Result<(), AllocError>
         ensures ok { OnOk result (IsToldOf (taken_in self.old.healing) self.new.healing packet.number (packet_news packet) now) }
         ensures rest { self.new ≡ record self.old { healing = self.new.healing; rolls = came_in now self.old.rolls } }
         ensures gone { SameGone self.old.healing self.new.healing }
@@ -176,7 +176,7 @@ impl CatchUp {
             tell(&mut self.healing, number, news, now)?;
         }
         if opened {
-            tell(&mut self.healing, number, News::Opened, now)?;
+            tell(&mut self.healing, number, NumberNews::Opened, now)?;
         }
         Ok(())
     }
@@ -198,7 +198,7 @@ impl CatchUp {
         ensures rest { self.new ≡ record self.old { healing = self.new.healing } }
         ensures gone { SameGone self.old.healing self.new.healing }
     {
-        tell(&mut self.healing, number, News::Closed, now)
+        tell(&mut self.healing, number, NumberNews::Closed, now)
     }
 
     /// A number went out here: it is never asked for again.

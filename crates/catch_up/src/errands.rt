@@ -12,7 +12,7 @@ use crate::calls;
 use crate::catch_up::CatchUp;
 use crate::errand::Errand;
 use crate::lacking::{again, may_ask_pages, want};
-use crate::own::Own;
+use crate::own::OwnRecalls;
 use crate::recalling::go_on;
 use crate::wave::ask_wave;
 use healing::{Batch, Want};
@@ -37,7 +37,7 @@ impl CatchUp {
         ensures rest { self.new ≡ record self.old { batches = next_batch self.old; recalling = Some (begun self.old.own (next_batch self.old) batch.now); wave = self.new.wave } }
     {
         self.batches = self.batches.wrapping_add(1);
-        self.recalling = Some(Own::new(self.own, self.batches, batch));
+        self.recalling = Some(OwnRecalls::new(self.own, self.batches, batch));
         ask_wave(&mut self.wave, batch);
     }
 
@@ -47,7 +47,7 @@ impl CatchUp {
         ensures { self.new ≡ record self.old { batches = next_batch self.old; recalling = Some (asked_again self.old.own (next_batch self.old) batch.now) } }
     {
         self.batches = self.batches.wrapping_add(1);
-        self.recalling = Some(Own::again(self.own, self.batches, batch));
+        self.recalling = Some(OwnRecalls::again(self.own, self.batches, batch));
     }
 
     /// What comes next about what is lacked: what is recalled is asked for once more, or else what the plant wants next.

@@ -11,14 +11,14 @@ use crate::catch_up::CatchUp;
 use crate::lacking::{is_new, take_in, tell};
 use crate::unheard::{Unheard, check, roll_way_of, way_of};
 use ballots::{Member, Number};
-use healing::News;
+use healing::NumberNews;
 use recalls::Recall;
-use rolls::{Aside, Body, PAGE_NUMBERS, Roll, Votes};
+use rolls::{Aside, PAGE_NUMBERS, Roll, RollBody, Votes};
 use std::alloc::AllocError;
 
 /// Who told something, and when, in milliseconds.
 #[derive(Clone, Copy)]
-pub(crate) struct Telling {
+pub(crate) struct TellingMember {
     member: Member,
     moment: u64,
 }
@@ -26,7 +26,7 @@ pub(crate) struct Telling {
 impl CatchUp {
     /// A member told that it has a vote of a number. It is lacked, unless it went out; in the first start that keeps what went out, a
     /// number that is not known here went out before.
-    fn hold(&mut self, number: Number, telling: &Telling) -> Result<(), AllocError>
+    fn hold(&mut self, number: Number, telling: &TellingMember) -> Result<(), AllocError>
         ensures held { OnOk result (IsHeldOne self.old self.new number telling.now) }
         ensures keeps { KeepsRest self.old self.new }
     {
@@ -39,13 +39,18 @@ impl CatchUp {
         tell(
             &mut self.healing,
             number,
-            News::Held { member },
+            NumberNews::Held { member },
             telling.moment,
         )
     }
 
     /// A number of a page that a member told, if it is one and has a vote there.
-    fn hold_of(&mut self, value: u32, votes: &Votes, telling: &Telling) -> Result<(), AllocError>
+    fn hold_of(
+        &mut self,
+        value: u32,
+        votes: &Votes,
+        telling: &TellingMember,
+    ) -> Result<(), AllocError>
         ensures held { OnOk result (IsHeldOf self.old self.new value votes.now telling.now) }
         ensures keeps { KeepsRest self.old self.new }
     {
@@ -56,7 +61,7 @@ impl CatchUp {
     }
 
     /// The numbers of a page that a member told.
-    fn hold_all(&mut self, votes: &Votes, telling: &Telling) -> Result<(), AllocError>
+    fn hold_all(&mut self, votes: &Votes, telling: &TellingMember) -> Result<(), AllocError>
         ensures held { OnOk result (IsPageHeld self.old self.new votes.now telling.now) }
         ensures keeps { KeepsRest self.old self.new }
     {
@@ -78,9 +83,9 @@ impl CatchUp {
         }
         let member = roll.from();
         match roll.body() {
-            Body::Page(votes) => self.hold_all(
+            RollBody::Page(votes) => self.hold_all(
                 votes,
-                &Telling {
+                &TellingMember {
                     member,
                     moment: now,
                 },

@@ -4,7 +4,7 @@ ghost use Rattle.std.specs.Prelude.{◌≡◌, None, false, IfOk, IfSome, OnOk, 
 ghost use Rattle.catch_up.specs.Lacking.{AllRestIn, IsAwaitedBatch, IsOutOf, IsToldOf, IsWantOf, SameGone, case_of, gone_in, is_new_in, may_ask_pages, own_in, taken_in};
 
 use ballots::Number;
-use healing::{Batch, Healing, News, Want};
+use healing::{Batch, Healing, NumberNews, Want};
 use std::alloc::AllocError;
 
 /// How many numbers may be lacked while pages are asked for.
@@ -23,7 +23,7 @@ pub(crate) fn take_in(healing: &mut Option<Healing>)
 pub(crate) fn tell(
     healing: &mut Option<Healing>,
     number: Number,
-    news: News,
+    news: NumberNews,
     now: u64,
 ) -> Result<(), AllocError>
     ensures ok { OnOk result (IsToldOf healing.old healing.new number news now) }

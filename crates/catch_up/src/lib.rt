@@ -23,7 +23,7 @@ mod wave;
 
 pub use catch_up::CatchUp;
 pub use errand::Errand;
-pub use packet::Packet;
+pub use packet::PacketHead;
 pub use start::Start;
 pub use unheard::Unheard;
 pub use wave::{ToldBy, Wave};

@@ -14,7 +14,7 @@ use std::marker::Model;
 
 /// Numbers that the station recalls: each other member is asked for them, and then the station tells itself its own votes of them.
 #[derive(Drop)]
-pub(crate) struct Own {
+pub(crate) struct OwnRecalls {
     /// The station.
     origin: Origin,
     /// The number of the station's own that its recalls have.
@@ -26,7 +26,7 @@ pub(crate) struct Own {
     left: Values,
 }
 
-impl Model for Own {
+impl Model for OwnRecalls {
     ghost use Rattle.catch_up.specs.Own.{OwnValue, IsOwn};
 
     ghost Value = { OwnValue };
@@ -53,12 +53,12 @@ fn other_from(origin: Origin, from: u8) -> Option<Member>
     }
 }
 
-impl Own {
+impl OwnRecalls {
     /// A batch is to be recalled.
-    pub(crate) fn new(origin: Origin, asked: u32, batch: &Batch) -> Own
+    pub(crate) fn new(origin: Origin, asked: u32, batch: &Batch) -> OwnRecalls
         ensures { result ≡ begun origin asked batch.now }
     {
-        Own {
+        OwnRecalls {
             origin,
             asked,
             numbers: copied(batch.numbers()),
@@ -68,10 +68,10 @@ impl Own {
     }
 
     /// A batch that is recalled already is to be asked for once more.
-    pub(crate) fn again(origin: Origin, asked: u32, batch: &Batch) -> Own
+    pub(crate) fn again(origin: Origin, asked: u32, batch: &Batch) -> OwnRecalls
         ensures { result ≡ asked_again origin asked batch.now }
     {
-        Own {
+        OwnRecalls {
             origin,
             asked,
             numbers: copied(batch.numbers()),

@@ -4,7 +4,7 @@ use ballots::{Member, Number};
 
 /// A packet that the station took in, by its head.
 #[derive(Clone, Copy)]
-pub struct Packet {
+pub struct PacketHead {
     /// The number that it is about.
     pub number: Number,
     /// The member that sent it.

@@ -5,10 +5,10 @@ ghost use Rattle.protocol.specs.Limits.{last_number};
 ghost use Rattle.healing.specs.Healing.{case_at};
 ghost use Rattle.catch_up.specs.Starting.{AreFirst, AsksFrom, CallsFrom, StartsWith, first_case};
 
-use crate::wave::Asking;
+use crate::wave::AskedNumbers;
 use ballots::Number;
 use gone_out::{Known, Numbers, Origin};
-use healing::{Healing, News};
+use healing::{Healing, NumberNews};
 use roll_call::RollCall;
 use std::alloc::{AllocError, Global};
 
@@ -47,7 +47,7 @@ fn tell_row(
         return Ok(());
     }
     let votes = known.votes.contains(number);
-    healing.tell(number, News::Saved { votes }, now)
+    healing.tell(number, NumberNews::Saved { votes }, now)
 }
 
 /// What is known at the start of the numbers that have a row and did not go out.
@@ -102,11 +102,11 @@ pub(crate) fn calls_of(
 }
 
 /// What is asked for at the start: nothing yet; `None` where nothing ever is.
-pub(crate) fn asking_of(alloc: Global, asks: bool) -> Result<Option<Asking>, AllocError>
+pub(crate) fn asking_of(alloc: Global, asks: bool) -> Result<Option<AskedNumbers>, AllocError>
     ensures { IfOk result (AsksFrom asks) }
 {
     if asks {
-        Ok(Some(Asking::new(alloc)?))
+        Ok(Some(AskedNumbers::new(alloc)?))
     } else {
         Ok(None)
     }

@@ -73,17 +73,17 @@ impl Unheard {
 
 /// Of which circuit something is that came, from which member, and to which.
 #[derive(Clone, Copy)]
-pub(crate) struct Way {
+pub(crate) struct Route {
     pub(crate) circuit: u16,
     pub(crate) from: Member,
     pub(crate) to: Member,
 }
 
 /// The way of a recall.
-pub(crate) fn way_of(recall: &Recall) -> Way
+pub(crate) fn way_of(recall: &Recall) -> Route
     ensures { result ≡ recall_way recall.now }
 {
-    Way {
+    Route {
         circuit: recall.circuit(),
         from: recall.from(),
         to: recall.to(),
@@ -91,11 +91,11 @@ pub(crate) fn way_of(recall: &Recall) -> Way
 }
 
 /// The way of a roll.
-pub(crate) fn roll_way_of(roll: &Roll) -> Way
+pub(crate) fn roll_way_of(roll: &Roll) -> Route
     ensures way { result ≡ roll_way roll.now }
     ensures apart { ¬ (result.from ≡ result.to) }
 {
-    Way {
+    Route {
         circuit: roll.circuit(),
         from: roll.from(),
         to: roll.to(),
@@ -103,7 +103,7 @@ pub(crate) fn roll_way_of(roll: &Roll) -> Way
 }
 
 /// Whether what came is of this circuit, to this station, from a member.
-pub(crate) fn check(own: Origin, way: Way) -> Result<(), Unheard>
+pub(crate) fn check(own: Origin, way: Route) -> Result<(), Unheard>
     ensures { result ≡ checked own way }
 {
     if way.circuit != own.circuit {

@@ -36,7 +36,7 @@ pub struct ToldBy {
 
 /// The numbers that were asked for since nothing was lacked last. They take 125,000 bytes.
 #[derive(Drop)]
-pub(crate) struct Asking {
+pub(crate) struct AskedNumbers {
     numbers: Numbers,
     /// How many of them went out since.
     released: u32,
@@ -88,12 +88,12 @@ fn keep_all(numbers: &mut Values, more: &[u32])
     }
 }
 
-impl Asking {
+impl AskedNumbers {
     /// Nothing was asked for yet.
-    pub(crate) fn new(alloc: Global) -> Result<Asking, AllocError>
+    pub(crate) fn new(alloc: Global) -> Result<AskedNumbers, AllocError>
         ensures { IfOk result IsNothingAsked }
     {
-        Ok(Asking {
+        Ok(AskedNumbers {
             numbers: Numbers::new(alloc)?,
             released: 0,
             missed: ArrayVec::new(),
@@ -189,7 +189,7 @@ impl Asking {
 }
 
 /// A batch is recalled.
-pub(crate) fn ask_wave(wave: &mut Option<Asking>, batch: &Batch)
+pub(crate) fn ask_wave(wave: &mut Option<AskedNumbers>, batch: &Batch)
     ensures { AreAskedIn wave.old wave.new batch.now }
 {
     if let Some(asking) = wave {
@@ -198,7 +198,7 @@ pub(crate) fn ask_wave(wave: &mut Option<Asking>, batch: &Batch)
 }
 
 /// A number went out, which had gone out before or not.
-pub(crate) fn leave_wave(wave: &mut Option<Asking>, number: Number, was_out: bool)
+pub(crate) fn leave_wave(wave: &mut Option<AskedNumbers>, number: Number, was_out: bool)
     ensures { wave.new ≡ out_in was_out number wave.old }
 {
     if !was_out && let Some(asking) = wave {
@@ -207,7 +207,7 @@ pub(crate) fn leave_wave(wave: &mut Option<Asking>, number: Number, was_out: boo
 }
 
 /// Those that were not handed out yet.
-pub(crate) fn missed_of(wave: &mut Option<Asking>) -> Values
+pub(crate) fn missed_of(wave: &mut Option<AskedNumbers>) -> Values
     ensures missed { result.items ≡ missed_in wave.old }
     ensures left { IsHandedOut wave.old wave.new }
 {
@@ -218,7 +218,7 @@ pub(crate) fn missed_of(wave: &mut Option<Asking>) -> Values
 }
 
 /// What became of those that were asked for, if any were.
-pub(crate) fn finished(wave: &mut Option<Asking>, alloc: Global) -> Option<Wave>
+pub(crate) fn finished(wave: &mut Option<AskedNumbers>, alloc: Global) -> Option<Wave>
     ensures over { IfSome result (IsWaveOver wave.old wave.new) }
     ensures none { result ≡ None → wave.new ≡ wave.old }
 {
@@ -229,7 +229,7 @@ pub(crate) fn finished(wave: &mut Option<Asking>, alloc: Global) -> Option<Wave>
 }
 
 /// Whether anything was asked for.
-pub(crate) fn has_asked(wave: &Option<Asking>) -> bool
+pub(crate) fn has_asked(wave: &Option<AskedNumbers>) -> bool
     ensures { result ≡ has_asked_in wave.now }
 {
     match wave {

@@ -6,8 +6,8 @@ use Rattle.catch_up_log.specs.declared.asking.Caught.{Caught}
 use Rattle.catch_up_log.specs.declared.done.Answered.{Answered}
 use Rattle.catch_up_log.specs.declared.unheards.Spoken.{Spoken}
 use Rattle.catch_up_log.specs.declared.unheards.Spoken.TheVariants as spoken
-use Rattle.catch_up_log.specs.declared.line.Line.{Line}
-use Rattle.catch_up_log.specs.declared.line.Line.TheVariants as lines
+use Rattle.catch_up_log.specs.declared.line.CatchUpLine.{CatchUpLine}
+use Rattle.catch_up_log.specs.declared.line.CatchUpLine.TheVariants as lines
 
 -- what a member says beside its packets
 abbrev pub spoken_word : Spoken → List ℕ
@@ -51,7 +51,7 @@ unread_text fault =
     codes "folders: cannot read .released: " ++ (fault_word fault ++ codes "; what is missing here is not asked for until it can be read")
 
 -- a line, without its end
-abbrev pub line_text : Line → List ℕ
+abbrev pub line_text : CatchUpLine → List ℕ
 line_text (lines.Unheard spoken cause count) = unheard_text spoken cause.now count
 line_text (lines.Missing count names) = missing_text count names.now
 line_text (lines.Missed number) = missed_text number

@@ -3,7 +3,7 @@
 ghost use Rattle.plant_log.specs.Telling.{WasTold};
 ghost use Rattle.catch_up_log.specs.Words.{answered_text};
 
-use crate::line::Line;
+use crate::line::CatchUpLine;
 use crate::writing::tell_line;
 use std::alloc::Global;
 use std::io::Write;
@@ -23,5 +23,5 @@ pub struct Answered {
 pub fn tell_answered<E: Write>(alloc: Global, name: &str, counts: Answered, err: &mut E)
     ensures { WasTold (answered_text name.now counts) (E.contents err.old) (E.contents err.new) }
 {
-    tell_line(alloc, &Line::Answered { name, counts }, err);
+    tell_line(alloc, &CatchUpLine::Answered { name, counts }, err);
 }

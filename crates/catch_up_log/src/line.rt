@@ -11,7 +11,7 @@ use std::fmt;
 
 /// A line of the log.
 #[derive(Clone, Copy)]
-pub(crate) enum Line<'a> {
+pub(crate) enum CatchUpLine<'a> {
     /// So many recalls or rolls were passed over, the last for this cause.
     Unheard {
         spoken: Spoken,
@@ -54,34 +54,34 @@ impl fmt::Display for Spoken {
     }
 }
 
-impl<'a> fmt::Display for Line<'a> {
+impl<'a> fmt::Display for CatchUpLine<'a> {
     ghost output = { λ l. Some (line_text l) };
 
     fn fmt<W: fmt::Write>(&self, f: &mut fmt::Formatter<W>) -> fmt::Result {
         match *self {
-            Line::Unheard {
+            CatchUpLine::Unheard {
                 spoken,
                 cause,
                 count,
             } => write!(f, "{spoken}: refused {cause}, {count} since the last"),
-            Line::Missing { count, names } => write!(
+            CatchUpLine::Missing { count, names } => write!(
                 f,
                 "{count} may be missing from before: {names}"
             ),
-            Line::Missed(number) => write!(f, "{number} missed, asked for"),
-            Line::MissedRanges(names) => write!(f, "{names} missed, asked for"),
-            Line::CaughtUp(wave) => write!(
+            CatchUpLine::Missed(number) => write!(f, "{number} missed, asked for"),
+            CatchUpLine::MissedRanges(names) => write!(f, "{names} missed, asked for"),
+            CatchUpLine::CaughtUp(wave) => write!(
                 f,
                 "caught up: {} released, {} nothing",
                 wave.released, wave.nothing
             ),
-            Line::Few { asked, told } => write!(f, "asked {asked}, told by {told}"),
-            Line::Answered { name, counts } => write!(
+            CatchUpLine::Few { asked, told } => write!(f, "asked {asked}, told by {told}"),
+            CatchUpLine::Answered { name, counts } => write!(
                 f,
                 "done {name}: {} tapes, {} void, {} nothing",
                 counts.tapes, counts.voids, counts.nothing
             ),
-            Line::Unread(fault) => write!(
+            CatchUpLine::Unread(fault) => write!(
                 f,
                 "folders: cannot read .released: {fault}; what is missing here is not asked for until it can be read"
             ),

@@ -7,7 +7,7 @@ ghost use Rattle.plant_log.specs.Telling.{TellsIf};
 ghost use Rattle.catch_up_log.specs.Words.{missed_text};
 ghost use Rattle.catch_up_log.specs.Missed.{AddsTo, IsWith, TellsMissed, TellsNumbers, TellsRanges, TellsWaiting, missed_after, no_missed};
 
-use crate::line::Line;
+use crate::line::CatchUpLine;
 use crate::ranges::text_of;
 use crate::seconds::is_time;
 use crate::writing::{tell_line, tell_no_memory};
@@ -46,7 +46,7 @@ fn tell_if<E: Write>(alloc: Global, numbers: &Numbers, number: u32, err: &mut E)
     if let Some(one) = Number::new(number)
         && numbers.contains(one)
     {
-        tell_line(alloc, &Line::Missed(number), err);
+        tell_line(alloc, &CatchUpLine::Missed(number), err);
     }
 }
 
@@ -64,7 +64,7 @@ fn tell_ranges<E: Write>(alloc: Global, numbers: &Numbers, err: &mut E)
     ensures { TellsRanges numbers.now (E.contents err.old) (E.contents err.new) }
 {
     match text_of(alloc, numbers, "") {
-        Ok(text) => tell_line(alloc, &Line::MissedRanges(text.as_str()), err),
+        Ok(text) => tell_line(alloc, &CatchUpLine::MissedRanges(text.as_str()), err),
         Err(_) => tell_no_memory(err),
     }
 }

@@ -2,7 +2,7 @@
 
 ghost use Rattle.catch_up_log.specs.Missing.{TellsMissing};
 
-use crate::line::Line;
+use crate::line::CatchUpLine;
 use crate::ranges::text_of;
 use crate::writing::{tell_line, tell_no_memory};
 use gone_out::Numbers;
@@ -20,7 +20,7 @@ pub fn tell_missing<E: Write>(alloc: Global, missing: &Numbers, err: &mut E)
     match text_of(alloc, missing, ".seek") {
         Ok(text) => {
             let (count, names) = (missing.len(), text.as_str());
-            tell_line(alloc, &Line::Missing { count, names }, err);
+            tell_line(alloc, &CatchUpLine::Missing { count, names }, err);
         }
         Err(_) => tell_no_memory(err),
     }

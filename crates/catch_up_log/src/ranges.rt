@@ -34,7 +34,7 @@ impl<'a> fmt::Display for RangeText<'a> {
 
 /// The ranges of a set that are told, and the one behind them, if there is one.
 #[derive(Drop)]
-struct Told {
+struct ToldRanges {
     ranges: Vec<Range>,
     next: Option<Range>,
 }
@@ -55,7 +55,7 @@ fn range_behind(numbers: &Numbers, range: &Range) -> Option<Range>
 }
 
 /// The ranges of a set that are told.
-fn told_of(alloc: Global, numbers: &Numbers) -> Result<Told, AllocError>
+fn told_of(alloc: Global, numbers: &Numbers) -> Result<ToldRanges, AllocError>
     ensures { IfOk result (λ t. AreTold numbers.now t.ranges.items t.next) }
 {
     let mut ranges = Vec::new(alloc);
@@ -67,7 +67,7 @@ fn told_of(alloc: Global, numbers: &Numbers) -> Result<Told, AllocError>
         next = range_behind(numbers, &range);
         ranges.push(range)?;
     }
-    Ok(Told { ranges, next })
+    Ok(ToldRanges { ranges, next })
 }
 
 /// Puts a range behind a text.

@@ -5,7 +5,7 @@ ghost use Rattle.plant_log.specs.Words.{folders_text};
 ghost use Rattle.plant_log.specs.Telling.{WasTold};
 ghost use Rattle.catch_up_log.specs.Words.{unread_text};
 
-use crate::line::Line;
+use crate::line::CatchUpLine;
 use crate::writing::tell_line;
 use folders::FolderFault;
 use plant_log::tell_folders;
@@ -27,5 +27,5 @@ pub fn tell_set_aside<E: Write>(alloc: Global, err: &mut E)
 pub fn tell_unread<E: Write>(alloc: Global, fault: FolderFault, err: &mut E)
     ensures { WasTold (unread_text fault) (E.contents err.old) (E.contents err.new) }
 {
-    tell_line(alloc, &Line::Unread(fault), err);
+    tell_line(alloc, &CatchUpLine::Unread(fault), err);
 }

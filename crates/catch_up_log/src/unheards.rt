@@ -5,7 +5,7 @@ ghost use Rattle.plant_log.specs.Telling.{TellsIf};
 ghost use Rattle.catch_up_log.specs.Passing.{counted, is_unheard_told, no_unheards, unheards_after};
 ghost use Rattle.catch_up_log.specs.Words.{unheard_text};
 
-use crate::line::Line;
+use crate::line::CatchUpLine;
 use crate::seconds::is_time;
 use crate::writing::tell_line;
 use std::alloc::Global;
@@ -55,7 +55,7 @@ impl Unheards {
             let (spoken, count) = (self.spoken, self.count);
             tell_line(
                 alloc,
-                &Line::Unheard {
+                &CatchUpLine::Unheard {
                     spoken,
                     cause,
                     count,

@@ -5,7 +5,7 @@ ghost use Rattle.plant_log.specs.Words.{no_memory};
 ghost use Rattle.plant_log.specs.Telling.{WasTold};
 ghost use Rattle.catch_up_log.specs.Words.{line_text};
 
-use crate::line::Line;
+use crate::line::CatchUpLine;
 use std::alloc::Global;
 use std::io::Write;
 use streams::put_all;
@@ -29,7 +29,7 @@ pub(crate) fn tell_no_memory<E: Write>(err: &mut E)
 }
 
 /// Writes a line, at once. That the writer fails is ignored.
-pub(crate) fn tell_line<E: Write>(alloc: Global, line: &Line<'_>, err: &mut E)
+pub(crate) fn tell_line<E: Write>(alloc: Global, line: &CatchUpLine<'_>, err: &mut E)
     ensures { WasTold (line_text line.now) (E.contents err.old) (E.contents err.new) }
 {
     match format!(in alloc; "{line}\n") {

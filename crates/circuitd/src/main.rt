@@ -4,7 +4,7 @@
 use command_ends::{End, Fault};
 use command_line::{Asked, parse};
 use commands::carry_out;
-use host_process::{Told, fill_descriptors};
+use host_process::{StandardError, fill_descriptors};
 use host_row_files::{HostFiles, RowFiles};
 use std::env;
 use std::io::{BufWriter, ErrorKind, LineWriter, Write};
@@ -34,7 +34,7 @@ fn command_words(rt: &HostRuntime) -> Result<Vec<String>, End> {
 /// Carries out what is asked over the standard streams and these files of rows. What is told on standard error is written a line
 /// at a time, and lost where it takes nothing.
 fn carry_out_here<F: RowFiles>(rt: &HostRuntime, asked: &Asked<'_>, row_files: &F) -> End {
-    let Ok(mut err) = LineWriter::new(rt.alloc(), Told::new(rt.alloc())) else {
+    let Ok(mut err) = LineWriter::new(rt.alloc(), StandardError::new(rt.alloc())) else {
         return Fault::OutOfMemory.tell(&mut rt.stderr());
     };
     match BufWriter::new(rt.alloc(), rt.stdout()) {

@@ -14,8 +14,8 @@ use Rattle.widths.specs.Widths.{WidthFile, width_of}
 use Rattle.slug_reader.specs.Meanings.{Meanings}
 use Rattle.slug_reader.specs.Positions.{before, first, or_else}
 use Rattle.tape_drawing.specs.Meanings.{meaning_word}
-use Rattle.code_chart.specs.declared.said.Span.{Span}
-use Rattle.code_chart.specs.declared.said.Span.TheVariants as spans
+use Rattle.code_chart.specs.declared.said.MeaningSpan.{MeaningSpan}
+use Rattle.code_chart.specs.declared.said.MeaningSpan.TheVariants as spans
 use Rattle.code_chart.specs.Cells.{Said, Cell, cell, chart, said, tell, all_frames, has_word, means_word, twin_at, matrix_span}
 use Rattle.code_chart.specs.Laws.{FramesInOrder, NoneJustThere, LackingJustThere, SharedJustThere, IsWidthless, IsShared}
 use Rattle.tape_drawing.proofs.Firsts.{first_push}

@@ -8,17 +8,17 @@ use Rattle.widths.specs.Widths.{WidthFile, width_of}
 use Rattle.slug_reader.specs.Meanings.{Meanings}
 use Rattle.slug_reader.specs.Positions.{before, first}
 use Rattle.tape_drawing.specs.Meanings.{meaning_word}
-use Rattle.code_chart.specs.declared.said.Span.{Span}
-use Rattle.code_chart.specs.declared.said.Span.TheVariants as spans
-use Rattle.code_chart.specs.declared.said.Told.{Told}
+use Rattle.code_chart.specs.declared.said.MeaningSpan.{MeaningSpan}
+use Rattle.code_chart.specs.declared.said.MeaningSpan.TheVariants as spans
+use Rattle.code_chart.specs.declared.said.MeaningNote.{MeaningNote}
 
 -- a matrix is as wide as the file says, or lacks a width
-abbrev pub matrix_span : Option ℕ → Span
+abbrev pub matrix_span : Option ℕ → MeaningSpan
 matrix_span None = spans.Lacking
 matrix_span (Some width) = spans.Units width
 
 -- how wide what a meaning puts into a line is
-abbrev pub span_of : WidthFile → Meaning → Span
+abbrev pub span_of : WidthFile → Meaning → MeaningSpan
 span_of widths (meanings.Matrix name) = matrix_span (width_of widths name)
 span_of widths meanings.Spaceband = spans.Between widths.band_min widths.band_max
 span_of widths meanings.Thin = spans.Units widths.thin
@@ -48,13 +48,13 @@ abbrev pub twin_of : Meanings → ℕ → List ℕ → Option ℕ
 twin_of means frame word = first (twin_at means frame word) all_frames
 
 -- what is told of a meaning that a frame has
-abbrev pub tell : WidthFile → Meanings → ℕ → Meaning → Told
+abbrev pub tell : WidthFile → Meanings → ℕ → Meaning → MeaningNote
 tell widths means frame meaning = record { span = span_of widths meaning; twin = twin_of means frame (meaning_word (Some meaning)) }
 
 -- what a chart says of a meaning, where there is one
 pub record Said : Type 0 where
   pub meaning : Meaning
-  pub told : Told
+  pub told : MeaningNote
 
 -- that of a meaning that a frame has
 abbrev pub said : WidthFile → Meanings → ℕ → Meaning → Said

@@ -4,70 +4,70 @@ use Rattle.code_table.specs.declared.case.Case.TheVariants as cases
 use Rattle.code_table.specs.declared.meaning.Meaning.{Meaning}
 use Rattle.widths.specs.Widths.{WidthFile}
 use Rattle.slug_reader.specs.Meanings.{Meanings}
-use Rattle.tape_drawing.specs.declared.elements.Place.{Place}
+use Rattle.tape_drawing.specs.declared.elements.Point.{Point}
 use Rattle.tape_drawing.specs.declared.elements.Style.TheVariants as styles
-use Rattle.tape_drawing.specs.declared.page.Page.{Page}
-use Rattle.tape_drawing.specs.declared.page.Page.TheVariants as pages
+use Rattle.tape_drawing.specs.declared.page.DrawingForm.{DrawingForm}
+use Rattle.tape_drawing.specs.declared.page.DrawingForm.TheVariants as pages
 use Rattle.tape_drawing.specs.Meanings.{meaning_word, mark_word, mark_style}
 use Rattle.tape_drawing.specs.Texts.{page_lead, svg_lead}
 use Rattle.tape_drawing.specs.Shapes.{Paper, Words, Fitted, shape_text, pair_text, count_text, escaped, holes_text}
-use Rattle.code_chart.specs.declared.said.Span.{Span}
-use Rattle.code_chart.specs.declared.said.Span.TheVariants as spans
-use Rattle.code_chart.specs.declared.said.Told.{Told}
+use Rattle.code_chart.specs.declared.said.MeaningSpan.{MeaningSpan}
+use Rattle.code_chart.specs.declared.said.MeaningSpan.TheVariants as spans
+use Rattle.code_chart.specs.declared.said.MeaningNote.{MeaningNote}
 use Rattle.code_chart.specs.Cells.{Said, Cell, cell, chart}
 use Rattle.code_chart.specs.Texts.{style, svg_middle, svg_style_lead, svg_ground, first_legend, second_legend, third_legend, fourth_legend, page_style_lead, page_style_end, page_legend, page_end}
 
 -- the upper left corner of a cell
-abbrev pub corner : ℕ → Place
+abbrev pub corner : ℕ → Point
 corner frame = record { x = 20 + 100 * (frame % 8); y = 120 + 84 * (frame / 8) }
 
 -- what begins words of a class at a place, as far as their text
-unfoldable pub lead_text : List ℕ → Place → List ℕ
+unfoldable pub lead_text : List ℕ → Point → List ℕ
 lead_text lead at = pair_text lead at.x (codes "' y='") at.y
 
 -- a width in units, or two with a hyphen between them
-unfoldable pub units_text : Place → ℕ → List ℕ
+unfoldable pub units_text : Point → ℕ → List ℕ
 units_text at units = lead_text (codes "<text class='w' x='") at ++ (count_text (codes "'>") units ++ codes "</text>\n")
 
-unfoldable pub between_text : Place → ℕ → ℕ → List ℕ
+unfoldable pub between_text : Point → ℕ → ℕ → List ℕ
 between_text at least greatest = lead_text (codes "<text class='w' x='") at ++ (pair_text (codes "'>") least (codes "-") greatest ++ codes "</text>\n")
 
 -- the mark of a matrix without a width
-unfoldable pub lacking_text : Place → List ℕ
+unfoldable pub lacking_text : Point → List ℕ
 lacking_text at = lead_text (codes "<text class='o x' x='") at ++ codes "'>no width</text>\n"
 
 -- behind a meaning its width, and below it that it lacks one
-abbrev pub span_text : Place → Span → List ℕ
+abbrev pub span_text : Point → MeaningSpan → List ℕ
 span_text at spans.Nothing = []
 span_text at (spans.Units units) = units_text (record { x = at.x + 66; y = at.y }) units
 span_text at (spans.Between least greatest) = between_text (record { x = at.x + 66; y = at.y }) least greatest
 span_text at spans.Lacking = lacking_text (record { x = at.x + 58; y = at.y + 12 })
 
 -- the mark of a meaning that another combination has too
-unfoldable pub shared_text : Place → ℕ → List ℕ
+unfoldable pub shared_text : Point → ℕ → List ℕ
 shared_text at other = lead_text (codes "<text class='g' x='") at ++ (count_text (codes "'>= ") other ++ codes "</text>\n")
 
-abbrev pub twin_text : Place → Option ℕ → List ℕ
+abbrev pub twin_text : Point → Option ℕ → List ℕ
 twin_text at None = []
 twin_text at (Some other) = shared_text (record { x = at.x + 30; y = at.y + 12 }) other
 
 -- a meaning: its name, fitted to its room where it is long, or the two letters of a function
-abbrev pub name_text : Place → Meaning → List ℕ
+abbrev pub name_text : Point → Meaning → List ℕ
 name_text at meaning =
     if nat_le 4 (length (mark_word (Some meaning)))
     then shape_text (Fitted (mark_style (Some meaning)) (at.x + 46) at.y 34 (mark_word (Some meaning)))
     else shape_text (Words (mark_style (Some meaning)) (at.x + 46) at.y (mark_word (Some meaning)))
 
 -- the mark of a combination without a meaning
-unfoldable pub nothing_text : Place → List ℕ
+unfoldable pub nothing_text : Point → List ℕ
 nothing_text at = shape_text (Words styles.Unknown (at.x + 46) at.y (codes "?")) ++ shape_text (Words styles.Fault (at.x + 30) (at.y + 12) (codes "no meaning"))
 
 -- what is told of a meaning
-abbrev pub told_text : Place → Told → List ℕ
+abbrev pub told_text : Point → MeaningNote → List ℕ
 told_text at told = span_text at told.span ++ twin_text at told.twin
 
 -- what is said of a meaning, where there is one
-abbrev pub said_text : Place → Option Said → List ℕ
+abbrev pub said_text : Point → Option Said → List ℕ
 said_text at None = nothing_text at
 said_text at (Some said) = name_text at said.meaning ++ told_text at said.told
 
@@ -76,15 +76,15 @@ abbrev pub card_lead : Option Meaning → List ℕ
 card_lead None = codes "<rect class='v' x='"
 card_lead (Some meaning) = codes "<rect class='m' x='"
 
-unfoldable pub card_text : Option Meaning → Place → List ℕ
+unfoldable pub card_text : Option Meaning → Point → List ℕ
 card_text meaning at = lead_text (card_lead meaning) at ++ codes "' width='96' height='80'/>\n"
 
 -- its paper with its holes, and its number below them
-unfoldable pub paper_text : ℕ → Place → List ℕ
+unfoldable pub paper_text : ℕ → Point → List ℕ
 paper_text frame at =
     shape_text (Paper (at.x + 6) (at.y + 6) 1) ++ (codes "<path d='" ++ (holes_text frame (at.x + 15) (at.y + 6) ++ codes "'/>\n"))
 
-unfoldable pub number_text : ℕ → Place → List ℕ
+unfoldable pub number_text : ℕ → Point → List ℕ
 number_text frame at =
     lead_text (codes "<text class='n' x='") (record { x = at.x + 15; y = at.y + 76 }) ++ (count_text (codes "'>") frame ++ codes "</text>\n")
 
@@ -92,14 +92,14 @@ number_text frame at =
 unfoldable pub group_text : ℕ → List ℕ
 group_text frame = count_text (codes "<g id='frame") frame ++ codes "'>\n"
 
-unfoldable pub view_text : ℕ → Place → List ℕ
+unfoldable pub view_text : ℕ → Point → List ℕ
 view_text frame at = (count_text (codes "<svg id='frame") frame ++ pair_text (codes "' viewBox='") at.x (codes " ") at.y) ++ codes " 100 84'>\n"
 
-abbrev pub open_text : Page → ℕ → Place → List ℕ
+abbrev pub open_text : DrawingForm → ℕ → Point → List ℕ
 open_text pages.Svg frame at = group_text frame
 open_text pages.Html frame at = view_text frame at
 
-abbrev pub close_text : Page → List ℕ
+abbrev pub close_text : DrawingForm → List ℕ
 close_text pages.Svg = codes "</g>\n"
 close_text pages.Html = codes "</svg>\n"
 
@@ -113,24 +113,24 @@ abbrev pub meaning_in : Option Said → Option Meaning
 meaning_in said = option_map (λ s. s.meaning) said
 
 -- a cell at a corner: its card, its holes and its number
-abbrev pub ground_text : Cell → Place → List ℕ
+abbrev pub ground_text : Cell → Point → List ℕ
 ground_text c at =
     title_text c.frame (meaning_in c.unshift) (meaning_in c.shift) ++ (card_text (meaning_in c.unshift) at ++ (paper_text c.frame at ++ number_text c.frame at))
 
 -- both its meanings
-abbrev pub both_text : Cell → Place → List ℕ
+abbrev pub both_text : Cell → Point → List ℕ
 both_text c at =
     said_text (record { x = at.x; y = at.y + 26 }) c.unshift ++ said_text (record { x = at.x; y = at.y + 60 }) c.shift
 
 -- all of a cell
-abbrev pub cell_at : Page → Cell → Place → List ℕ
+abbrev pub cell_at : DrawingForm → Cell → Point → List ℕ
 cell_at page c at = open_text page c.frame at ++ (ground_text c at ++ (both_text c at ++ close_text page))
 
-abbrev pub cell_text : Page → Cell → List ℕ
+abbrev pub cell_text : DrawingForm → Cell → List ℕ
 cell_text page c = cell_at page c (corner c.frame)
 
 -- the cells of a chart
-abbrev pub cells_text : Page → List Cell → List ℕ
+abbrev pub cells_text : DrawingForm → List Cell → List ℕ
 cells_text page cells = flat_map (cell_text page) cells
 
 -- the title: the names of the table and the width file, as they were given
@@ -157,10 +157,10 @@ unfoldable pub page_head : List ℕ → List ℕ
 page_head title = (style ++ page_style_end) ++ (escaped title ++ page_legend)
 
 -- a document with this title and these cells
-abbrev pub text_with : Page → List ℕ → List Cell → List ℕ
+abbrev pub text_with : DrawingForm → List ℕ → List Cell → List ℕ
 text_with pages.Svg title cells = svg_open title ++ (svg_head title ++ (cells_text pages.Svg cells ++ codes "</svg>\n"))
 text_with pages.Html title cells = page_open title ++ (page_head title ++ (cells_text pages.Html cells ++ page_end))
 
 -- the chart of a table and widths that have these names
-abbrev pub chart_text : Page → WidthFile → Meanings → List ℕ → List ℕ → List ℕ
+abbrev pub chart_text : DrawingForm → WidthFile → Meanings → List ℕ → List ℕ → List ℕ
 chart_text page widths means table file = text_with page (title_words table file) (chart widths means)

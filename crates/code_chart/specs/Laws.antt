@@ -8,7 +8,7 @@ use Rattle.widths.specs.Widths.{WidthFile, width_of}
 use Rattle.slug_reader.specs.Meanings.{Meanings}
 use Rattle.slug_reader.specs.Positions.{before}
 use Rattle.tape_drawing.specs.Meanings.{meaning_word}
-use Rattle.code_chart.specs.declared.said.Span.TheVariants as spans
+use Rattle.code_chart.specs.declared.said.MeaningSpan.TheVariants as spans
 use Rattle.code_chart.specs.Cells.{Said, Cell, cell, chart, tell}
 
 -- a chart has each of the 64 combinations once, and in order

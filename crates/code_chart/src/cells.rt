@@ -6,30 +6,30 @@ ghost use Rattle.code_table.specs.declared.case.Case.TheVariants as cases;
 ghost use Rattle.code_chart.specs.Cells.{said, cell, chart};
 ghost use Rattle.code_chart.specs.Document.{corner, lead_text, units_text, between_text, lacking_text, span_text, shared_text, twin_text, name_text, nothing_text, told_text, said_text, card_lead, card_text, paper_text, number_text, group_text, view_text, open_text, close_text, title_text, ground_text, both_text, cell_at, cell_text, cells_text};
 
-use crate::said::{Span, Told, tell};
+use crate::said::{MeaningNote, MeaningSpan, tell};
 use code_table::{Case, CodeTable, Meaning};
 use std::alloc::AllocError;
 use tape_drawing::{
-    Page, Place, Room, Style, add_count, add_escaped, add_fitted, add_holes, add_pair, add_paper,
-    add_words, mark_style, mark_word, meaning_word,
+    DrawingForm, Point, Room, Style, add_count, add_escaped, add_fitted, add_holes, add_pair,
+    add_paper, add_words, mark_style, mark_word, meaning_word,
 };
 use widths::Widths;
 
 /// What the cells are made of.
 #[derive(Clone, Copy)]
 pub struct Sheet<'a> {
-    pub page: Page,
+    pub page: DrawingForm,
     pub table: &'a CodeTable,
     pub widths: &'a Widths,
 }
 
 /// The upper left corner of a cell.
-fn corner(frame: u8) -> Place
+fn corner(frame: u8) -> Point
     requires { frame < 64 }
     ensures value { result ≡ corner frame }
     ensures small { (result.x ≤ 1000) × (result.y ≤ 1000) }
 {
-    Place {
+    Point {
         x: 20 + 100 * u64::from(frame % 8),
         y: 120 + 84 * u64::from(frame / 8),
     }
@@ -37,7 +37,7 @@ fn corner(frame: u8) -> Place
 
 /// Adds what begins words of a class at a place.
 #[tactic(auto, unfolding(crate::specs::Document::lead_text))]
-fn add_lead(text: &mut Vec<u8>, lead: &str, at: Place) -> Result<(), AllocError>
+fn add_lead(text: &mut Vec<u8>, lead: &str, at: Point) -> Result<(), AllocError>
     ensures { OnOk result (text.new.items ≡ text.old.items ++ lead_text lead.now at) }
 {
     add_pair(text, lead, at.x, "' y='", at.y)
@@ -45,7 +45,7 @@ fn add_lead(text: &mut Vec<u8>, lead: &str, at: Place) -> Result<(), AllocError>
 
 /// Adds a width in units.
 #[tactic(auto, unfolding(crate::specs::Document::units_text))]
-fn add_units(text: &mut Vec<u8>, at: Place, units: u64) -> Result<(), AllocError>
+fn add_units(text: &mut Vec<u8>, at: Point, units: u64) -> Result<(), AllocError>
     ensures { OnOk result (text.new.items ≡ text.old.items ++ units_text at units) }
 {
     add_lead(text, "<text class='w' x='", at)?;
@@ -55,7 +55,7 @@ fn add_units(text: &mut Vec<u8>, at: Place, units: u64) -> Result<(), AllocError
 
 /// Adds the least and the greatest width of a spaceband.
 #[tactic(auto, unfolding(crate::specs::Document::between_text))]
-fn add_between(text: &mut Vec<u8>, at: Place, least: u64, greatest: u64) -> Result<(), AllocError>
+fn add_between(text: &mut Vec<u8>, at: Point, least: u64, greatest: u64) -> Result<(), AllocError>
     ensures { OnOk result (text.new.items ≡ text.old.items ++ between_text at least greatest) }
 {
     add_lead(text, "<text class='w' x='", at)?;
@@ -65,7 +65,7 @@ fn add_between(text: &mut Vec<u8>, at: Place, least: u64, greatest: u64) -> Resu
 
 /// Adds the mark of a matrix without a width.
 #[tactic(auto, unfolding(crate::specs::Document::lacking_text))]
-fn add_lacking(text: &mut Vec<u8>, at: Place) -> Result<(), AllocError>
+fn add_lacking(text: &mut Vec<u8>, at: Point) -> Result<(), AllocError>
     ensures { OnOk result (text.new.items ≡ text.old.items ++ lacking_text at) }
 {
     add_lead(text, "<text class='o x' x='", at)?;
@@ -73,31 +73,31 @@ fn add_lacking(text: &mut Vec<u8>, at: Place) -> Result<(), AllocError>
 }
 
 /// Adds how wide a meaning is, or that it lacks a width.
-fn add_span(text: &mut Vec<u8>, at: Place, span: Span) -> Result<(), AllocError>
+fn add_span(text: &mut Vec<u8>, at: Point, span: MeaningSpan) -> Result<(), AllocError>
     requires { (at.x ≤ 1100) × (at.y ≤ 1100) }
     ensures { OnOk result (text.new.items ≡ text.old.items ++ span_text at span) }
 {
-    let beside = Place {
+    let beside = Point {
         x: at.x + 66,
         y: at.y,
     };
-    let below = Place {
+    let below = Point {
         x: at.x + 58,
         y: at.y + 12,
     };
     match span {
-        Span::Nothing => Ok(()),
-        Span::Units(units) => add_units(text, beside, u64::from(units)),
-        Span::Between { least, greatest } => {
+        MeaningSpan::Nothing => Ok(()),
+        MeaningSpan::Units(units) => add_units(text, beside, u64::from(units)),
+        MeaningSpan::Between { least, greatest } => {
             add_between(text, beside, u64::from(least), u64::from(greatest))
         }
-        Span::Lacking => add_lacking(text, below),
+        MeaningSpan::Lacking => add_lacking(text, below),
     }
 }
 
 /// Adds the mark of a meaning that another combination has too.
 #[tactic(auto, unfolding(crate::specs::Document::shared_text))]
-fn add_shared(text: &mut Vec<u8>, at: Place, other: u8) -> Result<(), AllocError>
+fn add_shared(text: &mut Vec<u8>, at: Point, other: u8) -> Result<(), AllocError>
     ensures { OnOk result (text.new.items ≡ text.old.items ++ shared_text at other) }
 {
     add_lead(text, "<text class='g' x='", at)?;
@@ -106,11 +106,11 @@ fn add_shared(text: &mut Vec<u8>, at: Place, other: u8) -> Result<(), AllocError
 }
 
 /// The same, where there is one.
-fn add_twin(text: &mut Vec<u8>, at: Place, twin: Option<u8>) -> Result<(), AllocError>
+fn add_twin(text: &mut Vec<u8>, at: Point, twin: Option<u8>) -> Result<(), AllocError>
     requires { (at.x ≤ 1100) × (at.y ≤ 1100) }
     ensures { OnOk result (text.new.items ≡ text.old.items ++ twin_text at twin) }
 {
-    let below = Place {
+    let below = Point {
         x: at.x + 30,
         y: at.y + 12,
     };
@@ -121,13 +121,13 @@ fn add_twin(text: &mut Vec<u8>, at: Place, twin: Option<u8>) -> Result<(), Alloc
 }
 
 /// Adds the name of a matrix, or the letters of a function.
-fn add_name(text: &mut Vec<u8>, at: Place, meaning: &Meaning) -> Result<(), AllocError>
+fn add_name(text: &mut Vec<u8>, at: Point, meaning: &Meaning) -> Result<(), AllocError>
     requires { (at.x ≤ 1100) × (at.y ≤ 1100) }
     ensures { OnOk result (text.new.items ≡ text.old.items ++ name_text at meaning.now) }
 {
     let word = mark_word(Some(meaning));
     let style = mark_style(Some(meaning));
-    let middle = Place {
+    let middle = Point {
         x: at.x + 46,
         y: at.y,
     };
@@ -144,15 +144,15 @@ fn add_name(text: &mut Vec<u8>, at: Place, meaning: &Meaning) -> Result<(), Allo
 
 /// Adds the mark of a combination without a meaning.
 #[tactic(auto, unfolding(crate::specs::Document::nothing_text))]
-fn add_nothing(text: &mut Vec<u8>, at: Place) -> Result<(), AllocError>
+fn add_nothing(text: &mut Vec<u8>, at: Point) -> Result<(), AllocError>
     requires { (at.x ≤ 1100) × (at.y ≤ 1100) }
     ensures { OnOk result (text.new.items ≡ text.old.items ++ nothing_text at) }
 {
-    let middle = Place {
+    let middle = Point {
         x: at.x + 46,
         y: at.y,
     };
-    let below = Place {
+    let below = Point {
         x: at.x + 30,
         y: at.y + 12,
     };
@@ -161,7 +161,7 @@ fn add_nothing(text: &mut Vec<u8>, at: Place) -> Result<(), AllocError>
 }
 
 /// Adds what is told of a meaning.
-fn add_told(text: &mut Vec<u8>, at: Place, told: Told) -> Result<(), AllocError>
+fn add_told(text: &mut Vec<u8>, at: Point, told: MeaningNote) -> Result<(), AllocError>
     requires { (at.x ≤ 1100) × (at.y ≤ 1100) }
     ensures { OnOk result (text.new.items ≡ text.old.items ++ told_text at told) }
 {
@@ -171,16 +171,16 @@ fn add_told(text: &mut Vec<u8>, at: Place, told: Told) -> Result<(), AllocError>
 
 /// A combination and where what is said of it stands.
 #[derive(Clone, Copy)]
-struct Spot {
+struct ChartSpot {
     frame: u8,
-    at: Place,
+    at: Point,
 }
 
 /// Adds what is said of a meaning of a frame.
 fn add_said(
     text: &mut Vec<u8>,
     sheet: &Sheet<'_>,
-    spot: Spot,
+    spot: ChartSpot,
     meaning: Option<&Meaning>,
 ) -> Result<(), AllocError>
     requires { (spot.at.x ≤ 1100) × (spot.at.y ≤ 1100) }
@@ -209,7 +209,7 @@ fn card_lead(meaning: Option<&Meaning>) -> &'static str
 
 /// Adds the card of a cell.
 #[tactic(auto, unfolding(crate::specs::Document::card_text))]
-fn add_card(text: &mut Vec<u8>, meaning: Option<&Meaning>, at: Place) -> Result<(), AllocError>
+fn add_card(text: &mut Vec<u8>, meaning: Option<&Meaning>, at: Point) -> Result<(), AllocError>
     ensures { OnOk result (text.new.items ≡ text.old.items ++ card_text (option_copied meaning.entry) at) }
 {
     add_lead(text, card_lead(meaning), at)?;
@@ -218,15 +218,15 @@ fn add_card(text: &mut Vec<u8>, meaning: Option<&Meaning>, at: Place) -> Result<
 
 /// Adds the paper of a combination with its holes.
 #[tactic(auto, unfolding(crate::specs::Document::paper_text))]
-fn add_strip(text: &mut Vec<u8>, frame: u8, at: Place) -> Result<(), AllocError>
+fn add_strip(text: &mut Vec<u8>, frame: u8, at: Point) -> Result<(), AllocError>
     requires { (frame < 64) × (at.x ≤ 1000) × (at.y ≤ 1000) }
     ensures { OnOk result (text.new.items ≡ text.old.items ++ paper_text frame at) }
 {
-    let paper = Place {
+    let paper = Point {
         x: at.x + 6,
         y: at.y + 6,
     };
-    let column = Place {
+    let column = Point {
         x: at.x + 15,
         y: at.y + 6,
     };
@@ -238,11 +238,11 @@ fn add_strip(text: &mut Vec<u8>, frame: u8, at: Place) -> Result<(), AllocError>
 
 /// Adds its number below them.
 #[tactic(auto, unfolding(crate::specs::Document::number_text))]
-fn add_frame_number(text: &mut Vec<u8>, frame: u8, at: Place) -> Result<(), AllocError>
+fn add_frame_number(text: &mut Vec<u8>, frame: u8, at: Point) -> Result<(), AllocError>
     requires { (at.x ≤ 1000) × (at.y ≤ 1000) }
     ensures { OnOk result (text.new.items ≡ text.old.items ++ number_text frame at) }
 {
-    let below = Place {
+    let below = Point {
         x: at.x + 15,
         y: at.y + 76,
     };
@@ -262,7 +262,7 @@ fn add_group(text: &mut Vec<u8>, number: u64) -> Result<(), AllocError>
 
 /// Adds what begins the drawing of a cell.
 #[tactic(auto, unfolding(crate::specs::Document::view_text))]
-fn add_view(text: &mut Vec<u8>, number: u64, at: Place) -> Result<(), AllocError>
+fn add_view(text: &mut Vec<u8>, number: u64, at: Point) -> Result<(), AllocError>
     ensures { OnOk result (text.new.items ≡ text.old.items ++ view_text number at) }
 {
     add_count(text, "<svg id='frame", number)?;
@@ -271,22 +271,22 @@ fn add_view(text: &mut Vec<u8>, number: u64, at: Place) -> Result<(), AllocError
 }
 
 /// Adds what begins a cell.
-fn add_open(text: &mut Vec<u8>, page: Page, frame: u8, at: Place) -> Result<(), AllocError>
+fn add_open(text: &mut Vec<u8>, page: DrawingForm, frame: u8, at: Point) -> Result<(), AllocError>
     ensures { OnOk result (text.new.items ≡ text.old.items ++ open_text page frame at) }
 {
     match page {
-        Page::Svg => add_group(text, u64::from(frame)),
-        Page::Html => add_view(text, u64::from(frame), at),
+        DrawingForm::Svg => add_group(text, u64::from(frame)),
+        DrawingForm::Html => add_view(text, u64::from(frame), at),
     }
 }
 
 /// Adds what ends it.
-fn add_close(text: &mut Vec<u8>, page: Page) -> Result<(), AllocError>
+fn add_close(text: &mut Vec<u8>, page: DrawingForm) -> Result<(), AllocError>
     ensures { OnOk result (text.new.items ≡ text.old.items ++ close_text page) }
 {
     match page {
-        Page::Svg => text.extend_from_slice(b"</g>\n"),
-        Page::Html => text.extend_from_slice(b"</svg>\n"),
+        DrawingForm::Svg => text.extend_from_slice(b"</g>\n"),
+        DrawingForm::Html => text.extend_from_slice(b"</svg>\n"),
     }
 }
 
@@ -310,7 +310,7 @@ fn add_title(
 
 /// Adds the words of a cell, its card, its holes and its number.
 #[tactic(auto, using(crate::proofs::Chart::meaning_in_cell))]
-fn add_ground(text: &mut Vec<u8>, sheet: &Sheet<'_>, frame: u8, at: Place) -> Result<(), AllocError>
+fn add_ground(text: &mut Vec<u8>, sheet: &Sheet<'_>, frame: u8, at: Point) -> Result<(), AllocError>
     requires { (frame < 64) × (at.x ≤ 1000) × (at.y ≤ 1000) }
     ensures { OnOk result (text.new.items ≡ text.old.items ++ ground_text (cell sheet.now.widths.now (mean sheet.now.table.now) frame) at) }
 {
@@ -323,20 +323,20 @@ fn add_ground(text: &mut Vec<u8>, sheet: &Sheet<'_>, frame: u8, at: Place) -> Re
 }
 
 /// Adds both meanings of a cell.
-fn add_both(text: &mut Vec<u8>, sheet: &Sheet<'_>, frame: u8, at: Place) -> Result<(), AllocError>
+fn add_both(text: &mut Vec<u8>, sheet: &Sheet<'_>, frame: u8, at: Point) -> Result<(), AllocError>
     requires { (frame < 64) × (at.x ≤ 1000) × (at.y ≤ 1000) }
     ensures { OnOk result (text.new.items ≡ text.old.items ++ both_text (cell sheet.now.widths.now (mean sheet.now.table.now) frame) at) }
 {
-    let above = Spot {
+    let above = ChartSpot {
         frame,
-        at: Place {
+        at: Point {
             x: at.x,
             y: at.y + 26,
         },
     };
-    let below = Spot {
+    let below = ChartSpot {
         frame,
-        at: Place {
+        at: Point {
             x: at.x,
             y: at.y + 60,
         },

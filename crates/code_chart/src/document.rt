@@ -13,7 +13,7 @@ use crate::texts::{
 };
 use code_table::CodeTable;
 use std::alloc::{AllocError, Global};
-use tape_drawing::{Page, Place, Style, add_escaped, add_words, page_lead, svg_lead};
+use tape_drawing::{DrawingForm, Point, Style, add_escaped, add_words, page_lead, svg_lead};
 use widths::Widths;
 
 /// What is to be charted: a table and widths, with the names that they were given by, and as what it is written.
@@ -25,7 +25,7 @@ pub struct ChartOrder<'a> {
     pub table_name: &'a str,
     /// What the width file is called.
     pub widths_name: &'a str,
-    pub page: Page,
+    pub page: DrawingForm,
 }
 
 /// The title.
@@ -47,25 +47,25 @@ fn add_legend(text: &mut Vec<u8>) -> Result<(), AllocError>
     add_words(
         text,
         Style::Head,
-        Place { x: 20, y: 52 },
+        Point { x: 20, y: 52 },
         first_legend().as_bytes(),
     )?;
     add_words(
         text,
         Style::Head,
-        Place { x: 20, y: 70 },
+        Point { x: 20, y: 70 },
         second_legend().as_bytes(),
     )?;
     add_words(
         text,
         Style::Head,
-        Place { x: 20, y: 88 },
+        Point { x: 20, y: 88 },
         third_legend().as_bytes(),
     )?;
     add_words(
         text,
         Style::Head,
-        Place { x: 20, y: 104 },
+        Point { x: 20, y: 104 },
         fourth_legend().as_bytes(),
     )
 }
@@ -88,7 +88,7 @@ fn add_svg_head(text: &mut Vec<u8>, title: &[u8]) -> Result<(), AllocError>
 {
     text.extend_from_slice(style().as_bytes())?;
     text.extend_from_slice(svg_ground().as_bytes())?;
-    add_words(text, Style::Heading, Place { x: 20, y: 30 }, title)?;
+    add_words(text, Style::Heading, Point { x: 20, y: 30 }, title)?;
     add_legend(text)
 }
 
@@ -119,13 +119,13 @@ fn add_chart(text: &mut Vec<u8>, sheet: &Sheet<'_>, title: &[u8]) -> Result<(), 
         ++ text_with sheet.now.page title.now (chart sheet.now.widths.now (mean sheet.now.table.now))) }
 {
     match sheet.page {
-        Page::Svg => {
+        DrawingForm::Svg => {
             add_svg_open(text, title)?;
             add_svg_head(text, title)?;
             add_cells(text, sheet)?;
             text.extend_from_slice(b"</svg>\n")
         }
-        Page::Html => {
+        DrawingForm::Html => {
             add_page_open(text, title)?;
             add_page_head(text, title)?;
             add_cells(text, sheet)?;

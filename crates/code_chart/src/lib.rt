@@ -8,4 +8,4 @@ mod said;
 mod texts;
 
 pub use document::{ChartOrder, draw_chart};
-pub use said::{Span, Told, tell};
+pub use said::{MeaningNote, MeaningSpan, tell};

@@ -12,7 +12,7 @@ use widths::Widths;
 
 /// How wide what a meaning puts into a line is.
 #[derive(Clone, Copy, PartialEq, Eq)]
-pub enum Span {
+pub enum MeaningSpan {
     /// Nothing goes into the line.
     Nothing,
     /// So many units.
@@ -25,37 +25,37 @@ pub enum Span {
 
 /// What is told of a meaning.
 #[derive(Clone, Copy, PartialEq, Eq)]
-pub struct Told {
+pub struct MeaningNote {
     /// How wide it is.
-    pub span: Span,
+    pub span: MeaningSpan,
     /// The first other frame with the same meaning, in either case.
     pub twin: Option<u8>,
 }
 
 /// The span of a matrix.
-fn matrix_span(widths: &Widths, name: &Name) -> Span
+fn matrix_span(widths: &Widths, name: &Name) -> MeaningSpan
     ensures { result ≡ span_of widths.now (Meaning.Matrix name.now) }
 {
     match widths.of_name(name) {
-        Some(width) => Span::Units(width),
-        None => Span::Lacking,
+        Some(width) => MeaningSpan::Units(width),
+        None => MeaningSpan::Lacking,
     }
 }
 
 /// The span of a meaning.
-fn span_of(widths: &Widths, meaning: &Meaning) -> Span
+fn span_of(widths: &Widths, meaning: &Meaning) -> MeaningSpan
     ensures { result ≡ span_of widths.now meaning.now }
 {
     match meaning {
         Meaning::Matrix(name) => matrix_span(widths, name),
-        Meaning::Spaceband => Span::Between {
+        Meaning::Spaceband => MeaningSpan::Between {
             least: widths.band_min(),
             greatest: widths.band_max(),
         },
-        Meaning::Thin => Span::Units(widths.thin()),
-        Meaning::En => Span::Units(widths.en()),
-        Meaning::Em => Span::Units(widths.em()),
-        _ => Span::Nothing,
+        Meaning::Thin => MeaningSpan::Units(widths.thin()),
+        Meaning::En => MeaningSpan::Units(widths.en()),
+        Meaning::Em => MeaningSpan::Units(widths.em()),
+        _ => MeaningSpan::Nothing,
     }
 }
 
@@ -112,10 +112,10 @@ fn twin_of(table: &CodeTable, frame: u8, word: &[u8]) -> Option<u8>
 }
 
 /// Tells of a meaning that a frame has how wide it is, and which other frame has it too.
-pub fn tell(table: &CodeTable, widths: &Widths, frame: u8, meaning: &Meaning) -> Told
+pub fn tell(table: &CodeTable, widths: &Widths, frame: u8, meaning: &Meaning) -> MeaningNote
     ensures { result ≡ tell widths.now (mean table.now) frame meaning.now }
 {
-    Told {
+    MeaningNote {
         span: span_of(widths, meaning),
         twin: twin_of(table, frame, meaning_word(Some(meaning))),
     }

@@ -15,12 +15,12 @@ use Rattle.code_table.specs.declared.case.Case.{Case}
 use Rattle.code_table.specs.declared.case.Case.TheVariants as cases
 use Rattle.code_table.specs.Entries.{Keys, ◌>>=◌, wanted, holds, frame_of, keys_of, free_frame, columns_of, read_entry}
 use Rattle.code_table.specs.Reading.{entry_among, is_taken, places_from, places_of, count, item_at, first_entries, read_places}
-use Rattle.code_table.specs.declared.entry.Entry.{Entry}
+use Rattle.code_table.specs.declared.entry.FrameMeanings.{FrameMeanings}
 use Rattle.code_table.specs.declared.fault.TableFault.{TableFault}
 use Rattle.code_table.specs.declared.fault.TableFault.TheVariants.{WrongType, BadFrame, DuplicateFrame}
 
 abbrev pub Entries : Type 0
-Entries = List (ℕ × Entry)
+Entries = List (ℕ × FrameMeanings)
 
 -- a test that found nothing
 none_after : {A : Type 0} (test : Bool) (x : A) (rest : Option A) → cond test (Some x) rest ≡ None → (test ≡ false) × (rest ≡ None)
@@ -37,19 +37,19 @@ differ : (a b c : ℕ) → (a == b) ≡ false → (a == c) ≡ true → (b == c)
 differ a b c h e f = grind (arith, nat_tests)
 
 -- an entry more, of a frame that none had
-among_more : (entries : Entries) (frame : ℕ) (entry : Entry) (asked : ℕ) → entry_among entries frame ≡ None → entry_among (entries ++ (frame, entry) ∷ []) asked ≡ cond (frame == asked) (Some entry) (entry_among entries asked)
+among_more : (entries : Entries) (frame : ℕ) (entry : FrameMeanings) (asked : ℕ) → entry_among entries frame ≡ None → entry_among (entries ++ (frame, entry) ∷ []) asked ≡ cond (frame == asked) (Some entry) (entry_among entries asked)
 among_more [] frame entry asked h = refl
 among_more (first ∷ rest) frame entry asked h =
     let parts = none_after (first.0 == frame) first.1 (entry_among rest frame) h in
     rw (among_more rest frame entry asked parts.1)
     (crossed (first.0 == asked) (frame == asked) (Some first.1) (Some entry) (entry_among rest asked) (differ first.0 frame asked parts.0))
 
-among_other : (entries : Entries) (frame : ℕ) (entry : Entry) (asked : ℕ) → entry_among entries frame ≡ None → frame ≢ asked → entry_among (entries ++ (frame, entry) ∷ []) asked ≡ entry_among entries asked
+among_other : (entries : Entries) (frame : ℕ) (entry : FrameMeanings) (asked : ℕ) → entry_among entries frame ≡ None → frame ≢ asked → entry_among (entries ++ (frame, entry) ∷ []) asked ≡ entry_among entries asked
 among_other entries frame entry asked h apart =
     let test : (frame == asked) ≡ false = grind (arith, nat_tests) in
     rw test at (among_more entries frame entry asked h)
 
-among_same : (entries : Entries) (frame : ℕ) (entry : Entry) (asked : ℕ) → entry_among entries frame ≡ None → frame ≡ asked → entry_among (entries ++ (frame, entry) ∷ []) asked ≡ Some entry
+among_same : (entries : Entries) (frame : ℕ) (entry : FrameMeanings) (asked : ℕ) → entry_among entries frame ≡ None → frame ≡ asked → entry_among (entries ++ (frame, entry) ∷ []) asked ≡ Some entry
 among_same entries frame entry asked h same =
     let test : (frame == asked) ≡ true = grind (arith, nat_tests) in
     rw test at (among_more entries frame entry asked h)
@@ -60,13 +60,13 @@ get_places entries start (suc many) zero lt = rw add-zero refl
 get_places entries start (suc many) (suc at) lt = get_places entries (suc start) many at (omega arith) ∙ ap (λ f. Some (entry_among entries f)) {x = suc start + at} {y = start + suc at} (omega arith)
 
 -- the places above the frame stay
-places_above : (entries : Entries) (frame : ℕ) (entry : Entry) (start many : ℕ) → entry_among entries frame ≡ None → frame < start → places_from start many (entries ++ (frame, entry) ∷ []) ≡ places_from start many entries
+places_above : (entries : Entries) (frame : ℕ) (entry : FrameMeanings) (start many : ℕ) → entry_among entries frame ≡ None → frame < start → places_from start many (entries ++ (frame, entry) ∷ []) ≡ places_from start many entries
 places_above entries frame entry start zero h lt = refl
 places_above entries frame entry start (suc many) h lt =
     rw (among_other entries frame entry start h (omega arith), places_above entries frame entry (suc start) many h (omega arith)) refl
 
 -- one place is filled
-places_more : (entries : Entries) (frame : ℕ) (entry : Entry) (start many at : ℕ) → entry_among entries frame ≡ None → frame ≡ start + at → at < many → places_from start many (entries ++ (frame, entry) ∷ []) ≡ slice_set (places_from start many entries) at (Some entry)
+places_more : (entries : Entries) (frame : ℕ) (entry : FrameMeanings) (start many at : ℕ) → entry_among entries frame ≡ None → frame ≡ start + at → at < many → places_from start many (entries ++ (frame, entry) ∷ []) ≡ slice_set (places_from start many entries) at (Some entry)
 places_more entries frame entry start zero at h is lt = absurd (omega arith)
 places_more entries frame entry start (suc many) zero h is lt =
     rw (among_same entries frame entry start h (omega arith), places_above entries frame entry (suc start) many h (omega arith)) refl
@@ -96,7 +96,7 @@ free_frame-same t u agree place number = go (frame_of number) (frame_small numbe
     go (Some frame) small = rw (agree frame (small frame refl)) refl
 
 -- what is read of an entry after its keys
-abbrev after_keys : (ℕ → Bool) → ℕ → Keys → Result (ℕ × Entry) TableFault
+abbrev after_keys : (ℕ → Bool) → ℕ → Keys → Result (ℕ × FrameMeanings) TableFault
 after_keys is_taken place keys = do
   frame ← free_frame is_taken place keys.frame
   entry ← columns_of place keys.unshift keys.shift
@@ -113,7 +113,7 @@ read_entry-same t u agree place code = go (keys_of code)
 untaken_none : (entries : Entries) (frame : ℕ) → is_taken entries frame ≡ false → entry_among entries frame ≡ None
 untaken_none entries frame h = none_of (entry_among entries frame) h
   where
-    none_of : (o : Option Entry) → is_some o ≡ false → o ≡ None
+    none_of : (o : Option FrameMeanings) → is_some o ≡ false → o ≡ None
     none_of None h = refl
     none_of (Some entry) h = absurd cc
 
@@ -121,7 +121,7 @@ untaken_none entries frame h = none_of (entry_among entries frame) h
 abbrev AllFit : Entries → Type 0
 AllFit = AllByRecursion (λ e. may_stand e.1.unshift e.1.shift ≡ true)
 
-all_fit_more : (entries : Entries) (frame : ℕ) (entry : Entry) → AllFit entries → may_stand entry.unshift entry.shift ≡ true → AllFit (entries ++ (frame, entry) ∷ [])
+all_fit_more : (entries : Entries) (frame : ℕ) (entry : FrameMeanings) → AllFit entries → may_stand entry.unshift entry.shift ≡ true → AllFit (entries ++ (frame, entry) ∷ [])
 all_fit_more [] frame entry fit h = (h, tt)
 all_fit_more (first ∷ rest) frame entry fit h = (fit.0, all_fit_more rest frame entry fit.1 h)
 
@@ -136,7 +136,7 @@ same_case (Some cases.Unshift) (Some cases.Shift) h = absurd cc
 same_case (Some cases.Shift) (Some cases.Unshift) h = absurd cc
 same_case (Some cases.Shift) (Some cases.Shift) h = refl
 
-column_alike : (entry : Entry) (c : Case) → may_stand entry.unshift entry.shift ≡ true → case_of (Some (in_column c entry)) ≡ case_of (Some entry.unshift)
+column_alike : (entry : FrameMeanings) (c : Case) → may_stand entry.unshift entry.shift ≡ true → case_of (Some (in_column c entry)) ≡ case_of (Some entry.unshift)
 unfolding may_stand
 column_alike entry cases.Unshift h = refl
 column_alike entry cases.Shift h = same_case (case_of (Some entry.unshift)) (case_of (Some entry.shift)) h
@@ -206,7 +206,7 @@ module _ (codes : List Value) (places : Places) (index : ℕ) (so_far : ReadSoFa
   pub stops : (e : TableFault) → read_entry (is_placed places) (index + 1) (view (get_or codes index d)) ≡ Err e → read_places (items_view codes) ≡ Err e
   stops e h = fault_of_all (items_view codes) (index + 1) e (omega (arith, counted codes)) (rw h at next)
 
-  pub goes_on : (frame : ℕ) (entry : Entry) → read_entry (is_placed places) (index + 1) (view (get_or codes index d)) ≡ Ok (frame, entry) → frame ≤ 63 → is_placed places frame ≡ false → may_stand entry.unshift entry.shift ≡ true → ReadSoFar codes (slice_set places frame (Some entry)) (index + 1)
+  pub goes_on : (frame : ℕ) (entry : FrameMeanings) → read_entry (is_placed places) (index + 1) (view (get_or codes index d)) ≡ Ok (frame, entry) → frame ≤ 63 → is_placed places frame ≡ false → may_stand entry.unshift entry.shift ≡ true → ReadSoFar codes (slice_set places frame (Some entry)) (index + 1)
   unfolding places_of
   goes_on frame entry h small free fit =
       let untaken : is_taken so_far.done frame ≡ false = sym (placed_taken so_far.done frame small) ∙ rw so_far.filled at free in

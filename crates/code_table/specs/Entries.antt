@@ -3,7 +3,7 @@ use Rattle.std.specs.Prelude.{ℕ, ℤ, pos, negsuc, List, Bool, codes, Option, 
 use Rattle.std.specs.Option.{option_and_then}
 use Rattle.toml.specs.Data.{Data, Items, Members, get_member, as_integer, as_str, as_array, as_table}
 use Rattle.code_table.specs.Texts.{meaning_of, may_stand}
-use Rattle.code_table.specs.declared.entry.Entry.{Entry}
+use Rattle.code_table.specs.declared.entry.FrameMeanings.{FrameMeanings}
 use Rattle.code_table.specs.declared.fault.TableFault.{TableFault}
 use Rattle.code_table.specs.declared.fault.TableFault.TheVariants.{WrongType, BadFrame, DuplicateFrame, BadMeaning, CaseCodeDiffers}
 
@@ -67,7 +67,7 @@ free_frame is_taken place number = do
   Ok frame
 
 -- the two columns of the entry at a place
-unfoldable pub columns_of : ℕ → List ℕ → List ℕ → Result Entry TableFault
+unfoldable pub columns_of : ℕ → List ℕ → List ℕ → Result FrameMeanings TableFault
 columns_of place unshift shift = do
   first ← wanted (BadMeaning place) (meaning_of unshift)
   second ← wanted (BadMeaning place) (meaning_of shift)
@@ -75,7 +75,7 @@ columns_of place unshift shift = do
   Ok (record { unshift = first; shift = second })
 
 -- the entry at a place, counted from 1, and its frame, where no earlier entry has taken that; else its first fault
-unfoldable pub read_entry : (ℕ → Bool) → ℕ → Data → Result (ℕ × Entry) TableFault
+unfoldable pub read_entry : (ℕ → Bool) → ℕ → Data → Result (ℕ × FrameMeanings) TableFault
 read_entry is_taken place code = do
   keys ← wanted (WrongType place) (keys_of code)
   frame ← free_frame is_taken place keys.frame

@@ -4,17 +4,17 @@ use Rattle.std.specs.Option.{option_and_then}
 use Rattle.toml.specs.Data.{Data, string, Items, no_items, item, Members, get_item}
 use Rattle.code_table.specs.Tables.{Places}
 use Rattle.code_table.specs.Entries.{◌>>=◌, wanted, array_at, read_entry}
-use Rattle.code_table.specs.declared.entry.Entry.{Entry}
+use Rattle.code_table.specs.declared.entry.FrameMeanings.{FrameMeanings}
 use Rattle.code_table.specs.declared.fault.TableFault.{TableFault}
 use Rattle.code_table.specs.declared.fault.TableFault.TheVariants.{NotToml, MissingCodes}
 
 -- the entry of a frame among some
-abbrev pub entry_among : List (ℕ × Entry) → ℕ → Option Entry
+abbrev pub entry_among : List (ℕ × FrameMeanings) → ℕ → Option FrameMeanings
 entry_among [] frame = None
 entry_among (entry ∷ rest) frame = if entry.0 == frame then Some entry.1 else entry_among rest frame
 
 -- one of these entries has this frame
-abbrev pub is_taken : List (ℕ × Entry) → ℕ → Bool
+abbrev pub is_taken : List (ℕ × FrameMeanings) → ℕ → Bool
 is_taken earlier frame = is_some (entry_among earlier frame)
 
 -- how many items there are
@@ -27,7 +27,7 @@ abbrev pub item_at : Items → ℕ → Data
 item_at items place = unwrap_or (get_item place items) (string [])
 
 -- the entries of the first so many items, each read beside those before it; or their first fault
-abbrev pub first_entries : Items → ℕ → Result (List (ℕ × Entry)) TableFault
+abbrev pub first_entries : Items → ℕ → Result (List (ℕ × FrameMeanings)) TableFault
 first_entries codes zero = Ok []
 first_entries codes (suc n) = do
   earlier ← first_entries codes n
@@ -35,12 +35,12 @@ first_entries codes (suc n) = do
   Ok (earlier ++ entry ∷ [])
 
 -- the places of so many frames from this one on, each with its entry among these
-abbrev pub places_from : ℕ → ℕ → List (ℕ × Entry) → Places
+abbrev pub places_from : ℕ → ℕ → List (ℕ × FrameMeanings) → Places
 places_from frame zero entries = []
 places_from frame (suc more) entries = entry_among entries frame ∷ places_from (suc frame) more entries
 
 -- the places of all 64 frames
-unfoldable pub places_of : List (ℕ × Entry) → Places
+unfoldable pub places_of : List (ℕ × FrameMeanings) → Places
 places_of entries = places_from 0 64 entries
 
 -- the places of an array's entries, or their first fault

@@ -5,14 +5,14 @@ use Rattle.code_table.specs.declared.case.Case.{Case}
 use Rattle.code_table.specs.declared.case.Case.TheVariants.{Unshift, Shift}
 use Rattle.code_table.specs.declared.meaning.Meaning.{Meaning}
 use Rattle.code_table.specs.declared.meaning.Meaning.TheVariants as meanings
-use Rattle.code_table.specs.declared.entry.Entry.{Entry}
+use Rattle.code_table.specs.declared.entry.FrameMeanings.{FrameMeanings}
 
 -- the 64 places of a table: at each frame its entry, where it has one
 abbrev pub Places : Type 0
-Places = List (Option Entry)
+Places = List (Option FrameMeanings)
 
 -- the entry of a frame, where the table has one
-abbrev pub entry_of : Places → ℕ → Option Entry
+abbrev pub entry_of : Places → ℕ → Option FrameMeanings
 entry_of table frame = option_flatten (slice_get table frame)
 
 -- there is an entry of this frame
@@ -20,7 +20,7 @@ abbrev pub is_placed : Places → ℕ → Bool
 is_placed table frame = is_some (entry_of table frame)
 
 -- what an entry has in the column of a case
-abbrev pub in_column : Case → Entry → Meaning
+abbrev pub in_column : Case → FrameMeanings → Meaning
 in_column Unshift entry = entry.unshift
 in_column Shift entry = entry.shift
 

@@ -8,7 +8,7 @@ ghost use Rattle.code_table.specs.Entries.{free_frame, columns_of, read_entry};
 ghost use Rattle.code_table.specs.Reading.{codes_in, read_places};
 ghost use Rattle.code_table.specs.declared.fault.TableFault.TheVariants.{OutOfMemory};
 
-use crate::entry::Entry;
+use crate::entry::FrameMeanings;
 use crate::fault::TableFault;
 use crate::keys::{array_at, frame_of, keys_of};
 use crate::meaning::Meaning;
@@ -20,7 +20,7 @@ use toml::{Table, Value};
 pub const FRAMES: usize = 64;
 
 /// Whether there is an entry at the frame.
-fn is_placed(places: &[Option<Entry>], frame: u8) -> bool
+fn is_placed(places: &[Option<FrameMeanings>], frame: u8) -> bool
     ensures { result ≡ is_placed places.now frame }
 {
     matches!(places.get(usize::from(frame)), Some(Some(_)))
@@ -28,7 +28,7 @@ fn is_placed(places: &[Option<Entry>], frame: u8) -> bool
 
 /// The frame of the entry at this place, where no earlier entry stands at it.
 #[tactic(auto, unfolding(crate::specs::Entries::free_frame))]
-fn free_frame(places: &[Option<Entry>], place: usize, number: i64) -> Result<u8, TableFault>
+fn free_frame(places: &[Option<FrameMeanings>], place: usize, number: i64) -> Result<u8, TableFault>
     ensures value { result ≡ free_frame (is_placed places.now) place number }
     ensures small { IfOk result (λ frame. frame ≤ 63) }
     ensures free { IfOk result (λ frame. is_placed places.now frame ≡ false) }
@@ -42,7 +42,7 @@ fn free_frame(places: &[Option<Entry>], place: usize, number: i64) -> Result<u8,
 
 /// The two columns of the entry at this place.
 #[tactic(auto, unfolding(crate::specs::Entries::columns_of))]
-fn columns_of(place: usize, unshift: &str, shift: &str) -> Result<Entry, TableFault>
+fn columns_of(place: usize, unshift: &str, shift: &str) -> Result<FrameMeanings, TableFault>
     ensures value { result ≡ columns_of place unshift.now shift.now }
     ensures fit { IfOk result (λ entry. may_stand entry.unshift entry.shift ≡ true) }
 {
@@ -51,16 +51,16 @@ fn columns_of(place: usize, unshift: &str, shift: &str) -> Result<Entry, TableFa
     if !Meaning::may_stand(&unshift, &shift) {
         return Err(TableFault::CaseCodeDiffers { entry: place });
     }
-    Ok(Entry { unshift, shift })
+    Ok(FrameMeanings { unshift, shift })
 }
 
 /// The entry at this place, counted from 1, and its frame, at which no earlier entry stands.
 #[tactic(auto, unfolding(crate::specs::Entries::read_entry))]
 fn read_entry(
-    places: &[Option<Entry>],
+    places: &[Option<FrameMeanings>],
     place: usize,
     code: &Value,
-) -> Result<(u8, Entry), TableFault>
+) -> Result<(u8, FrameMeanings), TableFault>
     ensures value { result ≡ read_entry (is_placed places.now) place (view code.now) }
     ensures small { IfOk result (λ read. read.0 ≤ 63) }
     ensures free { IfOk result (λ read. is_placed places.now read.0 ≡ false) }
@@ -73,7 +73,7 @@ fn read_entry(
 }
 
 /// The places of a table without entries.
-fn no_entries(alloc: Global) -> Result<Vec<Option<Entry>>, AllocError>
+fn no_entries(alloc: Global) -> Result<Vec<Option<FrameMeanings>>, AllocError>
     ensures { IfOk result (λ v. v.items ≡ replicate 64 None) }
 {
     let mut places = Vec::with_capacity(alloc, FRAMES)?;
@@ -95,7 +95,7 @@ pub fn codes_in(document: &Table) -> Result<&Array, TableFault>
 }
 
 /// The places of all frames, each with its entry among those of the array.
-pub fn read_places(alloc: Global, codes: &Array) -> Result<Vec<Option<Entry>>, TableFault>
+pub fn read_places(alloc: Global, codes: &Array) -> Result<Vec<Option<FrameMeanings>>, TableFault>
     ensures ok { IfOk result (λ places. read_places (array_view codes.now) ≡ Ok places.items) }
     ensures full { IfOk result (λ places. length places.items ≡ 64) }
     ensures alike { IfOk result (λ places. AreAlike places.items) }

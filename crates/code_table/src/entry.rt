@@ -6,7 +6,7 @@ use crate::meaning::Meaning;
 
 /// The two meanings of a frame.
 #[derive(Drop)]
-pub struct Entry {
+pub struct FrameMeanings {
     /// What it means in the first case.
     pub unshift: Meaning,
     /// What it means in the second.
@@ -14,12 +14,12 @@ pub struct Entry {
 }
 
 /// The same entry once more, where there is one. It takes no memory.
-pub(crate) fn copied(entry: &Option<Entry>) -> Option<Entry>
+pub(crate) fn copied(entry: &Option<FrameMeanings>) -> Option<FrameMeanings>
     ensures { result ≡ entry.now }
 {
     match entry {
         None => None,
-        Some(entry) => Some(Entry {
+        Some(entry) => Some(FrameMeanings {
             unshift: entry.unshift.copy(),
             shift: entry.shift.copy(),
         }),

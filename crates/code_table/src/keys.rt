@@ -10,7 +10,7 @@ use toml::{Table, Value};
 
 /// The three keys of an entry as they are written.
 #[derive(Drop)]
-pub struct Keys<'a> {
+pub struct EntryKeys<'a> {
     pub frame: i64,
     pub unshift: &'a str,
     pub shift: &'a str,
@@ -59,10 +59,10 @@ pub fn array_at<'a>(keys: &'a Table, key: &str) -> Option<&'a Array>
 
 /// The three keys of a table, where all are there and of their types.
 #[tactic(auto, unfolding(crate::specs::Entries::keys_in))]
-fn keys_in(keys: &Table) -> Option<Keys<'_>>
+fn keys_in(keys: &Table) -> Option<EntryKeys<'_>>
     ensures { option_map (λ w. record { frame = w.frame; unshift = w.unshift.now; shift = w.shift.now }) result ≡ keys_in (table_view keys.now) }
 {
-    Some(Keys {
+    Some(EntryKeys {
         frame: integer_at(keys, "frame")?,
         unshift: text_at(keys, "unshift")?,
         shift: text_at(keys, "shift")?,
@@ -71,7 +71,7 @@ fn keys_in(keys: &Table) -> Option<Keys<'_>>
 
 /// An entry as it is written, where it is a table with the three keys.
 #[tactic(auto, unfolding(crate::specs::Entries::keys_of))]
-pub fn keys_of(code: &Value) -> Option<Keys<'_>>
+pub fn keys_of(code: &Value) -> Option<EntryKeys<'_>>
     ensures { option_map (λ w. record { frame = w.frame; unshift = w.unshift.now; shift = w.shift.now }) result ≡ keys_of (view code.now) }
 {
     match code.as_table() {

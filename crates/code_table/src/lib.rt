@@ -11,7 +11,7 @@ mod name;
 mod table;
 
 pub use case::Case;
-pub use entry::Entry;
+pub use entry::FrameMeanings;
 pub use fault::TableFault;
 pub use meaning::Meaning;
 pub use name::Name;

@@ -9,7 +9,7 @@ ghost use Rattle.code_table.specs.Tables.{mean, case_of};
 
 use crate::case::Case;
 use crate::entries::{FRAMES, codes_in, read_places};
-use crate::entry::{Entry, copied};
+use crate::entry::{FrameMeanings, copied};
 use crate::fault::TableFault;
 use crate::meaning::Meaning;
 use std::alloc::{AllocError, Global};
@@ -19,7 +19,7 @@ use toml::Table;
 /// What each of the 64 frames means in each case, a case code the same in both. Clauses see the entry of each frame, in their order.
 #[derive(Drop)]
 pub struct CodeTable {
-    places: [Option<Entry>; FRAMES],
+    places: [Option<FrameMeanings>; FRAMES],
 }
 
 impl Model for CodeTable {
@@ -48,7 +48,10 @@ fn document_of(alloc: Global, text: &str) -> Result<Table, TableFault>
 }
 
 /// The same entries once more.
-fn copied_all(alloc: Global, entries: &[Option<Entry>]) -> Result<Vec<Option<Entry>>, AllocError>
+fn copied_all(
+    alloc: Global,
+    entries: &[Option<FrameMeanings>],
+) -> Result<Vec<Option<FrameMeanings>>, AllocError>
     ensures { IfOk result (λ v. v.items ≡ entries.now) }
 {
     let mut copies = Vec::with_capacity(alloc, entries.len())?;
@@ -70,7 +73,7 @@ impl CodeTable {
     {
         let document = document_of(alloc, text)?;
         let codes = codes_in(&document)?;
-        match <[Option<Entry>; FRAMES]>::try_from(read_places(alloc, codes)?) {
+        match <[Option<FrameMeanings>; FRAMES]>::try_from(read_places(alloc, codes)?) {
             Ok(places) => Ok(CodeTable { places }),
             Err(_) => unreachable!(),
         }
@@ -80,7 +83,7 @@ impl CodeTable {
     pub fn copy(&self, alloc: Global) -> Result<CodeTable, AllocError>
         ensures { IfOk result (λ table. table ≡ self.now) }
     {
-        match <[Option<Entry>; FRAMES]>::try_from(copied_all(alloc, &self.places)?) {
+        match <[Option<FrameMeanings>; FRAMES]>::try_from(copied_all(alloc, &self.places)?) {
             Ok(places) => Ok(CodeTable { places }),
             Err(_) => unreachable!(),
         }

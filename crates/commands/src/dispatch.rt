@@ -18,7 +18,7 @@ use command_ends::{End, ScriptPaths, TapePaths};
 use command_line::{Asked, Telling, print_version};
 use draw_command::{SettingPaths, chart, draw};
 use editor_commands::StoryPaths;
-use opened_files::Opened;
+use opened_files::InputFile;
 use plant_commands::{check_config, stop};
 use reel_commands::ChartPaths;
 use rehearse_command::rehearse;
@@ -26,7 +26,7 @@ use row_files::RowFiles;
 use station_commands::{create, run, serve};
 use status_command::{Shape, status};
 use std::io::{Read, Write};
-use tape_drawing::Page;
+use tape_drawing::DrawingForm;
 
 /// Checks the tape at its path by the table and the widths at theirs.
 fn run_check<R: Read, W: Write, E: Write>(
@@ -37,8 +37,8 @@ fn run_check<R: Read, W: Write, E: Write>(
     out: &mut W,
     err: &mut E,
 ) -> End {
-    let mut table = Opened::at(rt, paths.table);
-    let mut widths = Opened::at(rt, paths.widths);
+    let mut table = InputFile::at(rt, paths.table);
+    let mut widths = InputFile::at(rt, paths.widths);
     let mut tape = Story::at(rt, paths.tape, input);
     check(
         rt.alloc(),
@@ -56,13 +56,13 @@ fn run_check<R: Read, W: Write, E: Write>(
 fn run_draw<R: Read, W: Write, E: Write>(
     rt: &HostRuntime,
     paths: &TapePaths<'_>,
-    page: Page,
+    page: DrawingForm,
     input: &mut R,
     out: &mut W,
     err: &mut E,
 ) -> End {
-    let mut table = Opened::at(rt, paths.table);
-    let mut widths = Opened::at(rt, paths.widths);
+    let mut table = InputFile::at(rt, paths.table);
+    let mut widths = InputFile::at(rt, paths.widths);
     let mut tape = Story::at(rt, paths.tape, input);
     draw(
         rt.alloc(),
@@ -80,12 +80,12 @@ fn run_draw<R: Read, W: Write, E: Write>(
 fn run_chart<W: Write, E: Write>(
     rt: &HostRuntime,
     paths: &SettingPaths<'_>,
-    page: Page,
+    page: DrawingForm,
     out: &mut W,
     err: &mut E,
 ) -> End {
-    let mut table = Opened::at(rt, paths.table);
-    let mut widths = Opened::at(rt, paths.widths);
+    let mut table = InputFile::at(rt, paths.table);
+    let mut widths = InputFile::at(rt, paths.widths);
     chart(rt.alloc(), paths, &mut table, &mut widths, page, out, err)
 }
 
@@ -96,9 +96,9 @@ fn run_rehearse<W: Write, E: Write>(
     out: &mut W,
     err: &mut E,
 ) -> End {
-    let mut table = Opened::at(rt, paths.table);
-    let mut widths = Opened::at(rt, paths.widths);
-    let mut script = Opened::at(rt, paths.script);
+    let mut table = InputFile::at(rt, paths.table);
+    let mut widths = InputFile::at(rt, paths.widths);
+    let mut script = InputFile::at(rt, paths.script);
     rehearse(
         rt.alloc(),
         paths,

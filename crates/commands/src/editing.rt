@@ -4,7 +4,7 @@ use crate::story::Story;
 use code_table::Name;
 use command_ends::{End, Fault, TapePaths};
 use editor_commands::{Form, Given, StoryPaths, fit, punch, spell};
-use opened_files::Opened;
+use opened_files::InputFile;
 use std::alloc::Global;
 use std::io::{Read, Write};
 use tape_frames::Version;
@@ -47,7 +47,7 @@ pub fn run_punch<R: Read, W: Write, E: Write>(
         Ok(ligatures) => ligatures,
         Err(error) => return tell_ligatures(error, err),
     };
-    let mut table = Opened::at(rt, paths.table);
+    let mut table = InputFile::at(rt, paths.table);
     let mut text = Story::at(rt, paths.story, input);
     punch(
         rt.alloc(),
@@ -71,7 +71,7 @@ pub fn run_spell<R: Read, W: Write, E: Write>(
     err: &mut E,
 ) -> End {
     let form = if plain { Form::Plain } else { Form::Punchable };
-    let mut table = Opened::at(rt, paths.table);
+    let mut table = InputFile::at(rt, paths.table);
     let mut tape = Story::at(rt, paths.story, input);
     spell(rt.alloc(), paths, &mut table, &mut tape, form, out, err)
 }
@@ -86,8 +86,8 @@ pub fn run_fit<R: Read, W: Write, E: Write>(
     err: &mut E,
 ) -> End {
     let given = if text { Given::Text } else { Given::Tape };
-    let mut table = Opened::at(rt, paths.table);
-    let mut widths = Opened::at(rt, paths.widths);
+    let mut table = InputFile::at(rt, paths.table);
+    let mut widths = InputFile::at(rt, paths.widths);
     let mut story = Story::at(rt, paths.tape, input);
     fit(
         rt.alloc(),

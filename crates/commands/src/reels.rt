@@ -4,7 +4,7 @@ use crate::story::Story;
 use crate::tapes::HostTapes;
 use command_ends::{End, Fault};
 use command_line::ReelPlan;
-use opened_files::Opened;
+use opened_files::InputFile;
 use reel::{Cutting, Levels, LevelsFault, levels_of, mask_of};
 use reel_commands::{ChartPaths, Reel, ReelFault, Survey, end_by, import, put_import};
 use std::alloc::Global;
@@ -83,8 +83,8 @@ pub fn run_import<R: Read, W: Write, E: Write>(
 
 /// A survey by the table and the widths at their paths.
 fn read_survey<'a>(rt: &HostRuntime, paths: &ChartPaths<'a>) -> Result<Survey, Fault<'a>> {
-    let mut table = Opened::at(rt, paths.table);
-    let mut widths = Opened::at(rt, paths.widths);
+    let mut table = InputFile::at(rt, paths.table);
+    let mut widths = InputFile::at(rt, paths.widths);
     Survey::read(rt.alloc(), paths, &mut table, &mut widths)
 }
 
@@ -95,7 +95,7 @@ fn add_tapes<'a>(
     paths: &'a [String],
 ) -> Result<(), ReelFault<'a>> {
     for path in paths {
-        let mut tape = Opened::at(rt, path.as_str());
+        let mut tape = InputFile::at(rt, path.as_str());
         survey.add(rt.alloc(), path.as_str(), &mut tape)?;
     }
     Ok(())

@@ -1,13 +1,13 @@
 //! The tape or the text that a command is given.
 
-use opened_files::Opened;
+use opened_files::InputFile;
 use std::io;
 use std::io::Read;
 
 /// A tape or a text: of a file, or of standard input.
 #[derive(Drop)]
 pub enum Story<'a, R: Read> {
-    File(Opened),
+    File(InputFile),
     Input(&'a mut R),
 }
 
@@ -17,7 +17,7 @@ impl<'a, R: Read> Story<'a, R> {
         if path == "-" {
             Story::Input(input)
         } else {
-            Story::File(Opened::at(rt, path))
+            Story::File(InputFile::at(rt, path))
         }
     }
 }

@@ -10,5 +10,5 @@ mod reach;
 pub use count::is_even;
 pub use fitting::{elevate_frame, fitting_frame};
 pub use oddity::{Oddity, oddity_of};
-pub use place::{Place, place_of};
+pub use place::{HostPlace, place_of};
 pub use reach::{Reach, reach_of};

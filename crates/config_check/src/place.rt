@@ -5,7 +5,7 @@ ghost use Rattle.config_check.specs.Places.{place_of};
 
 /// On which host the station of an address is, as this host sees it.
 #[derive(Clone, Copy, PartialEq, Eq)]
-pub enum Place {
+pub enum HostPlace {
     /// It is the station of the configuration, and its address is this host's.
     Own,
     /// It is the station of the configuration, and its address is not this host's: it can't be bound here.
@@ -17,13 +17,13 @@ pub enum Place {
 }
 
 /// Where a station is: whether it is that of the configuration, and whether its address is this host's.
-pub fn place_of(is_own: bool, is_here: bool) -> Place
+pub fn place_of(is_own: bool, is_here: bool) -> HostPlace
     ensures { result ≡ place_of is_own is_here }
 {
     match (is_own, is_here) {
-        (true, true) => Place::Own,
-        (true, false) => Place::Amiss,
-        (false, true) => Place::Beside,
-        (false, false) => Place::Away,
+        (true, true) => HostPlace::Own,
+        (true, false) => HostPlace::Amiss,
+        (false, true) => HostPlace::Beside,
+        (false, false) => HostPlace::Away,
     }
 }

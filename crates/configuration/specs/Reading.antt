@@ -7,7 +7,7 @@ use Rattle.configuration.specs.Keys.{◌>>=◌, holds, number_at, Paths, FolderP
 use Rattle.configuration.specs.Hosts.{Finds, AreFound}
 use Rattle.configuration.specs.Stations.{Found, read_stations}
 use Rattle.configuration.specs.declared.config.Config.{Config}
-use Rattle.configuration.specs.declared.config.Folders.{Folders}
+use Rattle.configuration.specs.declared.config.WorkFolders.{WorkFolders}
 use Rattle.configuration.specs.declared.fault.ConfigKey.TheVariants.{Circuit, Member}
 use Rattle.configuration.specs.declared.fault.ConfigFault.{ConfigFault}
 use Rattle.configuration.specs.declared.fault.ConfigFault.TheVariants.{NotToml, OutOfRange}
@@ -41,7 +41,7 @@ file_with circuit member paths folders catches_up key stations = record {
 }
 
 -- the paths of these folders, whether texts may be offered, whether files come only by being renamed, and the path of the status file
-abbrev pub paths_of : Folders → FolderPaths
+abbrev pub paths_of : WorkFolders → FolderPaths
 paths_of folders = folder_paths (string_bytes folders.offers) (string_bytes folders.releases) folders.text folders.renamed (option_map string_bytes folders.status)
 
 -- what this configuration says

@@ -21,7 +21,7 @@ use wire::Address;
 
 /// The folders that a station works with.
 #[derive(Drop)]
-pub struct Folders {
+pub struct WorkFolders {
     /// The path of the folder in which stories are handed over to it.
     pub offers: String,
     /// The path of the folder in which it puts what the circuit has agreed on.
@@ -46,7 +46,7 @@ pub struct Config {
     pub widths: String,
     pub rows: String,
     /// Its folders, where it has such.
-    pub folders: Option<Folders>,
+    pub folders: Option<WorkFolders>,
     /// Whether it catches up by itself with what it missed.
     pub catches_up: bool,
     /// The path of the file of keys, where its wire is sealed.
@@ -80,7 +80,7 @@ fn owned(alloc: Global, text: Option<&str>) -> Result<Option<String>, AllocError
 }
 
 /// The folders at these paths.
-fn folders_of(alloc: Global, paths: &FolderPaths<'_>) -> Result<Folders, AllocError>
+fn folders_of(alloc: Global, paths: &FolderPaths<'_>) -> Result<WorkFolders, AllocError>
     ensures { IfOk result (λ f. paths_of f ≡ folder_paths paths.now.offers.now paths.now.releases.now paths.now.text paths.now.renamed
         (option_map (λ s. s.now) paths.now.status)) }
 {
@@ -89,7 +89,7 @@ fn folders_of(alloc: Global, paths: &FolderPaths<'_>) -> Result<Folders, AllocEr
     let status = owned(alloc, paths.status)?;
     let text = paths.text;
     let renamed = paths.renamed;
-    Ok(Folders {
+    Ok(WorkFolders {
         offers,
         releases,
         text,
@@ -99,7 +99,10 @@ fn folders_of(alloc: Global, paths: &FolderPaths<'_>) -> Result<Folders, AllocEr
 }
 
 /// The folders at these paths, where there are such.
-fn folders_at(alloc: Global, paths: &Option<FolderPaths<'_>>) -> Result<Option<Folders>, AllocError>
+fn folders_at(
+    alloc: Global,
+    paths: &Option<FolderPaths<'_>>,
+) -> Result<Option<WorkFolders>, AllocError>
     ensures { IfOk result (λ f. option_map paths_of f ≡ option_map (λ p. folder_paths p.offers.now p.releases.now p.text p.renamed
         (option_map (λ s. s.now) p.status)) paths.now) }
 {
@@ -111,7 +114,7 @@ fn folders_at(alloc: Global, paths: &Option<FolderPaths<'_>>) -> Result<Option<F
 
 /// The paths of three files, and of the file of keys, with texts of their own.
 #[derive(Drop)]
-struct Files {
+struct FilePaths {
     table: String,
     widths: String,
     rows: String,
@@ -119,7 +122,7 @@ struct Files {
 }
 
 /// The files at these paths.
-fn files_of(alloc: Global, paths: &Paths<'_>, key: Option<&str>) -> Result<Files, AllocError>
+fn files_of(alloc: Global, paths: &Paths<'_>, key: Option<&str>) -> Result<FilePaths, AllocError>
     ensures table { IfOk result (λ f. string_bytes f.table ≡ paths.now.table.now) }
     ensures widths { IfOk result (λ f. string_bytes f.widths ≡ paths.now.widths.now) }
     ensures rows { IfOk result (λ f. string_bytes f.rows ≡ paths.now.rows.now) }
@@ -129,7 +132,7 @@ fn files_of(alloc: Global, paths: &Paths<'_>, key: Option<&str>) -> Result<Files
     let widths = paths.widths.to_string(alloc)?;
     let rows = paths.rows.to_string(alloc)?;
     let key = owned(alloc, key)?;
-    Ok(Files {
+    Ok(FilePaths {
         table,
         widths,
         rows,
@@ -146,14 +149,19 @@ struct Own {
 }
 
 /// The configuration of these.
-fn config_of(own: Own, files: Files, folders: Option<Folders>, stations: Vec<Address>) -> Config
+fn config_of(
+    own: Own,
+    files: FilePaths,
+    folders: Option<WorkFolders>,
+    stations: Vec<Address>,
+) -> Config
     ensures value { file_of result ≡ file_with own.circuit own.member
         (three_paths (string_bytes files.table) (string_bytes files.widths) (string_bytes files.rows)) (option_map paths_of folders) own.catches_up (option_map string_bytes files.key)
         stations.items }
     ensures member { result.member ≡ own.member }
     ensures stations { result.stations ≡ stations }
 {
-    let Files {
+    let FilePaths {
         table,
         widths,
         rows,

@@ -19,7 +19,7 @@ const LAST_PORT: u16 = 65535;
 
 /// An entry of the stations.
 #[derive(Clone, Copy)]
-pub(crate) struct Entry<'a> {
+pub(crate) struct StationEntry<'a> {
     /// Its place among them, from 1.
     pub(crate) place: usize,
     /// What was found for the name of its host, if it has one.
@@ -49,7 +49,7 @@ fn spelled_ip(value: &Value) -> Option<[u8; 4]>
 }
 
 /// What was found for the name that a value is.
-fn named_ip(entry: &Entry<'_>, value: &Value) -> Result<[u8; 4], ConfigFault>
+fn named_ip(entry: &StationEntry<'_>, value: &Value) -> Result<[u8; 4], ConfigFault>
     ensures { result ≡ ip_of_either entry.now.place entry.now.found None (Some (view value.now)) }
 {
     if value.as_str().is_none() {
@@ -60,7 +60,7 @@ fn named_ip(entry: &Entry<'_>, value: &Value) -> Result<[u8; 4], ConfigFault>
 
 /// The IP address of an entry with these keys: the one at `ip`, or the one that was found for the name at `host`. It has one of the two.
 #[tactic(auto, unfolding(crate::specs::Stations::ip_in))]
-fn ip_in(entry: &Entry<'_>, keys: &Table) -> Result<[u8; 4], ConfigFault>
+fn ip_in(entry: &StationEntry<'_>, keys: &Table) -> Result<[u8; 4], ConfigFault>
     ensures { result ≡ ip_in entry.now.place entry.now.found (table_view keys.now) }
 {
     match (value_of(keys, "ip"), value_of(keys, "host")) {
@@ -81,7 +81,7 @@ fn member_in(entry: &Table, members: u16) -> Option<Member>
 
 /// The address of an entry: a table with the keys `member`, which is one of so many, `port`, and `ip` or `host`.
 #[tactic(auto, unfolding(crate::specs::Stations::address_of))]
-pub(crate) fn address_of(members: u16, entry: &Entry<'_>) -> Result<Address, ConfigFault>
+pub(crate) fn address_of(members: u16, entry: &StationEntry<'_>) -> Result<Address, ConfigFault>
     requires { members ≤ most_members }
     ensures { result ≡ address_of members entry.now.place entry.now.found (view entry.now.value.now) }
 {

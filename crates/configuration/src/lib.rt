@@ -11,7 +11,7 @@ mod hosts;
 mod keys;
 mod stations;
 
-pub use config::{Config, Folders};
+pub use config::{Config, WorkFolders};
 pub use config_file::{ConfigInput, read_config};
 pub use fault::{ConfigFault, ConfigKey};
 pub use faults::faults_of;

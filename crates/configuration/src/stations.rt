@@ -6,7 +6,7 @@ ghost use Rattle.toml.specs.View.{view, array_view};
 ghost use Rattle.configuration.specs.Stations.{AreInOrder, are_at_odds, is_taken, found_at, read_entry, addresses_of, address_among, in_order, read_stations};
 ghost use Rattle.configuration.specs.declared.fault.ConfigFault.TheVariants.{OutOfMemory};
 
-use crate::entry::{Entry, address_of};
+use crate::entry::{StationEntry, address_of};
 use crate::fault::ConfigFault;
 use std::alloc::{AllocError, Global};
 use toml::Value;
@@ -29,7 +29,11 @@ fn is_taken(earlier: &[Address], address: &Address) -> bool
 
 /// The address of an entry, where none of the earlier is at odds with it.
 #[tactic(auto, unfolding(crate::specs::Stations::read_entry))]
-fn read_entry(members: u16, earlier: &[Address], entry: &Entry<'_>) -> Result<Address, ConfigFault>
+fn read_entry(
+    members: u16,
+    earlier: &[Address],
+    entry: &StationEntry<'_>,
+) -> Result<Address, ConfigFault>
     requires { members ≤ most_members }
     ensures { result ≡ read_entry members earlier.now entry.now.place entry.now.found (view entry.now.value.now) }
 {
@@ -63,7 +67,7 @@ fn read_entries(
     let members = entries.len() as u16;
     let mut addresses = Vec::with_capacity(alloc, entries.len())?;
     for (index, value) in entries.iter().enumerate() {
-        let entry = Entry {
+        let entry = StationEntry {
             place: index + 1,
             found: found_at(found, index),
             value,

@@ -5,7 +5,7 @@ use Rattle.std.proofs.KnownBytes.{Appends-kept}
 use Rattle.line_check.specs.declared.fault.SetFault.{SetFault}
 use Rattle.streams.specs.Fronts.{AppendsFront}
 use Rattle.streams.proofs.Fronts.{front_of_all}
-use Rattle.tape_drawing.specs.declared.page.Page.{Page}
+use Rattle.tape_drawing.specs.declared.page.DrawingForm.{DrawingForm}
 use Rattle.tape_drawing.specs.Document.{Called}
 use Rattle.command_ends.specs.declared.end.End.{End}
 use Rattle.command_ends.specs.declared.end.End.TheVariants.{Done, Input}
@@ -22,13 +22,13 @@ mapped (Some ts) None tape P Q f h = tt
 mapped (Some ts) (Some ws) None P Q f h = tt
 mapped (Some ts) (Some ws) (Some xs) P Q f h = f ts ws xs h
 
-drawn_by : (called : Called) (ts ws xs : List ℕ) (page : Page) (fault : Option SetFault) (end : End) (old new : Option (List ℕ)) → end ≡ end_by fault
+drawn_by : (called : Called) (ts ws xs : List ℕ) (page : DrawingForm) (fault : Option SetFault) (end : End) (old new : Option (List ℕ)) → end ≡ end_by fault
     → IsDrawingOf called ts ws xs page fault (Appends old new) → Draws called ts ws xs page end old new
 drawn_by called ts ws xs page None end old new is d = Whole is d
 drawn_by called ts ws xs page (Some fault) end old new is d = Unset fault is d
 
 -- a drawing that was written ends the command by the fault of its tape
-pub drawn : (called : Called) (table widths tape : Option (List ℕ)) (page : Page) (fault : Option SetFault) (end : End) (old new : Option (List ℕ)) → end ≡ end_by fault
+pub drawn : (called : Called) (table widths tape : Option (List ℕ)) (page : DrawingForm) (fault : Option SetFault) (end : End) (old new : Option (List ℕ)) → end ≡ end_by fault
     → IfKnown table widths tape (λ ts ws xs. IsDrawingOf called ts ws xs page fault (Appends old new))
     → IfKnown table widths tape (λ ts ws xs. Draws called ts ws xs page end old new)
 drawn called table widths tape page fault end old new is h =
@@ -38,19 +38,19 @@ input_is_not_done : ¬ (Input ≡ Done)
 input_is_not_done e = cc
 
 -- where it ends well there is no fault
-pub whole : (called : Called) (table widths tape : Option (List ℕ)) (page : Page) (fault : Option SetFault) (end : End) (old new : Option (List ℕ)) → end ≡ end_by fault → end ≡ Done
+pub whole : (called : Called) (table widths tape : Option (List ℕ)) (page : DrawingForm) (fault : Option SetFault) (end : End) (old new : Option (List ℕ)) → end ≡ end_by fault → end ≡ Done
     → IfKnown table widths tape (λ ts ws xs. IsDrawingOf called ts ws xs page fault (Appends old new))
     → IfKnown table widths tape (λ ts ws xs. IsDrawingOf called ts ws xs page None (Appends old new))
 whole called table widths tape page None end old new is well h = h
 whole called table widths tape page (Some fault) end old new is well h = absurd (input_is_not_done (sym is ∙ well))
 
-broken_off : (called : Called) (ts ws xs : List ℕ) (page : Page) (end : End) (old new : Option (List ℕ)) → ¬ (end ≡ Done)
+broken_off : (called : Called) (ts ws xs : List ℕ) (page : DrawingForm) (end : End) (old new : Option (List ℕ)) → ¬ (end ≡ Done)
     → BreaksOff ((fault : Option SetFault) × IsDrawingOf called ts ws xs page fault (AppendsFront old new)) end old new → Draws called ts ws xs page end old new
 broken_off called ts ws xs page end old new fails (inl none) = Unwritten none.0 fails none.1
 broken_off called ts ws xs page end old new fails (inr front) = Cut front.1.0 front.0 front.1.1
 
 -- a command that breaks off ends by what broke it off
-pub broken : (called : Called) (table widths tape : Option (List ℕ)) (page : Page) (end : End) (old new : Option (List ℕ)) → ¬ (end ≡ Done)
+pub broken : (called : Called) (table widths tape : Option (List ℕ)) (page : DrawingForm) (end : End) (old new : Option (List ℕ)) → ¬ (end ≡ Done)
     → IfKnown table widths tape (λ ts ws xs. BreaksOff ((fault : Option SetFault) × IsDrawingOf called ts ws xs page fault (AppendsFront old new)) end old new)
     → IfKnown table widths tape (λ ts ws xs. Draws called ts ws xs page end old new)
 broken called table widths tape page end old new fails h =

@@ -7,14 +7,14 @@ use Rattle.code_table.specs.Reading.{read_table}
 use Rattle.widths.specs.Widths.{WidthFile}
 use Rattle.widths.specs.Reading.{read_widths}
 use Rattle.streams.specs.Fronts.{AppendsFront}
-use Rattle.tape_drawing.specs.declared.page.Page.{Page}
+use Rattle.tape_drawing.specs.declared.page.DrawingForm.{DrawingForm}
 use Rattle.code_chart.specs.Document.{chart_text}
 use Rattle.command_ends.specs.declared.end.End.{End}
 use Rattle.command_ends.specs.declared.end.End.TheVariants.{Done, Input}
 use Rattle.command_ends.specs.Ends.{IsOfInput}
 
 -- the texts are a code table and a width file, and this is their chart, under the names of the two
-pub record IsChart (table_name widths_name table widths : List ℕ) (page : Page) (text : List ℕ) : Type 0 where
+pub record IsChart (table_name widths_name table widths : List ℕ) (page : DrawingForm) (text : List ℕ) : Type 0 where
   pub places : Places
   pub file : WidthFile
   pub is_table : read_table (parse_document table) ≡ Ok places
@@ -22,7 +22,7 @@ pub record IsChart (table_name widths_name table widths : List ℕ) (page : Page
   pub is_text : text ≡ chart_text page file (mean places) table_name widths_name
 
 -- how `chart` ends, by its cause, and what it has written then
-pub data Charts (table_name widths_name table widths : List ℕ) (page : Page) (end : End) (old new : Option (List ℕ)) : Type 0 where
+pub data Charts (table_name widths_name table widths : List ℕ) (page : DrawingForm) (end : End) (old new : Option (List ℕ)) : Type 0 where
   -- the chart was written, all of it
   Whole : (text : List ℕ) → end ≡ Done → IsChart table_name widths_name table widths page text → Appends old new text
       → Charts table_name widths_name table widths page end old new

@@ -9,21 +9,21 @@ use Rattle.widths.specs.Reading.{read_widths}
 use Rattle.slug_reader.specs.Meanings.{Meanings}
 use Rattle.line_check.specs.declared.fault.SetFault.{SetFault}
 use Rattle.streams.specs.Fronts.{AppendsFront}
-use Rattle.tape_drawing.specs.declared.page.Page.{Page}
+use Rattle.tape_drawing.specs.declared.page.DrawingForm.{DrawingForm}
 use Rattle.tape_drawing.specs.Document.{Called, IsDrawing}
 use Rattle.command_ends.specs.declared.end.End.{End}
 use Rattle.command_ends.specs.declared.end.End.TheVariants.{Done, Input}
 use Rattle.command_ends.specs.Ends.{IsOfInput}
 
 -- this is the drawing of a tape that has this first fault, or none, and it was written, or what is said of it
-pub record IsDrawnAs (called : Called) (means : Meanings) (file : WidthFile) (tape : List ℕ) (page : Page) (fault : Option SetFault)
+pub record IsDrawnAs (called : Called) (means : Meanings) (file : WidthFile) (tape : List ℕ) (page : DrawingForm) (fault : Option SetFault)
     (IsWritten : List ℕ → Type 0) : Type 0 where
   pub text : List ℕ
   pub is_drawing : IsDrawing page means file tape called text fault
   pub wrote : IsWritten text
 
 -- the texts are a code table and a width file, and so the tape's drawing by them was written
-pub record IsDrawingOf (called : Called) (table widths tape : List ℕ) (page : Page) (fault : Option SetFault) (IsWritten : List ℕ → Type 0) : Type 0 where
+pub record IsDrawingOf (called : Called) (table widths tape : List ℕ) (page : DrawingForm) (fault : Option SetFault) (IsWritten : List ℕ → Type 0) : Type 0 where
   pub places : Places
   pub file : WidthFile
   pub is_table : read_table (parse_document table) ≡ Ok places
@@ -31,15 +31,15 @@ pub record IsDrawingOf (called : Called) (table widths tape : List ℕ) (page : 
   pub is_drawn : IsDrawnAs called (mean places) file tape page fault IsWritten
 
 -- the tape's drawing was written, all of it
-abbrev pub WasDrawnAs : Called → Meanings → WidthFile → List ℕ → Page → Option SetFault → Option (List ℕ) → Option (List ℕ) → Type 0
+abbrev pub WasDrawnAs : Called → Meanings → WidthFile → List ℕ → DrawingForm → Option SetFault → Option (List ℕ) → Option (List ℕ) → Type 0
 WasDrawnAs called means file tape page fault old new = IsDrawnAs called means file tape page fault (Appends old new)
 
 -- the drawing of these texts was written, all of it
-abbrev pub WasDrawn : Called → List ℕ → List ℕ → List ℕ → Page → Option SetFault → Option (List ℕ) → Option (List ℕ) → Type 0
+abbrev pub WasDrawn : Called → List ℕ → List ℕ → List ℕ → DrawingForm → Option SetFault → Option (List ℕ) → Option (List ℕ) → Type 0
 WasDrawn called table widths tape page fault old new = IsDrawingOf called table widths tape page fault (Appends old new)
 
 -- a front of it was
-abbrev pub WasFrontDrawn : Called → List ℕ → List ℕ → List ℕ → Page → Option SetFault → Option (List ℕ) → Option (List ℕ) → Type 0
+abbrev pub WasFrontDrawn : Called → List ℕ → List ℕ → List ℕ → DrawingForm → Option SetFault → Option (List ℕ) → Option (List ℕ) → Type 0
 WasFrontDrawn called table widths tape page fault old new = IsDrawingOf called table widths tape page fault (AppendsFront old new)
 
 -- a command that breaks off: an input is not taken or memory is refused before anything is written, or the output took no
@@ -52,12 +52,12 @@ abbrev pub BreaksOffText : List ℕ → End → Option (List ℕ) → Option (Li
 BreaksOffText text end old new = BreaksOff (AppendsFront old new text) end old new
 
 -- where the tape's drawing was
-abbrev pub BreaksOffTape : Called → Meanings → WidthFile → List ℕ → Page → End → Option (List ℕ) → Option (List ℕ) → Type 0
+abbrev pub BreaksOffTape : Called → Meanings → WidthFile → List ℕ → DrawingForm → End → Option (List ℕ) → Option (List ℕ) → Type 0
 BreaksOffTape called means file tape page end old new =
     BreaksOff ((fault : Option SetFault) × IsDrawnAs called means file tape page fault (AppendsFront old new)) end old new
 
 -- and where the drawing of these texts was
-abbrev pub BreaksOffDrawing : Called → List ℕ → List ℕ → List ℕ → Page → End → Option (List ℕ) → Option (List ℕ) → Type 0
+abbrev pub BreaksOffDrawing : Called → List ℕ → List ℕ → List ℕ → DrawingForm → End → Option (List ℕ) → Option (List ℕ) → Type 0
 BreaksOffDrawing called table widths tape page end old new =
     BreaksOff ((fault : Option SetFault) × WasFrontDrawn called table widths tape page fault old new) end old new
 
@@ -67,7 +67,7 @@ end_by None = Done
 end_by (Some fault) = Input
 
 -- how `draw` ends, by its cause, and what it has written then
-pub data Draws (called : Called) (table widths tape : List ℕ) (page : Page) (end : End) (old new : Option (List ℕ)) : Type 0 where
+pub data Draws (called : Called) (table widths tape : List ℕ) (page : DrawingForm) (end : End) (old new : Option (List ℕ)) : Type 0 where
   -- the tape sets, and its drawing was written
   Whole : end ≡ Done → WasDrawn called table widths tape page None old new → Draws called table widths tape page end old new
   -- the tape has a fault, and was drawn whole

@@ -10,7 +10,7 @@ use code_chart::{ChartOrder, draw_chart};
 use command_ends::{End, Fault};
 use std::alloc::Global;
 use std::io::{Read, Write};
-use tape_drawing::Page;
+use tape_drawing::DrawingForm;
 
 /// The text of the chart of the two files.
 fn charted<'a, R: Read, S: Read>(
@@ -18,7 +18,7 @@ fn charted<'a, R: Read, S: Read>(
     paths: &SettingPaths<'a>,
     table: &mut R,
     widths: &mut S,
-    page: Page,
+    page: DrawingForm,
 ) -> Result<Vec<u8>, Fault<'a>>
     ensures ok { IfOk result (λ text. IfBoth (R.remaining table.old) (S.remaining widths.old)
         (λ ts ws. IsChart paths.now.table.now paths.now.widths.now ts ws page text.items)) }
@@ -48,7 +48,7 @@ pub fn chart<R: Read, S: Read, W: Write, E: Write>(
     paths: &SettingPaths<'_>,
     table: &mut R,
     widths: &mut S,
-    page: Page,
+    page: DrawingForm,
     out: &mut W,
     err: &mut E,
 ) -> End

@@ -17,7 +17,7 @@ use line_check::SetFault;
 use std::alloc::Global;
 use std::io::{Read, Write};
 use streams::put_all;
-use tape_drawing::{Names, Order, Page, draw_tape};
+use tape_drawing::{DrawingForm, DrawingOrder, Names, draw_tape};
 use widths::Widths;
 
 /// Where the files lie by which a tape is set.
@@ -68,7 +68,7 @@ pub(crate) fn put_text<'a, W: Write>(text: &[u8], out: &mut W) -> Result<(), Fau
 /// Draws a tape, and answers its first fault, if it has one.
 fn put_tape<'a, W: Write>(
     alloc: Global,
-    order: &Order<'_>,
+    order: &DrawingOrder<'_>,
     out: &mut W,
 ) -> Result<Option<SetFault>, Fault<'a>>
     ensures ok { IfOk result (λ fault. WasDrawnAs (called order.now.names.tape.now order.now.names.table.now order.now.names.widths.now)
@@ -90,7 +90,7 @@ fn drawn<'a, R: Read, S: Read, T: Read, W: Write>(
     table: &mut R,
     widths: &mut S,
     tape: &mut T,
-    page: Page,
+    page: DrawingForm,
     out: &mut W,
 ) -> Result<Option<SetFault>, Fault<'a>>
     ensures ok { IfOk result (λ fault. IfKnown (R.remaining table.old) (S.remaining widths.old) (T.remaining tape.old)
@@ -105,7 +105,7 @@ fn drawn<'a, R: Read, S: Read, T: Read, W: Write>(
     };
     let setting = read_setting(alloc, &setting_paths, table, widths)?;
     let tape = read_tape(alloc, tape, paths.tape)?;
-    let order = Order {
+    let order = DrawingOrder {
         table: &setting.table,
         widths: &setting.widths,
         tape: &tape,
@@ -141,7 +141,7 @@ pub fn draw<R: Read, S: Read, T: Read, W: Write, E: Write>(
     table: &mut R,
     widths: &mut S,
     tape: &mut T,
-    page: Page,
+    page: DrawingForm,
     out: &mut W,
     err: &mut E,
 ) -> End

@@ -26,7 +26,7 @@ use Rattle.driver.specs.Calls.{call_of, IsAsked}
 use Rattle.driver.specs.Fates.{ByAnswer, ByStored, Fates}
 use Rattle.driver.specs.Todos.{IsGoodSending, IsHailing}
 use Rattle.driver.specs.Driving.{Post, post, post_with, Fate, Known, known, Driven, Drove, Anyhow, AtClock, Then, Held, TakesUp, HasStored, WasSent, HandsOn, Holds, IsReceiving, IsTakingIn, IsFallingDue, IsSeeingToDue, IsStoring, no_step}
-use Rattle.driver.specs.declared.sink.Step.{Step}
+use Rattle.driver.specs.declared.sink.TakenStep.{TakenStep}
 
 -- what holds whatever the result is
 pub always : {A E : Type 0} (r : Result A E) (P : Type 0) → P → OnOk r P
@@ -280,19 +280,19 @@ module _ {R N S : Type 0} (k : Known R N S) (may : S → StationCall → Type 0)
   denied call refusal s t w o f F m step p stops cause = refused {A = Unit {0}} call refusal s t w w o o [] (Err f) F m (fates.rests o) step p stops tt cause tt
 
   -- a step was taken, or none was, as it is answered
-  pub took_one : (Kind : StationCall → Type 0) (F : List Event → Type 0) (old new : Post R N S) (r : Result (Option Step) Fault) (step : Step) → r ≡ Ok (Some step)
+  pub took_one : (Kind : StationCall → Type 0) (F : List Event → Type 0) (old new : Post R N S) (r : Result (Option TakenStep) Fault) (step : TakenStep) → r ≡ Ok (Some step)
       → TakesUp k may Kind F old new r → Held k may Kind old new step.answer
-  took_one Kind F old new r step is a = subst (λ (x : Result (Option Step) Fault). TakesUp k may Kind F old new x) is a
+  took_one Kind F old new r step is a = subst (λ (x : Result (Option TakenStep) Fault). TakesUp k may Kind F old new x) is a
 
-  pub took_no_more : (Kind : StationCall → Type 0) (F : List Event → Type 0) (old new : Post R N S) (r : Result (Option Step) Fault) → r ≡ Ok None
+  pub took_no_more : (Kind : StationCall → Type 0) (F : List Event → Type 0) (old new : Post R N S) (r : Result (Option TakenStep) Fault) → r ≡ Ok None
       → TakesUp k may Kind F old new r → Drove k old new ends.Done F
-  took_no_more Kind F old new r is a = subst (λ (x : Result (Option Step) Fault). TakesUp k may Kind F old new x) is a
+  took_no_more Kind F old new r is a = subst (λ (x : Result (Option TakenStep) Fault). TakesUp k may Kind F old new x) is a
 
   -- no step was taken, as it is answered
-  pub took_none : (Kind : StationCall → Type 0) (F : List Event → Type 0) (old new : Post R N S) (r : Result (Unit {0}) Fault) (o : Result (Option Step) Fault) → o ≡ no_step r
+  pub took_none : (Kind : StationCall → Type 0) (F : List Event → Type 0) (old new : Post R N S) (r : Result (Unit {0}) Fault) (o : Result (Option TakenStep) Fault) → o ≡ no_step r
       → Drove k old new (ended r) F → TakesUp k may Kind F old new o
-  took_none Kind F old new (Ok done) o is a = subst (λ (x : Result (Option Step) Fault). TakesUp k may Kind F old new x) (sym is) a
-  took_none Kind F old new (Err f) o is a = subst (λ (x : Result (Option Step) Fault). TakesUp k may Kind F old new x) (sym is) a
+  took_none Kind F old new (Ok done) o is a = subst (λ (x : Result (Option TakenStep) Fault). TakesUp k may Kind F old new x) (sym is) a
+  took_none Kind F old new (Err f) o is a = subst (λ (x : Result (Option TakenStep) Fault). TakesUp k may Kind F old new x) (sym is) a
 
   -- a step that was taken, of which nothing was handed on yet
   pub held : (call : StationCall) (Kind : StationCall → Type 0) (a : Answer) (s t : Station R) (w v : N) (o u : S) (q : List Passed) → Kind call

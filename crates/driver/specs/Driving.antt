@@ -18,7 +18,7 @@ use Rattle.driver.specs.Fates.{ByAnswer, ByStored}
 use Rattle.driver.specs.declared.driver.Driver.{Driver}
 use Rattle.driver.specs.declared.group.Group.{Group}
 use Rattle.driver.specs.declared.sink.Sink.{Ghosts as SinkGhosts}
-use Rattle.driver.specs.declared.sink.Step.{Step}
+use Rattle.driver.specs.declared.sink.TakenStep.{TakenStep}
 
 -- a station, its wire, what becomes of its releases, and what it handed out that waits to be sent
 pub record Post (R N S : Type 0) : Type 0 where
@@ -102,7 +102,7 @@ pub record Held {R N S : Type 0} (k : Known R N S) (may : S → Call → Type 0)
 -- a step of a call of this kind was taken; or none was, and events of this form happened; or it came to an end
 abbrev pub TakesUp :
     {R N S : Type 0} → Known R N S → (S → Call → Type 0) → (Call → Type 0) → (List Event → Type 0) → Post R N S → Post R N S
-    → Result (Option Step) Fault → Type 0
+    → Result (Option TakenStep) Fault → Type 0
 TakesUp k may Kind Form old new (Ok (Some step)) = Held k may Kind old new step.answer
 TakesUp k may Kind Form old new (Ok None) = Drove k old new ends.Done Form
 TakesUp k may Kind Form old new (Err fault) = Drove k old new (end_of fault) Form
@@ -148,10 +148,10 @@ abbrev pub post_behind : {R N S : Type 0} → Driver R N S → List Passed → P
 post_behind d waits = post_with d.station.now d.wire.now d.sink waits
 
 -- what steps hand out on the wire, in order
-abbrev pub sending_of : Step → List Passed
+abbrev pub sending_of : TakenStep → List Passed
 sending_of step = sending step.answer.out.items
 
-abbrev pub sends : List Step → List Passed
+abbrev pub sends : List TakenStep → List Passed
 sends steps = flat_map sending_of steps
 
 -- what those of a group hand out
@@ -210,13 +210,13 @@ abbrev pub IsHeld : {S : Type 0} → SinkGhosts S → S → S → Group → Grou
 IsHeld sink old new before after answer result = Holds (fate_of sink) sink.may old new (sends_of before) (sends_of after) answer result
 
 -- no step, or the fault
-abbrev pub no_step : Result (Unit {0}) Fault → Result (Option Step) Fault
+abbrev pub no_step : Result (Unit {0}) Fault → Result (Option TakenStep) Fault
 no_step (Ok done) = Ok None
 no_step (Err fault) = Err fault
 
 -- a step was taken up to this result, or none was, whatever waited to be sent
 abbrev pub TookUp :
-    {R N S : Type 0} → (Call → Type 0) → (List Event → Type 0) → Result (Option Step) Fault → Ghosts R → (R → Type 0) → (N → Trace) → SinkGhosts S
+    {R N S : Type 0} → (Call → Type 0) → (List Event → Type 0) → Result (Option TakenStep) Fault → Ghosts R → (R → Type 0) → (N → Trace) → SinkGhosts S
     → Driver R N S → Driver R N S → Type 0
 TookUp Kind Form result rows is_settled passed sink old new =
     (waits : List Passed)

@@ -6,7 +6,7 @@ use Rattle.protocol.specs.Circuit.{Datagram}
 use Rattle.station.specs.declared.answer.Answer.{Answer}
 use Rattle.station.specs.declared.answer.Release.{Release}
 use Rattle.driver.specs.declared.group.Group.{Group}
-use Rattle.driver.specs.declared.sink.Step.{Step}
+use Rattle.driver.specs.declared.sink.TakenStep.{TakenStep}
 
 -- what is sent or released is worth to be kept until it may be handed out
 abbrev pub worth : List Datagram → Option Release → Bool
@@ -19,7 +19,7 @@ abbrev pub is_worth : Answer → Bool
 is_worth answer = worth answer.out.items answer.release
 
 -- of a step, what is kept
-abbrev pub worthy : Step → List Step
+abbrev pub worthy : TakenStep → List TakenStep
 worthy step = if is_worth step.answer then step ∷ [] else []
 
 -- sixteen such steps are as many as share a save, or thirty-two works

@@ -1,8 +1,8 @@
 -- The pace of a station that stays up: what was done of its works, what is found before the next, and what is heard of the members.
 use Rattle.std.specs.Prelude.{ℕ, Bool, true, false, Option, Some, None}
 use Rattle.protocol.specs.Ballots.{Ballot}
-use Rattle.messages.specs.declared.body.Kind.{Kind}
-use Rattle.messages.specs.declared.body.Kind.TheVariants as kinds
+use Rattle.messages.specs.declared.body.PacketKind.{PacketKind}
+use Rattle.messages.specs.declared.body.PacketKind.TheVariants as kinds
 use Rattle.node_core.specs.declared.turn.Note.{Note}
 use Rattle.node_core.specs.declared.turn.Note.TheVariants.{Idle}
 use Rattle.exchange.specs.declared.said.Said.{Said}
@@ -14,8 +14,8 @@ use Rattle.pace.specs.declared.turns.Sight.{Sight}
 use Rattle.pace.specs.declared.turns.Work.{Work}
 use Rattle.pace.specs.declared.turns.Work.TheVariants as works
 use Rattle.driver.specs.declared.pacing.Asking.{Asking}
-use Rattle.driver.specs.declared.sink.Heard.{Heard}
-use Rattle.driver.specs.declared.sink.Heard.TheVariants.{Taken, Refused, Aside}
+use Rattle.driver.specs.declared.sink.HeardDatagram.{HeardDatagram}
+use Rattle.driver.specs.declared.sink.HeardDatagram.TheVariants.{Taken, Refused, Aside}
 use Rattle.driver.specs.declared.pacing.Tasks.{Tasks}
 
 -- what was done of a work where no number was due and, while it was waited, no datagram came
@@ -48,7 +48,7 @@ sight_at now waits tasks p =
 
 -- what is known of the members once a datagram of this kind was taken in: a vote shows how far its sender is, a request to vote that a
 -- ballot came up, and any that its sender is there
-abbrev pub heard_as : Kind → ℕ → ℕ → ℕ → ℕ → PaceValue → PaceValue
+abbrev pub heard_as : PacketKind → ℕ → ℕ → ℕ → ℕ → PaceValue → PaceValue
 heard_as kinds.Accepted sender number owner now p = spoken_by sender number owner now p
 heard_as kinds.Accept sender number owner now p = seen_by sender 0 now (came_up number owner p)
 heard_as kinds.Prepare sender number owner now p = seen_by sender 0 now p
@@ -61,7 +61,7 @@ heard_from None now p = p
 heard_from (Some said) now p = heard_as said.kind said.sender said.number said.owner now p
 
 -- what the head of a datagram says that the station took in; any other says nothing
-abbrev pub said_of : Heard → Option Said
+abbrev pub said_of : HeardDatagram → Option Said
 said_of (Taken said) = said
 said_of (Refused refusal) = None
 said_of (Aside found) = None

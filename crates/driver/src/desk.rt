@@ -10,18 +10,18 @@ ghost use Rattle.driver.specs.Todos.{IsGoodTodo};
 use crate::calls::Call;
 use crate::log::Log;
 use crate::pacing::Tasks;
-use crate::sink::{Sink, Step};
+use crate::sink::{Sink, TakenStep};
 use ballots::Number;
 use catch_up::Errand;
 use command_ends::Fault;
-use folders::Request;
+use folders::FileRequest;
 use station::StepRefusal;
 use std::io::Write;
 
 /// A file for which the station was asked, and refused.
 #[derive(Clone, Copy)]
 pub struct Denied {
-    pub request: Request,
+    pub request: FileRequest,
     pub refusal: StepRefusal,
     /// When it was, in milliseconds.
     pub moment: u64,
@@ -42,7 +42,7 @@ pub struct Chance {
 #[derive(Drop)]
 pub enum Todo {
     /// The station is asked for this file.
-    Ask(Request),
+    Ask(FileRequest),
     /// An errand is run by which the station catches up, or others do.
     Run(Errand),
 }
@@ -62,14 +62,18 @@ pub trait Desk: Sink {
     // Nothing was done outside of the process meanwhile.
     ghost is_still: { Self → Self → Type 0 };
 
-    ghost use Rattle.driver.specs.declared.sink.Step.{Step};
+    ghost use Rattle.driver.specs.declared.sink.TakenStep.{TakenStep};
 
     // What exactly these steps released went outside meanwhile, as far as that could be done.
-    ghost handed: { Self → Self → List Step → Type 0 };
+    ghost handed: { Self → Self → List TakenStep → Type 0 };
 
     /// Keeps in mind what a step of the station did and released. Nothing of it goes outside: what the step saved may not be stored yet. It
     /// fails where there is no memory for it.
-    fn note<E: Write>(&mut self, step: &Step, log: &mut Log<'_, E>) -> Result<(), Fault<'static>>
+    fn note<E: Write>(
+        &mut self,
+        step: &TakenStep,
+        log: &mut Log<'_, E>,
+    ) -> Result<(), Fault<'static>>
         ensures ok { OnOk result (ByAnswer Self.lived Self.may self.old self.new step.now.answer) }
         ensures err { OnErr result (ByAnswer Self.front Self.may self.old self.new step.now.answer) }
         ensures fault { IfErr result IsOfWriting }
@@ -77,7 +81,7 @@ pub trait Desk: Sink {
 
     /// What these steps released goes outside, at a moment: what they saved is stored, and their datagrams are sent. They are those that were
     /// noted since the last call, in order, but such as neither sent nor released anything.
-    fn hand_out<E: Write>(&mut self, steps: &[Step], now: u64, log: &mut Log<'_, E>)
+    fn hand_out<E: Write>(&mut self, steps: &[TakenStep], now: u64, log: &mut Log<'_, E>)
         ensures lived { Self.lived self.old self.new (stored (Ok tt) ∷ []) }
         ensures handed { handed self.old self.new steps.now };
 
@@ -95,7 +99,7 @@ pub trait Desk: Sink {
         ensures good { IfSome result IsGoodTodo };
 
     /// What the station is asked for a file; nothing where that is not known any more.
-    fn call(&self, request: &Request) -> Option<Call<'_>>
+    fn call(&self, request: &FileRequest) -> Option<Call<'_>>
         ensures { IfSome result (λ call. (now : ℕ) → Self.may self.now (call_of call now)) };
 
     /// The station refused what it was asked for a file.

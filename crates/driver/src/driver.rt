@@ -5,9 +5,9 @@ ghost use Rattle.driver.specs.Driving.{HasStored, TookUp, post, post_of, no_step
 
 use crate::log::Log;
 use crate::pacing::Pacing;
-use crate::sink::{Heard, Sink, Step};
+use crate::sink::{HeardDatagram, Sink, TakenStep};
 use command_ends::Fault;
-use exchange::{Intake, Outcome, pass_over, take_datagram};
+use exchange::{Intake, Received, pass_over, take_datagram};
 use row_groups::Settles;
 use saved_rows::Rows;
 use station::Station;
@@ -15,7 +15,7 @@ use std::io::Write;
 use wire::Wire;
 
 /// No step was taken, or the fault.
-fn no_step(passed: Result<(), Fault<'static>>) -> Result<Option<Step>, Fault<'static>>
+fn no_step(passed: Result<(), Fault<'static>>) -> Result<Option<TakenStep>, Fault<'static>>
     ensures { result ≡ no_step passed.entry }
 {
     match passed {
@@ -83,34 +83,34 @@ impl<'a, R: Settles, N: Wire, S: Sink> Driver<'a, R, N, S> {
         &mut self,
         now: u64,
         log: &mut Log<'_, E>,
-    ) -> Result<Option<Step>, Fault<'static>>
+    ) -> Result<Option<TakenStep>, Fault<'static>>
         ensures station { self.new.station.ghost_name ≡ self.old.station.ghost_name }
         ensures wire { self.new.wire.ghost_name ≡ self.old.wire.ghost_name }
         ensures was_kept { R.kept self.new.station.now.rows → R.kept self.old.station.now.rows }
         ensures took { TookUp (IsReceiving now) (IsTakingIn now) result R.Rows R.Settles.is_settled N.passed S.Sink self.old self.new }
     {
         match take_datagram(self.station, self.wire, now, &mut self.intake.room) {
-            Outcome::Nothing => Ok(None),
-            Outcome::Failed => Err(Fault::Socket("receive failed")),
-            Outcome::Done { answer, said } => {
-                let heard = Heard::Taken(said);
+            Received::Nothing => Ok(None),
+            Received::Failed => Err(Fault::Socket("receive failed")),
+            Received::Done { answer, said } => {
+                let heard = HeardDatagram::Taken(said);
                 self.pacing.hear(heard.said(), now);
                 self.sink.hear(&heard, now, log);
-                let step = Step {
+                let step = TakenStep {
                     answer,
                     moment: now,
                 };
                 Ok(Some(step))
             }
-            Outcome::Refused { refusal, newer } => {
-                let heard = Heard::Refused(refusal);
+            Received::Refused { refusal, newer } => {
+                let heard = HeardDatagram::Refused(refusal);
                 self.pacing.hear(heard.said(), now);
                 self.intake.newer.tell(newer, now, log.err);
                 self.sink.hear(&heard, now, log);
                 no_step(pass_over(refusal))
             }
-            Outcome::Heard(found) => {
-                let heard = Heard::Aside(found);
+            Received::Heard(found) => {
+                let heard = HeardDatagram::Aside(found);
                 self.pacing.hear(heard.said(), now);
                 self.sink.hear(&heard, now, log);
                 Ok(None)
@@ -119,7 +119,7 @@ impl<'a, R: Settles, N: Wire, S: Sink> Driver<'a, R, N, S> {
     }
 
     /// Sees to what is due at a moment in milliseconds, one number at most: the step that the station took, if it took one.
-    pub(crate) fn fall_due(&mut self, now: u64) -> Result<Option<Step>, Fault<'static>>
+    pub(crate) fn fall_due(&mut self, now: u64) -> Result<Option<TakenStep>, Fault<'static>>
         ensures station { self.new.station.ghost_name ≡ self.old.station.ghost_name }
         ensures wire { self.new.wire.ghost_name ≡ self.old.wire.ghost_name }
         ensures was_kept { R.kept self.new.station.now.rows → R.kept self.old.station.now.rows }
@@ -129,7 +129,7 @@ impl<'a, R: Settles, N: Wire, S: Sink> Driver<'a, R, N, S> {
         match self.station.due(now) {
             Ok(answer) => {
                 self.pacing.saw(&answer.note);
-                let step = Step {
+                let step = TakenStep {
                     answer,
                     moment: now,
                 };

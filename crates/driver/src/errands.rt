@@ -9,7 +9,7 @@ use crate::desk::{Declined, Desk};
 use crate::driver::Driver;
 use crate::group::Group;
 use crate::log::Log;
-use crate::sink::Step;
+use crate::sink::TakenStep;
 use ballots::{Member, Number};
 use catch_up::Errand;
 use command_ends::Fault;
@@ -63,7 +63,7 @@ impl<'a, R: Settles, N: Wire, S: Desk> Driver<'a, R, N, S> {
     {
         match self.station.recall(again.number.get(), again.to.get()) {
             Ok(answer) => {
-                let step = Step {
+                let step = TakenStep {
                     answer,
                     moment: now,
                 };
@@ -88,7 +88,7 @@ impl<'a, R: Settles, N: Wire, S: Desk> Driver<'a, R, N, S> {
     {
         match self.station.seek(number.get(), now) {
             Ok(answer) => {
-                let step = Step {
+                let step = TakenStep {
                     answer,
                     moment: now,
                 };

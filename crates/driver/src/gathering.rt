@@ -11,7 +11,7 @@ use crate::desk::Desk;
 use crate::driver::Driver;
 use crate::group::{Group, send_each};
 use crate::log::Log;
-use crate::sink::Step;
+use crate::sink::TakenStep;
 use command_ends::Fault;
 use pace::Work;
 use row_groups::Settles;
@@ -23,7 +23,7 @@ impl<'a, R: Settles, N: Wire, S: Desk> Driver<'a, R, N, S> {
     /// Holds a step until what it saved is stored: the desk notes it, and it waits behind those before it.
     pub(crate) fn hold<E: Write>(
         &mut self,
-        step: Step,
+        step: TakenStep,
         group: &mut Group,
         log: &mut Log<'_, E>,
     ) -> Result<(), Fault<'static>>

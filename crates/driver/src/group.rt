@@ -6,7 +6,7 @@ ghost use Rattle.wire.specs.Passing.{Passes};
 ghost use Rattle.driver.specs.Driving.{sends, sends_of};
 ghost use Rattle.driver.specs.Grouping.{comes_late, ends_group, goes_alone, has_waited, is_full, is_worth, one_more, worthy};
 
-use crate::sink::Step;
+use crate::sink::TakenStep;
 use exchange::send_answer;
 use pace::Work;
 use std::alloc::{AllocError, Global};
@@ -26,7 +26,7 @@ const MOST_WAIT: u64 = 2;
 #[derive(Drop)]
 pub(crate) struct Group {
     /// Those that send or release something, in order.
-    pub(crate) steps: Vec<Step>,
+    pub(crate) steps: Vec<TakenStep>,
     /// How many works share the save so far.
     pub(crate) works: u8,
     /// When the first of them began, in milliseconds.
@@ -34,7 +34,7 @@ pub(crate) struct Group {
 }
 
 /// Whether a step sends or releases something.
-fn is_worth(step: &Step) -> bool
+fn is_worth(step: &TakenStep) -> bool
     ensures { result ≡ is_worth step.now.answer }
 {
     !step.answer.out.is_empty() || step.answer.release.is_some()
@@ -98,7 +98,7 @@ impl Group {
     }
 
     /// One step more, behind those before it, unless it neither sends nor releases anything. There may be no memory for it.
-    pub(crate) fn add(&mut self, step: Step) -> Result<(), AllocError>
+    pub(crate) fn add(&mut self, step: TakenStep) -> Result<(), AllocError>
         ensures steps { OnOk result (self.new.steps.items ≡ self.old.steps.items ++ worthy step) }
         ensures sends { OnOk result (sends_of self.new ≡ sends_of self.old ++ sending step.answer.out.items) }
     {
@@ -110,7 +110,7 @@ impl Group {
 }
 
 /// Sends what steps hand out, each datagram once, in order.
-pub(crate) fn send_each<N: Wire, E: Write>(steps: &[Step], wire: &mut N, err: &mut E)
+pub(crate) fn send_each<N: Wire, E: Write>(steps: &[TakenStep], wire: &mut N, err: &mut E)
     ensures { Passes (N.passed wire.old) (N.passed wire.new) (sends steps.now) }
 {
     for step in steps {

@@ -18,4 +18,4 @@ pub use desk::{Chance, Declined, Denied, Desk, Todo};
 pub use driver::Driver;
 pub use log::Log;
 pub use pacing::Tasks;
-pub use sink::{Heard, Outlet, Sink, Step};
+pub use sink::{HeardDatagram, Outlet, Sink, TakenStep};

@@ -8,7 +8,7 @@ ghost use Rattle.driver.specs.Pacing.{asking_of, begun_at, counts_at, done_of, h
 
 use ballots::{Ballot, Member, Number};
 use exchange::Said;
-use messages::Kind;
+use messages::PacketKind;
 use node_core::Note;
 use pace::{Deeds, Done, Pace, Sight, Turns, Work};
 
@@ -149,15 +149,17 @@ impl Pacing {
             return;
         };
         match said.kind {
-            Kind::Accepted => {
+            PacketKind::Accepted => {
                 self.pace
                     .hear_vote(said.sender, said.number, said.owner, now);
             }
-            Kind::Accept => {
+            PacketKind::Accept => {
                 self.pace.come_up(said.number, said.owner);
                 self.pace.hear(said.sender, now);
             }
-            Kind::Prepare | Kind::Promise | Kind::Nack => self.pace.hear(said.sender, now),
+            PacketKind::Prepare | PacketKind::Promise | PacketKind::Nack => self
+                .pace
+                .hear(said.sender, now),
         }
     }
 }

@@ -14,11 +14,11 @@ use crate::driver::Driver;
 use crate::group::Group;
 use crate::log::Log;
 use crate::pacing::asking_of;
-use crate::sink::Step;
+use crate::sink::TakenStep;
 use ballots::Ballot;
 use command_ends::{End, Fault};
 use exchange::{pass_over, tell_lost, tell_strangers};
-use folders::{Kind, Request};
+use folders::{FileRequest, OfferKind};
 use pace::Work;
 use row_groups::Settles;
 use saved_rows::Rows;
@@ -39,7 +39,7 @@ fn find<N: Wire, E: Write>(wire: &mut N, now: u64, log: &mut Log<'_, E>) -> bool
 
 /// What a work finds: the moment in milliseconds, and whether a datagram waits in memory.
 #[derive(Clone, Copy)]
-struct Found {
+struct WorkSight {
     now: u64,
     waits: bool,
 }
@@ -56,7 +56,7 @@ fn going_on(done: Result<(), Fault<'static>>) -> Result<bool, Fault<'static>>
 
 /// What came of asking the station for a file.
 #[derive(Drop)]
-pub(crate) enum Reply {
+pub(crate) enum FileReply {
     /// It is not known any more what for, and it was not asked.
     Unknown,
     /// It took the step, for an entry of so many bytes.
@@ -66,22 +66,22 @@ pub(crate) enum Reply {
 }
 
 /// What came of it, where it was asked for an entry of so many bytes.
-fn reply_of(length: usize, answer: Result<Answer, StepRefusal>) -> Reply
+fn reply_of(length: usize, answer: Result<Answer, StepRefusal>) -> FileReply
     ensures { result ≡ reply_of length answer }
 {
     match answer {
-        Ok(answer) => Reply::Done { answer, length },
-        Err(refusal) => Reply::Refused(refusal),
+        Ok(answer) => FileReply::Done { answer, length },
+        Err(refusal) => FileReply::Refused(refusal),
     }
 }
 
 /// The ballot of what was asked for, where votes are awaited of it: of a search none may come, so it keeps no other work waiting.
-fn awaited(request: &Request, ballot: Option<Ballot>) -> Option<Ballot>
+fn awaited(request: &FileRequest, ballot: Option<Ballot>) -> Option<Ballot>
     ensures { result ≡ awaited request.now.kind ballot }
 {
     match request.kind {
-        Kind::Seek => None,
-        Kind::Tape | Kind::Text | Kind::Withdraw => ballot,
+        OfferKind::Seek => None,
+        OfferKind::Tape | OfferKind::Text | OfferKind::Withdraw => ballot,
     }
 }
 
@@ -89,9 +89,9 @@ fn awaited(request: &Request, ballot: Option<Ballot>) -> Option<Ballot>
 fn ask_by<R: Rows, S: Desk>(
     station: &mut Station<R>,
     desk: &S,
-    request: &Request,
+    request: &FileRequest,
     now: u64,
-) -> Reply
+) -> FileReply
     ensures { IsAskedBy R.Rows (S.may desk.now) now station.old station.new result }
 {
     match desk.call(request) {
@@ -99,7 +99,7 @@ fn ask_by<R: Rows, S: Desk>(
             let length = call.length();
             reply_of(length, ask(station, call, now))
         }
-        None => Reply::Unknown,
+        None => FileReply::Unknown,
     }
 }
 
@@ -107,7 +107,7 @@ impl<'a, R: Settles, N: Wire, S: Desk> Driver<'a, R, N, S> {
     /// Asks the station for a file, at a moment in milliseconds, and hands on what it hands out.
     fn ask_for<E: Write>(
         &mut self,
-        request: &Request,
+        request: &FileRequest,
         now: u64,
         group: &mut Group,
         log: &mut Log<'_, E>,
@@ -118,17 +118,17 @@ impl<'a, R: Settles, N: Wire, S: Desk> Driver<'a, R, N, S> {
         ensures drove { DroveBehind Anyhow result R.Rows R.Settles.is_settled N.passed S.Sink self.old self.new group.old group.new }
     {
         match ask_by(self.station, &self.sink, request, now) {
-            Reply::Done { answer, length } => {
+            FileReply::Done { answer, length } => {
                 let ballot = awaited(request, self.station.open_ballot(request.number));
                 self.pacing
                     .begin(asking_of(ballot, request.number, length), now);
-                let step = Step {
+                let step = TakenStep {
                     answer,
                     moment: now,
                 };
                 self.hold(step, group, log)
             }
-            Reply::Refused(refusal) => {
+            FileReply::Refused(refusal) => {
                 let denied = Denied {
                     request: *request,
                     refusal,
@@ -137,7 +137,7 @@ impl<'a, R: Settles, N: Wire, S: Desk> Driver<'a, R, N, S> {
                 self.sink.deny(denied, log);
                 pass_over(refusal)
             }
-            Reply::Unknown => Ok(()),
+            FileReply::Unknown => Ok(()),
         }
     }
 
@@ -184,7 +184,7 @@ impl<'a, R: Settles, N: Wire, S: Desk> Driver<'a, R, N, S> {
     fn work<E: Write>(
         &mut self,
         work: Work,
-        found: Found,
+        found: WorkSight,
         group: &mut Group,
         log: &mut Log<'_, E>,
     ) -> Result<bool, Fault<'static>>
@@ -226,7 +226,7 @@ impl<'a, R: Settles, N: Wire, S: Desk> Driver<'a, R, N, S> {
         let tasks = self.sink.tasks();
         let work = self.pacing.next(waits, tasks, now);
         self.end_group(work, now, group, log)?;
-        self.work(work, Found { now, waits }, group, log)
+        self.work(work, WorkSight { now, waits }, group, log)
     }
 
     /// One work after the other, until the run is over.

@@ -7,7 +7,7 @@ ghost use Rattle.driver.specs.Driving.{DroveUpTo, HandedOn, IsTakingIn, IsSeeing
 use crate::calls::{Call, ask};
 use crate::driver::Driver;
 use crate::log::Log;
-use crate::sink::{Outlet, Step};
+use crate::sink::{Outlet, TakenStep};
 use command_ends::Fault;
 use exchange::{send_answer, tell_strangers};
 use row_groups::Settles;
@@ -17,7 +17,11 @@ use wire::Wire;
 
 impl<'a, R: Settles, N: Wire, S: Outlet> Driver<'a, R, N, S> {
     /// Hands on what a step of the station hands out, once what it saved is stored: its datagrams to the wire, and then its release to the sink.
-    fn hand_on<E: Write>(&mut self, step: &Step, log: &mut Log<'_, E>) -> Result<(), Fault<'static>>
+    fn hand_on<E: Write>(
+        &mut self,
+        step: &TakenStep,
+        log: &mut Log<'_, E>,
+    ) -> Result<(), Fault<'static>>
         ensures station { self.new.station.ghost_name ≡ self.old.station.ghost_name }
         ensures wire { self.new.wire.ghost_name ≡ self.old.wire.ghost_name }
         ensures was_kept { R.kept self.new.station.now.rows → R.kept self.old.station.now.rows }
@@ -111,7 +115,7 @@ impl<'a, R: Settles, N: Wire, S: Outlet> Driver<'a, R, N, S> {
         let now = self.wire.now();
         match ask(self.station, call, now) {
             Ok(answer) => {
-                let step = Step {
+                let step = TakenStep {
                     answer,
                     moment: now,
                 };

@@ -16,7 +16,7 @@ use std::io::Write;
 
 /// A step that the station took.
 #[derive(Drop)]
-pub struct Step {
+pub struct TakenStep {
     /// What it handed out.
     pub answer: Answer,
     /// When it was taken, in milliseconds.
@@ -25,7 +25,7 @@ pub struct Step {
 
 /// What a datagram was that was taken in.
 #[derive(Drop)]
-pub enum Heard {
+pub enum HeardDatagram {
     /// A packet that the station took in; what its head says.
     Taken(Option<Said>),
     /// One that the station refused, and passed over unless it stopped the station.
@@ -34,14 +34,14 @@ pub enum Heard {
     Aside(Aside),
 }
 
-impl Heard {
+impl HeardDatagram {
     /// What the head of a packet says that the station took in; of any other datagram nothing.
     pub(crate) fn said(&self) -> Option<Said>
         ensures { result ≡ said_of self.now }
     {
         match self {
-            Heard::Taken(said) => *said,
-            Heard::Refused(_) | Heard::Aside(_) => None,
+            HeardDatagram::Taken(said) => *said,
+            HeardDatagram::Refused(_) | HeardDatagram::Aside(_) => None,
         }
     }
 }
@@ -58,7 +58,7 @@ pub trait Sink: Drop {
     ghost may: { Self → Call → Type 0 };
 
     /// A datagram was taken in.
-    fn hear<E: Write>(&mut self, heard: &Heard, now: u64, log: &mut Log<'_, E>)
+    fn hear<E: Write>(&mut self, heard: &HeardDatagram, now: u64, log: &mut Log<'_, E>)
         ensures { lived self.old self.new [] };
 
     ghost fates: { Fates lived front may };
@@ -68,7 +68,11 @@ pub trait Sink: Drop {
 pub trait Outlet: Sink {
     /// Takes what a step of the station did and released, once what it saved is stored and its datagrams are sent. It fails where that can't
     /// be written, or there is no memory for it.
-    fn take<E: Write>(&mut self, step: &Step, log: &mut Log<'_, E>) -> Result<(), Fault<'static>>
+    fn take<E: Write>(
+        &mut self,
+        step: &TakenStep,
+        log: &mut Log<'_, E>,
+    ) -> Result<(), Fault<'static>>
         ensures ok { OnOk result (ByStored Self.lived Self.may self.old self.new step.now.answer) }
         ensures err { OnErr result (ByStored Self.front Self.may self.old self.new step.now.answer) }
         ensures fault { IfErr result IsOfWriting };

@@ -8,7 +8,7 @@ use command_ends::{End, Fault};
 use std::fmt;
 use std::io::Write;
 use text_tape::{PunchError, PunchFault};
-use text_words::Place;
+use text_words::TextPlace;
 
 /// Why a command for editors did not end well.
 #[derive(Drop)]
@@ -16,7 +16,7 @@ pub enum EditorFault<'a> {
     /// What any command tells in the same words.
     Other(Fault<'a>),
     /// No frame means this piece of the text, which stands at this place.
-    NoCode { piece: String, place: Place },
+    NoCode { piece: String, place: TextPlace },
     /// A word of the text can't be punched, of which no piece is told: a brace is not closed, or the tape would be too long.
     Text(PunchFault),
     /// A text has no word.

@@ -15,7 +15,7 @@ use std::io::Read;
 use std::str;
 use tape_frames::{Tape, TapeFault, Version};
 use text_tape::{PunchCause, PunchError, PunchFault, punch};
-use text_words::Place;
+use text_words::TextPlace;
 
 /// The most bytes of a piece that are told. A name of a matrix has 8 and two braces, so no more is read of what has no code.
 const TOLD: usize = 20;
@@ -46,7 +46,7 @@ fn text_fault<'a>(alloc: Global, text: &[u8], fault: PunchFault) -> EditorFault<
     let PunchCause::NoCode { len } = fault.cause else {
         return EditorFault::Text(fault);
     };
-    let place = Place {
+    let place = TextPlace {
         line: fault.line,
         column: fault.column,
     };

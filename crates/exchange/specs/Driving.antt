@@ -11,8 +11,8 @@ use Rattle.rolls.specs.Asides.{aside_in}
 use Rattle.exchange.specs.Events.{coming, HasMark, heard, coming_by}
 use Rattle.exchange.specs.Layouts.{IsNewerIn}
 use Rattle.exchange.specs.Said.{said_in}
-use Rattle.exchange.specs.declared.station_steps.Outcome.{Outcome}
-use Rattle.exchange.specs.declared.station_steps.Outcome.TheVariants.{Nothing, Failed, Done, Refused, Heard}
+use Rattle.exchange.specs.declared.station_steps.Received.{Received}
+use Rattle.exchange.specs.declared.station_steps.Received.TheVariants.{Nothing, Failed, Done, Refused, Heard}
 
 -- the station took the step of this call with this answer, and what passed over the wire is what came for it
 pub record Drives {R N : Type 0} (g : Ghosts R) (passed : N → Trace) (call : Call) (old new : Station R) (was is : N)
@@ -27,7 +27,7 @@ pub record Rests {R N : Type 0} (passed : N → Trace) (old new : Station R) (wa
   pub passes : Passes (passed was) (passed is) []
 
 -- the station took in a packet by one step at this moment; what its head says, or which member sent it in a layout that it does not read
-abbrev pub IsPacketTaken : {R : Type 0} → Ghosts R → List ℕ → ℕ → Station R → Station R → Outcome → Type 0
+abbrev pub IsPacketTaken : {R : Type 0} → Ghosts R → List ℕ → ℕ → Station R → Station R → Received → Type 0
 IsPacketTaken g bytes now old new Nothing = ⊥
 IsPacketTaken g bytes now old new Failed = ⊥
 IsPacketTaken g bytes now old new (Done answer said) = IsStep g (Receiving bytes now) old new (Ok answer) × (said ≡ said_in bytes)
@@ -37,7 +37,7 @@ IsPacketTaken g bytes now old new (Heard found) = ⊥
 -- one datagram at most came, and was taken in by one step at this moment, unless it has the mark of recalls and rolls; where that was done,
 -- this is what its head says, and where it was refused, which member sent it in a layout that the station does not read; what has the mark was
 -- read as one of them, and the station stayed
-abbrev pub IsTakenIn : {R N : Type 0} → Ghosts R → (N → Trace) → ℕ → Station R → Station R → N → N → Outcome → Type 0
+abbrev pub IsTakenIn : {R N : Type 0} → Ghosts R → (N → Trace) → ℕ → Station R → Station R → N → N → Received → Type 0
 IsTakenIn g passed now old new was is Nothing = Rests passed old new was is
 IsTakenIn g passed now old new was is Failed = Rests passed old new was is
 IsTakenIn g passed now old new was is (Done answer said) =

@@ -12,5 +12,5 @@ pub use layouts::NewerLayouts;
 pub use room::Intake;
 pub use said::Said;
 pub use sending::send_bytes;
-pub use station_steps::{Outcome, pass_over, send_answer, take_datagram};
+pub use station_steps::{Received, pass_over, send_answer, take_datagram};
 pub use strangers::{tell_lost, tell_strangers};

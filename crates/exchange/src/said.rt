@@ -4,7 +4,7 @@ ghost use Rattle.std.specs.Prelude.{◌≡◌};
 ghost use Rattle.exchange.specs.Said.{said_in};
 
 use ballots::{Member, Number};
-use messages::Kind;
+use messages::PacketKind;
 use packets::decode;
 use tape_frames::Version;
 
@@ -17,7 +17,7 @@ pub struct Said {
     pub number: Number,
     /// The member whose ballot it is about.
     pub owner: Member,
-    pub kind: Kind,
+    pub kind: PacketKind,
 }
 
 /// What the bytes of a datagram say, in the layout that they are of; `None` where they spell no packet.

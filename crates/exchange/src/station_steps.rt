@@ -20,7 +20,7 @@ use wire::{Arrival, Wire};
 
 /// What came of waiting for a datagram.
 #[derive(Drop)]
-pub enum Outcome {
+pub enum Received {
     /// None came.
     Nothing,
     /// The network failed.
@@ -48,15 +48,15 @@ fn has_mark(bytes: &[u8]) -> bool
 }
 
 /// The station takes in a packet, at a moment in milliseconds.
-fn take_packet<R: Rows>(station: &mut Station<R>, bytes: &[u8], now: u64) -> Outcome
+fn take_packet<R: Rows>(station: &mut Station<R>, bytes: &[u8], now: u64) -> Received
     ensures { IsPacketTaken R.Rows bytes.now now station.old station.new result }
 {
     match station.receive(bytes, now) {
-        Ok(answer) => Outcome::Done {
+        Ok(answer) => Received::Done {
             answer,
             said: said_in(bytes),
         },
-        Err(refusal) => Outcome::Refused {
+        Err(refusal) => Received::Refused {
             refusal,
             newer: newer_in(refusal, bytes),
         },
@@ -69,18 +69,18 @@ pub fn take_datagram<R: Rows, N: Wire>(
     wire: &mut N,
     now: u64,
     buffer: &mut [u8],
-) -> Outcome
+) -> Received
     ensures was_kept { R.kept station.new.rows → R.kept station.old.rows }
     ensures takes { IsTakenIn R.Rows N.passed now station.old station.new wire.old wire.new result }
 {
     let length = match wire.receive(buffer) {
-        Arrival::Nothing => return Outcome::Nothing,
+        Arrival::Nothing => return Received::Nothing,
         Arrival::Datagram { length } => length,
-        Arrival::Failed => return Outcome::Failed,
+        Arrival::Failed => return Received::Failed,
     };
     let bytes = &buffer[..length];
     if has_mark(bytes) {
-        return Outcome::Heard(hear(bytes));
+        return Received::Heard(hear(bytes));
     }
     take_packet(station, bytes, now)
 }

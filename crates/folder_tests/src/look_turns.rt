@@ -67,7 +67,7 @@ fn listing_of(alloc: Global, piece: &Piece) -> Option<Listing> {
 }
 
 /// Whether these are files of these numbers, in turn.
-fn have_numbers(files: &[offers::Found], numbers: &[u32]) -> bool {
+fn have_numbers(files: &[offers::FoundOffer], numbers: &[u32]) -> bool {
     for (place, file) in files.iter().enumerate() {
         if numbers.get(place).copied() != Some(file.request.number.get()) {
             return false;
@@ -77,8 +77,8 @@ fn have_numbers(files: &[offers::Found], numbers: &[u32]) -> bool {
 }
 
 /// Whether requests of these numbers and so many other files were found.
-fn has_found(seen: looks::Seen, numbers: &[u32], others: usize) -> bool {
-    let looks::Seen {
+fn has_found(seen: looks::EndedLook, numbers: &[u32], others: usize) -> bool {
+    let looks::EndedLook {
         requests,
         strays,
         ..

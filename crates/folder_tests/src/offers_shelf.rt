@@ -1,8 +1,8 @@
 //! A book of offers beside the files that lie among the offers: what happens, and what is to be done then.
 
 use ballots::Number;
-use folders::{FileId, Kind, Place, Request, Stamp, Wish};
-use offers::{Allowed, Book, Deed, Found, Reason};
+use folders::{FileId, FileRequest, OfferKind, Place, Stamp, Wish};
+use offers::{Allowed, Book, Deed, FoundOffer, OfferFault};
 use std::alloc::Global;
 use tape_frames::{Entry, Tape, TapeFault};
 
@@ -23,7 +23,7 @@ pub enum Told {
 #[derive(Clone, Copy)]
 pub enum Event {
     /// A file of this number and kind is laid, behind the others.
-    Lay(u32, Kind),
+    Lay(u32, OfferKind),
     /// The file at this place is written anew: it has this length.
     Change(usize, u64),
     /// The last file is taken away.
@@ -39,13 +39,13 @@ pub enum Event {
     /// The file of this number is moved once the number was released: to this place, or not.
     Leaving(Told, u32),
     /// The file was read: a tape holds one story, the same each time, and a withdrawal and a search are what they are.
-    Holds(u32, Kind),
+    Holds(u32, OfferKind),
     /// The file was read, and holds no tape.
-    HoldsNone(u32, Kind),
+    HoldsNone(u32, OfferKind),
     /// It could not be read or moved, at this moment.
-    CouldNot(u32, Kind, u64),
+    CouldNot(u32, OfferKind, u64),
     /// It was moved.
-    Moved(u32, Kind),
+    Moved(u32, OfferKind),
     /// What was asked for the number came to nothing, at this moment; whether it was under way.
     Ended(u32, u64, bool),
     /// The station has it open already, at this moment.
@@ -65,12 +65,12 @@ pub enum Event {
 struct Shelf {
     alloc: Global,
     book: Book,
-    found: Vec<Found>,
+    found: Vec<FoundOffer>,
 }
 
-fn request(number: u32, kind: Kind) -> Option<Request> {
+fn request(number: u32, kind: OfferKind) -> Option<FileRequest> {
     let number = Number::new(number)?;
-    Some(Request { number, kind })
+    Some(FileRequest { number, kind })
 }
 
 /// A deed in a word, and its number.
@@ -107,7 +107,7 @@ fn story(alloc: Global) -> Option<Entry> {
 }
 
 impl Shelf {
-    fn lay(&mut self, number: u32, kind: Kind) -> Option<bool> {
+    fn lay(&mut self, number: u32, kind: OfferKind) -> Option<bool> {
         let request = request(number, kind)?;
         let file = FileId {
             device: 0,
@@ -119,7 +119,7 @@ impl Shelf {
             changed: (0, 0),
             touched: (0, 0),
         };
-        Some(self.found.push(Found { request, stamp }).is_ok())
+        Some(self.found.push(FoundOffer { request, stamp }).is_ok())
     }
 
     fn change(&mut self, place: usize, length: u64) -> Option<bool> {
@@ -136,28 +136,31 @@ impl Shelf {
         Some(leaving.0 == wanted)
     }
 
-    fn holds(&mut self, number: u32, kind: Kind) -> Option<bool> {
+    fn holds(&mut self, number: u32, kind: OfferKind) -> Option<bool> {
         let request = request(number, kind)?;
         let wish = match kind {
-            Kind::Tape | Kind::Text => Wish::Offered(story(self.alloc)?),
-            Kind::Withdraw => Wish::Offered(Entry::Void),
-            Kind::Seek => Wish::Sought,
+            OfferKind::Tape | OfferKind::Text => Wish::Offered(story(self.alloc)?),
+            OfferKind::Withdraw => Wish::Offered(Entry::Void),
+            OfferKind::Seek => Wish::Sought,
         };
         self.book.was_read(request, Ok(wish));
         Some(true)
     }
 
-    fn holds_none(&mut self, number: u32, kind: Kind) -> Option<bool> {
-        self.book.was_read(request(number, kind)?, Err(Reason::Tape(TapeFault::Empty)));
+    fn holds_none(&mut self, number: u32, kind: OfferKind) -> Option<bool> {
+        self.book.was_read(
+            request(number, kind)?,
+            Err(OfferFault::Tape(TapeFault::Empty)),
+        );
         Some(true)
     }
 
-    fn could_not(&mut self, number: u32, kind: Kind, now: u64) -> Option<bool> {
+    fn could_not(&mut self, number: u32, kind: OfferKind, now: u64) -> Option<bool> {
         self.book.could_not(request(number, kind)?, now);
         Some(true)
     }
 
-    fn moved(&mut self, number: u32, kind: Kind) -> Option<bool> {
+    fn moved(&mut self, number: u32, kind: OfferKind) -> Option<bool> {
         self.book.moved(request(number, kind)?);
         Some(true)
     }
@@ -171,7 +174,7 @@ impl Shelf {
     }
 
     fn barred(&mut self, number: u32) -> Option<bool> {
-        let reason = Reason::Tape(TapeFault::Empty);
+        let reason = OfferFault::Tape(TapeFault::Empty);
         Some(self.book.barred(Number::new(number)?, reason))
     }
 

@@ -6,7 +6,7 @@ use crate::offers_shelf::Event::{
 };
 use crate::offers_shelf::Told::{Ask, Lost, Nothing, Read, ReadAnew, Refuse, Sent};
 use crate::offers_shelf::{Event, first_fault};
-use folders::Kind::{Seek, Tape, Text, Withdraw};
+use folders::OfferKind::{Seek, Tape, Text, Withdraw};
 
 /// A file is read once two looks, half a second apart, found it as it is; one that is changed is watched anew, also where it waits; one that
 /// could not be read is read a minute later; one that is taken away is forgotten.

@@ -1,7 +1,7 @@
 //! When a status is written, when it is told that it can't be, and what is kept in mind for it.
 
 use ballots::{Ballot, Member, Number};
-use plant_status::{Counts, Keeper, Released, Span, StationId, text_of};
+use plant_status::{Keeper, NumberSpan, PlantCounts, Released, StationId, text_of};
 use std::alloc::Global;
 
 /// The keeper of member 1 of 3.
@@ -51,13 +51,13 @@ fn is_told(alloc: Global) -> Option<bool> {
 }
 
 /// What is counted of a plant where 5 is missing.
-fn counts(alloc: Global) -> Option<Counts> {
-    Some(Counts {
+fn counts(alloc: Global) -> Option<PlantCounts> {
+    Some(PlantCounts {
         released: Released {
             count: 0,
             greatest: 0,
         },
-        missing: Vec::from_slice(alloc, &[Span { first: 5, last: 5 }]).ok()?,
+        missing: Vec::from_slice(alloc, &[NumberSpan { first: 5, last: 5 }]).ok()?,
         more: false,
         unwritten: 0,
     })

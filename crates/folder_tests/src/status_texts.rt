@@ -1,8 +1,8 @@
 //! The text of a status, written and read.
 
 use plant_status::{
-    Busy, Heard, Missing, Moment, Offers, Purpose, Released, Span, StationId, Status, Unread, read,
-    text_of,
+    Busy, HeardMember, Missing, Moment, NumberSpan, OfferCounts, Purpose, Released, StationId,
+    Status, Unread, read, text_of,
 };
 use std::alloc::Global;
 
@@ -143,7 +143,7 @@ const SINCE: Moment = Moment {
 };
 
 /// The members of the example.
-fn members(alloc: Global) -> Option<Vec<Heard>> {
+fn members(alloc: Global) -> Option<Vec<HeardMember>> {
     let first = Moment {
         second: 7,
         ..WRITTEN
@@ -156,11 +156,11 @@ fn members(alloc: Global) -> Option<Vec<Heard>> {
         ..WRITTEN
     };
     let members = [
-        Heard {
+        HeardMember {
             member: 1,
             at: Some(first),
         },
-        Heard {
+        HeardMember {
             member: 3,
             at: Some(third),
         },
@@ -187,11 +187,11 @@ fn all_busy(alloc: Global) -> Option<Vec<Busy>> {
 /// What is missing in the example.
 fn missing(alloc: Global) -> Option<Missing> {
     let spans = [
-        Span {
+        NumberSpan {
             first: 42,
             last: 42,
         },
-        Span {
+        NumberSpan {
             first: 44,
             last: 56,
         },
@@ -224,7 +224,7 @@ fn record(alloc: Global) -> Option<Status> {
         },
         busy: all_busy(alloc)?,
         missing: Some(missing(alloc)?),
-        offers: Offers {
+        offers: OfferCounts {
             waiting: 3,
             lost: 1,
             refused: 0,

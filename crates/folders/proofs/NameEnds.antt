@@ -7,8 +7,8 @@ use Rattle.std.proofs.lemmas.List.{append_cancel_right, take_all}
 use Rattle.std.proofs.lemmas.Fmt.{parse-decimal}
 use Rattle.protocol.specs.Limits.{last_number}
 use Rattle.folders.specs.Offers.{NamesNoneOf, NamesNone}
-use Rattle.folders.specs.declared.names.Kind.{Kind}
-use Rattle.folders.specs.declared.names.Kind.TheVariants.{Tape, Text, Withdraw, Seek}
+use Rattle.folders.specs.declared.names.OfferKind.{OfferKind}
+use Rattle.folders.specs.declared.names.OfferKind.TheVariants.{Tape, Text, Withdraw, Seek}
 
 -- what is left of a name where its end is cut off
 pub rest_is : (word s rest front : List ℕ) → StripsSuffix (FindsTextSuffix word) s rest → s ≡ front ++ word → rest ≡ front
@@ -26,4 +26,4 @@ each_kind name none Withdraw = none 2 Tape (omega arith)
 each_kind name none Seek = none 3 Tape (omega arith)
 
 pub names_none : (name : List ℕ) (i : ℕ) → 4 ≤ i → All (λ kind. NamesNoneOf kind name) (take i (Tape ∷ Text ∷ Withdraw ∷ Seek ∷ [])) → NamesNone name
-names_none name i past none = each_kind name (subst (λ (ks : List Kind). All (λ kind. NamesNoneOf kind name) ks) (take_all i (Tape ∷ Text ∷ Withdraw ∷ Seek ∷ []) past) none)
+names_none name i past none = each_kind name (subst (λ (ks : List OfferKind). All (λ kind. NamesNoneOf kind name) ks) (take_all i (Tape ∷ Text ∷ Withdraw ∷ Seek ∷ []) past) none)

@@ -5,29 +5,29 @@ use Rattle.protocol.specs.Limits.{last_number}
 use Rattle.tape_frames.specs.Entries.{owned_entry}
 use Rattle.folders.specs.declared.leaving.Place.{Place}
 use Rattle.folders.specs.declared.leaving.Place.TheVariants.{Sent, Lost, Refused, Done}
-use Rattle.folders.specs.declared.names.Kind.{Kind}
-use Rattle.folders.specs.declared.names.Kind.TheVariants as kinds
+use Rattle.folders.specs.declared.names.OfferKind.{OfferKind}
+use Rattle.folders.specs.declared.names.OfferKind.TheVariants as kinds
 use Rattle.folders.specs.declared.wishes.Wish.{Wish}
 use Rattle.folders.specs.declared.wishes.Wish.TheVariants.{Offered, Sought}
 
 -- how the names of this kind end
-abbrev pub kind_word : Kind → List ℕ
+abbrev pub kind_word : OfferKind → List ℕ
 kind_word kinds.Tape = codes ".tape"
 kind_word kinds.Text = codes ".text"
 kind_word kinds.Withdraw = codes ".withdraw"
 kind_word kinds.Seek = codes ".seek"
 
 -- the name is the very name of this number's file of this kind
-abbrev pub IsNameOf : List ℕ → ℕ → Kind → Type 0
+abbrev pub IsNameOf : List ℕ → ℕ → OfferKind → Type 0
 IsNameOf name n kind = name ≡ decimal n ++ kind_word kind
 
 -- no number, from 1 to 999,999, has a file of this kind with this name
-abbrev pub NamesNoneOf : Kind → List ℕ → Type 0
+abbrev pub NamesNoneOf : OfferKind → List ℕ → Type 0
 NamesNoneOf kind name = (n : ℕ) → 1 ≤ n → n ≤ last_number → ¬ IsNameOf name n kind
 
 -- no number has a file of any kind with this name
 abbrev pub NamesNone : List ℕ → Type 0
-NamesNone name = (kind : Kind) → NamesNoneOf kind name
+NamesNone name = (kind : OfferKind) → NamesNoneOf kind name
 
 -- the name is that of the file that ends a run
 abbrev pub IsStop : List ℕ → Type 0

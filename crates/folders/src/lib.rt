@@ -37,7 +37,7 @@ pub use memory::MemoryFolders;
 pub use moving::{Mover, move_behind};
 pub use named_file::NamedFile;
 pub use names::{
-    Kind, Request, STOP, Span, file_name, is_left, name_of, named, span_name, spanned,
+    FileRequest, OfferKind, STOP, Span, file_name, is_left, name_of, named, span_name, spanned,
 };
 pub use none::NoFolders;
 pub use own_names::{PASSAGE, is_own_name, own_name};

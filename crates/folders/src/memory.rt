@@ -25,13 +25,13 @@ use std::alloc::{AllocError, Global};
 
 /// A file among the offers.
 #[derive(Drop)]
-struct Offer {
+struct MemoryOffer {
     name: String,
     bytes: Vec<u8>,
     changed: i64,
 }
 
-impl Offer {
+impl MemoryOffer {
     fn stamp(&self) -> Stamp {
         Stamp {
             file: FileId {
@@ -46,8 +46,13 @@ impl Offer {
 }
 
 /// An offer of this name and these bytes, which were changed at this moment.
-fn offer_of(alloc: Global, name: &str, bytes: &[u8], changed: i64) -> Result<Offer, AllocError> {
-    Ok(Offer {
+fn offer_of(
+    alloc: Global,
+    name: &str,
+    bytes: &[u8],
+    changed: i64,
+) -> Result<MemoryOffer, AllocError> {
+    Ok(MemoryOffer {
         name: String::from_str(alloc, name)?,
         bytes: Vec::from_slice(alloc, bytes)?,
         changed,
@@ -81,7 +86,7 @@ impl Opened for OpenOffer {
 
 /// A station that keeps what went out.
 #[derive(Drop)]
-struct Keeper {
+struct MemoryKeeper {
     own: Origin,
     ledger: Ledger,
 }
@@ -89,18 +94,18 @@ struct Keeper {
 /// Folders in memory. They can be told to refuse what is written among the releases, and to write an offer anew while it is read.
 #[derive(Drop)]
 pub struct MemoryFolders {
-    offers: Vec<Offer>,
+    offers: Vec<MemoryOffer>,
     /// How many of them a look has come to that goes on.
     looked_at: usize,
     /// What is laid among the offers while a file is read next.
-    coming: Option<Offer>,
+    coming: Option<MemoryOffer>,
     /// What was done, in order.
     acts: Vec<Act>,
     is_full: bool,
     /// The bytes of the file `.released`; none where there is no file.
     released: Vec<u8>,
     /// Who keeps it.
-    keeper: Option<Keeper>,
+    keeper: Option<MemoryKeeper>,
 }
 
 impl MemoryFolders {
@@ -160,7 +165,7 @@ impl MemoryFolders {
         if !kept.has_head {
             self.released.clear();
         }
-        self.keeper = Some(Keeper {
+        self.keeper = Some(MemoryKeeper {
             own: *own,
             ledger: Ledger::new(alloc, kept.numbers),
         });
@@ -181,7 +186,7 @@ impl MemoryFolders {
         let ledger = Ledger::new(alloc, copy_of(alloc, known)?);
         went.set_aside = !self.released.is_empty();
         self.released.clear();
-        self.keeper = Some(Keeper { own: *own, ledger });
+        self.keeper = Some(MemoryKeeper { own: *own, ledger });
         Ok(went)
     }
 
@@ -263,7 +268,7 @@ impl MemoryFolders {
         self.offers.retain(|offer| offer.name.as_str() != name);
     }
 
-    fn find(&self, name: &str) -> Option<&Offer> {
+    fn find(&self, name: &str) -> Option<&MemoryOffer> {
         self.offers.iter().find(|offer| offer.name.as_str() == name)
     }
 

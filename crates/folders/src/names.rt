@@ -21,7 +21,7 @@ pub fn file_name(alloc: Global, number: u32, kind: &str) -> Result<String, Alloc
 
 /// What a file asks for, by the end of its name.
 #[derive(Clone, Copy, PartialEq, Eq)]
-pub enum Kind {
+pub enum OfferKind {
     /// Its frames are offered.
     Tape,
     /// The tape that its text is punched as is offered.
@@ -34,27 +34,27 @@ pub enum Kind {
 
 /// A number and what is asked for it.
 #[derive(Clone, Copy)]
-pub struct Request {
+pub struct FileRequest {
     /// The number that the name begins with.
     pub number: Number,
     /// What the end of the name asks for it.
-    pub kind: Kind,
+    pub kind: OfferKind,
 }
 
 /// The end of the names of this kind.
-fn kind_word(kind: Kind) -> &'static str
+fn kind_word(kind: OfferKind) -> &'static str
     ensures { result.now ≡ kind_word kind }
 {
     match kind {
-        Kind::Tape => ".tape",
-        Kind::Text => ".text",
-        Kind::Withdraw => ".withdraw",
-        Kind::Seek => ".seek",
+        OfferKind::Tape => ".tape",
+        OfferKind::Text => ".text",
+        OfferKind::Withdraw => ".withdraw",
+        OfferKind::Seek => ".seek",
     }
 }
 
 /// The name of the file that asks for this; where there is no memory for it, `AllocError`.
-pub fn name_of(alloc: Global, request: Request) -> Result<String, AllocError>
+pub fn name_of(alloc: Global, request: FileRequest) -> Result<String, AllocError>
     ensures { IfOk result (λ t. IsNameOf (string_bytes t) request.number request.kind) }
 {
     file_name(alloc, request.number.get(), kind_word(request.kind))
@@ -90,7 +90,7 @@ pub fn is_left(name: &str) -> bool
 }
 
 /// The number that a name begins with, where the rest is the end of this kind.
-fn number_before(name: &str, kind: Kind) -> Option<Number>
+fn number_before(name: &str, kind: OfferKind) -> Option<Number>
     ensures { (n : ℕ) → 1 ≤ n → n ≤ last_number → IsNameOf name.now n kind → result ≡ Some n }
 {
     let digits = name.strip_suffix(kind_word(kind))?;
@@ -98,7 +98,7 @@ fn number_before(name: &str, kind: Kind) -> Option<Number>
 }
 
 /// What a name asks for, if it ends as one of this kind: it has to be the very name of the number's file.
-fn named_as(alloc: Global, name: &str, kind: Kind) -> Result<Option<Request>, AllocError>
+fn named_as(alloc: Global, name: &str, kind: OfferKind) -> Result<Option<FileRequest>, AllocError>
     ensures { IfOk result (λ named. MatchOption named (NamesNoneOf kind name.now) (λ r. IsNameOf name.now r.number r.kind)) }
 {
     let Some(number) = number_before(name, kind) else {
@@ -106,7 +106,7 @@ fn named_as(alloc: Global, name: &str, kind: Kind) -> Result<Option<Request>, Al
     };
     let own = file_name(alloc, number.get(), kind_word(kind))?;
     if own.as_str() == name {
-        Ok(Some(Request { number, kind }))
+        Ok(Some(FileRequest { number, kind }))
     } else {
         Ok(None)
     }
@@ -114,11 +114,16 @@ fn named_as(alloc: Global, name: &str, kind: Kind) -> Result<Option<Request>, Al
 
 /// What the name of a file among the offers asks for; `None` where it asks for nothing that there is. It has to be the very name of the
 /// number's file, `12.tape` and not `012.tape`; where there is no memory to make that one, `AllocError`.
-pub fn named(alloc: Global, name: &str) -> Result<Option<Request>, AllocError>
+pub fn named(alloc: Global, name: &str) -> Result<Option<FileRequest>, AllocError>
     ensures sound { IfOk result (λ named. IfSome named (λ r. IsNameOf name.now r.number r.kind)) }
     ensures else_none { IfOk result (λ named. IfNone named (NamesNone name.now)) }
 {
-    for kind in [Kind::Tape, Kind::Text, Kind::Withdraw, Kind::Seek] {
+    for kind in [
+        OfferKind::Tape,
+        OfferKind::Text,
+        OfferKind::Withdraw,
+        OfferKind::Seek,
+    ] {
         let found = named_as(alloc, name, kind)?;
         if found.is_some() {
             return Ok(found);

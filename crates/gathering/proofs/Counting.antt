@@ -5,8 +5,8 @@ use Rattle.std.specs.List.{All}
 use Rattle.std.proofs.lemmas.Bool.{eq-eqb, ne_eqb, eqb-true, cases_Bool}
 use Rattle.std.proofs.lemmas.List.Sums.{sum_by-append, sum_by_push, sum_by-set, sum_by-remove}
 use Rattle.seals.specs.declared.label.Label.{Label}
-use Rattle.seals.specs.declared.opening.Place.{Place}
-use Rattle.seals.specs.declared.opening.Place.TheVariants as places
+use Rattle.seals.specs.declared.opening.KeyPlace.{KeyPlace}
+use Rattle.seals.specs.declared.opening.KeyPlace.TheVariants as places
 use Rattle.gathering.specs.Parts.{Parts, blank, with_part}
 use Rattle.gathering.specs.Places.{IsBounded, IsReady, PutsAt, Roomed, count_from}
 
@@ -47,14 +47,14 @@ one_more from member n less most = elim (cases_Bool (eqb from member)) as (λ _.
   | inr f ↦ rw f (omega arith)
 ]
 
-push_counts : (label : Label) (place : Place) (roomed : List Parts) → IsBounded roomed → count_from label.from roomed < 4 → IsBounded (roomed ++ blank place label ∷ [])
+push_counts : (label : Label) (place : KeyPlace) (roomed : List Parts) → IsBounded roomed → count_from label.from roomed < 4 → IsBounded (roomed ++ blank place label ∷ [])
 push_counts label place roomed few less member =
     let e = sum_by_push (one_of member) roomed (blank place label) in
     let most = few member in
     let bound = one_more label.from member (count_from member roomed) (λ (same : label.from ≡ member). subst (λ (m : ℕ). count_from m roomed < 4) same less) most in
     omega arith
 
-pub ready_counts : (place : Place) (label : Label) (old new : List Parts) (n : ℕ) → IsReady place label old new n → IsBounded old → IsBounded new
+pub ready_counts : (place : KeyPlace) (label : Label) (old new : List Parts) (n : ℕ) → IsReady place label old new n → IsBounded old → IsBounded new
 ready_counts place label old new n (inl h) few = λ m. rw h.1 (few m)
 ready_counts place label old new n (inr h) few =
     let roomed = h.1.0 in

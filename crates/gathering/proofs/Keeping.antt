@@ -8,7 +8,7 @@ use Rattle.std.proofs.lemmas.List.Edits.{length-remove, get_or-remove_below, get
 use Rattle.std.proofs.lemmas.List.Elements.{All-append, All-take, All-drop, All-set, All-push}
 use Rattle.std.proofs.Math.Seq.{take-set-lt}
 use Rattle.seals.specs.declared.label.Label.{Label}
-use Rattle.seals.specs.declared.opening.Place.{Place}
+use Rattle.seals.specs.declared.opening.KeyPlace.{KeyPlace}
 use Rattle.gathering.specs.Parts.{Parts, IsFor, blank, with_part}
 use Rattle.gathering.specs.Places.{IsFirst, IsReady, PutsAt, Roomed, Holds, Knows, Keeps, count_from}
 use Rattle.gathering.proofs.Counting.{some_parts}
@@ -126,17 +126,17 @@ keep_roomed P Q A member old new spared (inl same) known = subst (Known P Q A) (
 keep_roomed P Q A member old new (inl spared) (inr drops) known = subst (Known P Q A) (sym drops.3) (keep_remove P Q A old drops.0 drops.1 (spared (get_or old drops.0 some_parts) (drops.2 some_parts)) known)
 keep_roomed P Q A member old new (inr few) (inr drops) known = let many = drops.4 in absurd (omega arith)
 
-not_for : (place place' : Place) (label label' : Label) (p : Parts) → ¬ ((place' ≡ place) × (label' ≡ label)) → IsFor place label p → ¬ IsFor place' label' p
+not_for : (place place' : KeyPlace) (label label' : Label) (p : Parts) → ¬ ((place' ≡ place) × (label' ≡ label)) → IsFor place label p → ¬ IsFor place' label' p
 not_for place place' label label' p other f g = other (sym g.0 ∙ f.0, sym g.1 ∙ f.1)
 
-not_from : (place' : Place) (label label' : Label) → label'.from ≢ label.from → (p : Parts) → p.label.from ≡ label.from → ¬ IsFor place' label' p
+not_from : (place' : KeyPlace) (label label' : Label) → label'.from ≢ label.from → (p : Parts) → p.label.from ≡ label.from → ¬ IsFor place' label' p
 not_from place' label label' differ p from g = differ (sym (ap (λ (l : Label). l.from) g.1) ∙ from)
 
-spares : (place' : Place) (label label' : Label) (old : List Parts) → (label'.from ≢ label.from) ⊎ (count_from label.from old < 4) → ((p : Parts) → p.label.from ≡ label.from → ¬ IsFor place' label' p) ⊎ (count_from label.from old < 4)
+spares : (place' : KeyPlace) (label label' : Label) (old : List Parts) → (label'.from ≢ label.from) ⊎ (count_from label.from old < 4) → ((p : Parts) → p.label.from ≡ label.from → ¬ IsFor place' label' p) ⊎ (count_from label.from old < 4)
 spares place' label label' old (inl differ) = inl (not_from place' label label' differ)
 spares place' label label' old (inr few) = inr few
 
-ready_keeps : (place : Place) (label : Label) (old new : List Parts) (n : ℕ) → IsReady place label old new n → Keeps place label old new
+ready_keeps : (place : KeyPlace) (label : Label) (old new : List Parts) (n : ℕ) → IsReady place label old new n → Keeps place label old new
 ready_keeps place label old new n (inl ready) = λ place' label' packet had other spared known. subst (Knows place' label' packet had) (sym ready.1) known
 ready_keeps place label old new n (inr ready) = λ place' label' packet had other spared known.
     let roomed = ready.1.0 in
@@ -148,7 +148,7 @@ ready_keeps place label old new n (inr ready) = λ place' label' packet had othe
     subst (Knows place' label' packet had) (sym ready.1.2) pushed
 
 -- a part that is taken in
-pub put_keeps : (place : Place) (label : Label) (index : ℕ) (part : List ℕ) (old mid new : List Parts) (n : ℕ) (whole : Bool) → IsReady place label old mid n → PutsAt n index part mid new whole → Keeps place label old new
+pub put_keeps : (place : KeyPlace) (label : Label) (index : ℕ) (part : List ℕ) (old mid new : List Parts) (n : ℕ) (whole : Bool) → IsReady place label old mid n → PutsAt n index part mid new whole → Keeps place label old new
 put_keeps place label index part old mid new n whole ready puts = λ place' label' packet had other spared known.
     let P : Parts → Type 0 = IsFor place' label' in
     let Q : Parts → Type 0 = Holds packet had in
@@ -160,7 +160,7 @@ put_keeps place label index part old mid new n whole ready puts = λ place' labe
     subst (Knows place' label' packet had) (sym (puts some_parts).0) (keep_set P Q A mid n (with_part p index part) other_x other_x kept)
 
 -- and the packet that is whole then taken out
-pub whole_keeps : (place : Place) (label : Label) (index : ℕ) (part : List ℕ) (old mid new rest : List Parts) (n : ℕ) (whole : Bool) → IsReady place label old mid n → PutsAt n index part mid new whole → rest ≡ remove new n → Keeps place label old rest
+pub whole_keeps : (place : KeyPlace) (label : Label) (index : ℕ) (part : List ℕ) (old mid new rest : List Parts) (n : ℕ) (whole : Bool) → IsReady place label old mid n → PutsAt n index part mid new whole → rest ≡ remove new n → Keeps place label old rest
 whole_keeps place label index part old mid new rest n whole ready puts out = λ place' label' packet had other spared known.
     let P : Parts → Type 0 = IsFor place' label' in
     let Q : Parts → Type 0 = Holds packet had in

@@ -8,7 +8,7 @@ use Rattle.std.proofs.lemmas.List.Elements.{All-append, All-take, All-drop}
 use Rattle.seals.specs.Sealing.{count_of, part_of, part_len}
 use Rattle.seals.specs.declared.label.Label.{Label}
 use Rattle.seals.specs.declared.opening.Keys.{Keys}
-use Rattle.seals.specs.declared.opening.Place.{Place}
+use Rattle.seals.specs.declared.opening.KeyPlace.{KeyPlace}
 use Rattle.gathering.specs.Parts.{Parts, IsFor, IsSealedAs, IsWhole, blank, placed, with_part}
 use Rattle.seals.specs.Opening.{IsPart}
 use Rattle.gathering.specs.Places.{IsFirst, IsReady, PutsAt, Roomed, Holds, Knows, Gathers}
@@ -18,7 +18,7 @@ use Rattle.gathering.proofs.Counting.{some_parts}
 -- ---- one packet
 
 -- the length in the label is that of the packet
-length_sealed : (keys : Keys) (place : Place) (label : Label) (packet : List ℕ) → IsSealedAs keys place label packet → label.length ≡ length packet
+length_sealed : (keys : Keys) (place : KeyPlace) (label : Label) (packet : List ℕ) → IsSealedAs keys place label packet → label.length ≡ length packet
 length_sealed keys place label packet sealed = ap (λ (l : Label). l.length) sealed.2
 
 none_there : (n k : ℕ) → get_or (replicate n false) k false ≡ false
@@ -28,7 +28,7 @@ none_there n k = elim (cases_lt k n) as (λ _. get_or (replicate n false) k fals
 ]
 
 -- nothing is there of one that was begun
-blank_holds : (place : Place) (label : Label) (packet : List ℕ) → label.length ≡ length packet → Holds packet (replicate 11 false) (blank place label)
+blank_holds : (place : KeyPlace) (label : Label) (packet : List ℕ) → label.length ≡ length packet → Holds packet (replicate 11 false) (blank place label)
 blank_holds place label packet long = record {
   room = length-replicate label.length 0 ∙ long;
   have = refl;
@@ -91,11 +91,11 @@ roomed_none P member old new (inr h) none =
     (All-append (λ (p : Parts). ¬ P p) (take h.0 old) (drop (suc h.0) old) (All-take (λ (p : Parts). ¬ P p) h.0 old none) (All-drop (λ (p : Parts). ¬ P p) (suc h.0) old none))
 
 -- these parts of the packet stand there, first of those for it
-abbrev pub Stands : Place → Label → List ℕ → List Bool → List Parts → ℕ → Type 0
+abbrev pub Stands : KeyPlace → Label → List ℕ → List Bool → List Parts → ℕ → Type 0
 Stands place label packet had slots n = IsFirst (IsFor place label) slots n × HoldsAt (Holds packet had) slots n
 
 -- once it is ready, what is known of it stands there
-pub ready_stands : (place : Place) (label : Label) (packet : List ℕ) (had : List Bool) (old new : List Parts) (n : ℕ) → label.length ≡ length packet → Knows place label packet had old → IsReady place label old new n → Stands place label packet had new n
+pub ready_stands : (place : KeyPlace) (label : Label) (packet : List ℕ) (had : List Bool) (old new : List Parts) (n : ℕ) → label.length ≡ length packet → Knows place label packet had old → IsReady place label old new n → Stands place label packet had new n
 ready_stands place label packet had old new n long (inl none) (inl ready) = absurd (first_not_none (IsFor place label) old n none.0 ready.0)
 ready_stands place label packet had old new n long (inr some) (inr ready) = absurd (first_not_none (IsFor place label) old some.0 ready.0 some.1)
 ready_stands place label packet had old new n long (inr some) (inl ready) =
@@ -115,7 +115,7 @@ ready_stands place label packet had old new n long (inl none) (inr ready) =
 -- ---- a part is taken in
 
 -- it stands there with this part more, and it is told whether it is whole
-put_stands : (place : Place) (label : Label) (packet : List ℕ) (had : List Bool) (index : ℕ) (part : List ℕ) (old new : List Parts) (n : ℕ) (whole : Bool)
+put_stands : (place : KeyPlace) (label : Label) (packet : List ℕ) (had : List Bool) (index : ℕ) (part : List ℕ) (old new : List Parts) (n : ℕ) (whole : Bool)
     → label.length ≡ length packet → Stands place label packet had old n → IsPart label index part → part ≡ part_of packet index → PutsAt n index part old new whole
     → Stands place label packet (set had index true) new n × ((whole ≡ true) ↔ IsWhole (set had index true) (count_of (length packet)))
 put_stands place label packet had index part old new n whole long stands is is_part puts =
@@ -144,7 +144,7 @@ put_stands place label packet had index part old new n whole long stands is is_p
     )
 
 -- one that is not whole then
-pub gathers_none : (keys : Keys) (place : Place) (label : Label) (index : ℕ) (part : List ℕ) (old mid new : List Parts) (n : ℕ) (whole : Bool)
+pub gathers_none : (keys : Keys) (place : KeyPlace) (label : Label) (index : ℕ) (part : List ℕ) (old mid new : List Parts) (n : ℕ) (whole : Bool)
     → IsPart label index part → IsReady place label old mid n → PutsAt n index part mid new whole → whole ≡ false → Gathers keys place label index part old new None
 gathers_none keys place label index part old mid new n whole is ready puts lacks = λ packet had sealed is_part knows.
     let long = length_sealed keys place label packet sealed in
@@ -157,7 +157,7 @@ answered items bytes packet N W None same is e w = absurd (false≢true is)
 answered items bytes packet N W (Some v) same is e w = (same ∙ e, w)
 
 -- one that is whole then
-pub gathers_whole : {V : Type 0} (items : V → List ℕ) (keys : Keys) (place : Place) (label : Label) (index : ℕ) (part : List ℕ) (old mid new rest : List Parts) (n : ℕ) (whole : Bool) (p : Parts) (o : Option V)
+pub gathers_whole : {V : Type 0} (items : V → List ℕ) (keys : Keys) (place : KeyPlace) (label : Label) (index : ℕ) (part : List ℕ) (old mid new rest : List Parts) (n : ℕ) (whole : Bool) (p : Parts) (o : Option V)
     → IsPart label index part → IsReady place label old mid n → PutsAt n index part mid new whole → whole ≡ true → p ≡ get_or new n p
     → IfSome o (λ v. items v ≡ p.bytes) → (IsSealedAs keys p.place p.label p.bytes → IsSome o)
     → Gathers keys place label index part old rest (option_map items o)
@@ -171,12 +171,12 @@ gathers_whole items keys place label index part old mid new rest n whole p o is 
     let bytes = whole_bytes packet (set had index true) p holds now in
     let sealed_p : IsSealedAs keys p.place p.label p.bytes =
     subst (λ (b : List ℕ). IsSealedAs keys p.place p.label b) (sym bytes)
-    (subst (λ (l : Label). IsSealedAs keys p.place l packet) (sym for_p.1) (subst (λ (k : Place). IsSealedAs keys k label packet) (sym for_p.0) sealed))
+    (subst (λ (l : Label). IsSealedAs keys p.place l packet) (sym for_p.1) (subst (λ (k : KeyPlace). IsSealedAs keys k label packet) (sym for_p.0) sealed))
     in
     answered items p.bytes packet _ _ o some (only sealed_p) bytes now
 
 -- what stands there is for the piece
-pub ready_for : (place : Place) (label : Label) (old new : List Parts) (n : ℕ) → IsReady place label old new n → (n < length new) × HoldsAt (IsFor place label) new n
+pub ready_for : (place : KeyPlace) (label : Label) (old new : List Parts) (n : ℕ) → IsReady place label old new n → (n < length new) × HoldsAt (IsFor place label) new n
 ready_for place label old new n (inl ready) = subst (λ (l : List Parts). (n < length l) × HoldsAt (IsFor place label) l n) (sym ready.1) (ready.0.inside, ready.0.here)
 ready_for place label old new n (inr ready) =
     let roomed = ready.1.0 in
@@ -186,7 +186,7 @@ ready_for place label old new n (inr ready) =
     subst (λ (l : List Parts). (n < length l) × HoldsAt (IsFor place label) l n) (sym ready.1.2)
     (subst (λ (m : ℕ). (m < length (roomed ++ p ∷ [])) × HoldsAt (IsFor place label) (roomed ++ p ∷ []) m) (sym ready.1.3) (omega arith, here))
 
-pub taken_for : (place : Place) (label : Label) (index : ℕ) (part : List ℕ) (old mid new : List Parts) (n : ℕ) (whole : Bool) (p : Parts)
+pub taken_for : (place : KeyPlace) (label : Label) (index : ℕ) (part : List ℕ) (old mid new : List Parts) (n : ℕ) (whole : Bool) (p : Parts)
     → IsReady place label old mid n → PutsAt n index part mid new whole → p ≡ get_or new n p → IsFor place label p
 taken_for place label index part old mid new n whole p ready puts at =
     let r = ready_for place label old mid n ready in
@@ -194,7 +194,7 @@ taken_for place label index part old mid new n whole p ready puts at =
     let new_is : get_or new n p ≡ q = ap (λ (l : List Parts). get_or l n p) (puts some_parts).0 ∙ get_or-set_same mid n q p r.0 in
     subst (IsFor place label) (sym (at ∙ new_is)) (r.1 some_parts)
 
-pub ready_inside : (place : Place) (label : Label) (index : ℕ) (part : List ℕ) (old mid new : List Parts) (n : ℕ) (whole : Bool) → IsReady place label old mid n → PutsAt n index part mid new whole → n < length new
+pub ready_inside : (place : KeyPlace) (label : Label) (index : ℕ) (part : List ℕ) (old mid new : List Parts) (n : ℕ) (whole : Bool) → IsReady place label old mid n → PutsAt n index part mid new whole → n < length new
 ready_inside place label index part old mid new n whole ready puts =
     let r = ready_for place label old mid n ready in
     let q = with_part (get_or mid n some_parts) index part in
@@ -202,13 +202,13 @@ ready_inside place label index part old mid new n whole ready puts =
     let inside = r.0 in
     omega arith
 
-sealed_as : {V : Type 0} (items : V → List ℕ) (keys : Keys) (place : Place) (label : Label) (p : Parts) (o : Option V) → IsFor place label p
+sealed_as : {V : Type 0} (items : V → List ℕ) (keys : Keys) (place : KeyPlace) (label : Label) (p : Parts) (o : Option V) → IsFor place label p
     → IfSome o (λ v. (items v ≡ p.bytes) × IsSealedAs keys p.place p.label (items v)) → IfSome o (λ v. IsSealedAs keys place label (items v))
 sealed_as items keys place label p None for_p some = tt
 sealed_as items keys place label p (Some v) for_p some =
-    subst (λ (k : Place). IsSealedAs keys k label (items v)) for_p.0 (subst (λ (l : Label). IsSealedAs keys p.place l (items v)) for_p.1 some.1)
+    subst (λ (k : KeyPlace). IsSealedAs keys k label (items v)) for_p.0 (subst (λ (l : Label). IsSealedAs keys p.place l (items v)) for_p.1 some.1)
 
-pub finished : {V : Type 0} (items : V → List ℕ) (keys : Keys) (place : Place) (label : Label) (p : Parts) (o : Option V) → IsFor place label p
+pub finished : {V : Type 0} (items : V → List ℕ) (keys : Keys) (place : KeyPlace) (label : Label) (p : Parts) (o : Option V) → IsFor place label p
     → IfSome o (λ v. (items v ≡ p.bytes) × IsSealedAs keys p.place p.label (items v)) → IfSome o (λ v. IsSealedAs keys place label (items v)) × IfSome o (λ v. items v ≡ p.bytes)
 finished items keys place label p None for_p some = (tt, tt)
 finished items keys place label p (Some v) for_p some = (sealed_as items keys place label p (Some v) for_p some, some.0)

@@ -4,11 +4,11 @@ use Rattle.seals.specs.Sealing.{label_of}
 use Rattle.seals.specs.Opening.{IsKeyAt, IsLabel}
 use Rattle.seals.specs.declared.label.Label.{Label}
 use Rattle.seals.specs.declared.opening.Keys.{Keys}
-use Rattle.seals.specs.declared.opening.Place.{Place}
+use Rattle.seals.specs.declared.opening.KeyPlace.{KeyPlace}
 
 -- under which key it is sent, its label, which parts are there, and the bytes so far
 pub record Parts : Type 0 where
-  pub place : Place
+  pub place : KeyPlace
   pub label : Label
   pub have : List Bool
   pub bytes : List ℕ
@@ -20,11 +20,11 @@ pub record IsSound (p : Parts) : Type 0 where
   pub marks : length p.have ≡ 11
 
 -- none is there
-abbrev pub blank : Place → Label → Parts
+abbrev pub blank : KeyPlace → Label → Parts
 blank place label = record { place = place; label = label; have = replicate 11 false; bytes = replicate label.length 0 }
 
 -- it is the packet of this label, under the key at this place
-abbrev pub IsFor : Place → Label → Parts → Type 0
+abbrev pub IsFor : KeyPlace → Label → Parts → Type 0
 IsFor place label p = (p.place ≡ place) × (p.label ≡ label)
 
 -- the bytes, this part in its place
@@ -36,7 +36,7 @@ abbrev pub IsWhole : List Bool → ℕ → Type 0
 IsWhole have count = (k : ℕ) → k < count → slice_index_or have k false ≡ true
 
 -- the packet was sealed with this label, under the key at this place
-abbrev pub IsSealedAs : Keys → Place → Label → List ℕ → Type 0
+abbrev pub IsSealedAs : Keys → KeyPlace → Label → List ℕ → Type 0
 IsSealedAs keys place label packet = (block : List ℕ) × IsKeyAt keys place block × (label ≡ label_of block label.from label.to packet)
 
 -- with this part in its place

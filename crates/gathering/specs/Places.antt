@@ -4,7 +4,7 @@ use Rattle.std.specs.List.{All, HoldsAt}
 use Rattle.seals.specs.Sealing.{count_of, part_of}
 use Rattle.seals.specs.declared.label.Label.{Label}
 use Rattle.seals.specs.declared.opening.Keys.{Keys}
-use Rattle.seals.specs.declared.opening.Place.{Place}
+use Rattle.seals.specs.declared.opening.KeyPlace.{KeyPlace}
 use Rattle.gathering.specs.Parts.{Parts, IsFor, IsSealedAs, IsWhole, blank, with_part}
 
 -- the first of which the fact holds stands there
@@ -28,7 +28,7 @@ Roomed member old new =
     ⊎ ((n : ℕ) × (n < length old) × HoldsAt (λ p. p.label.from ≡ member) old n × (new ≡ remove old n) × (4 ≤ count_from member old))
 
 -- the packet of this label stands there: it stood there, or is begun behind the others, for none of its parts was there
-abbrev pub IsReady : Place → Label → List Parts → List Parts → ℕ → Type 0
+abbrev pub IsReady : KeyPlace → Label → List Parts → List Parts → ℕ → Type 0
 IsReady place label old new n =
     (IsFirst (IsFor place label) old n × (new ≡ old))
     ⊎ (All (λ p. ¬ IsFor place label p) old
@@ -48,14 +48,14 @@ pub record Holds (packet : List ℕ) (had : List Bool) (p : Parts) : Type 0 wher
   pub parts : (k : ℕ) → k < count_of (length packet) → slice_index_or had k false ≡ true → part_of p.bytes k ≡ part_of packet k
 
 -- these parts of the packet of this label are there: where none is, it need not stand there at all
-abbrev pub Knows : Place → Label → List ℕ → List Bool → List Parts → Type 0
+abbrev pub Knows : KeyPlace → Label → List ℕ → List Bool → List Parts → Type 0
 Knows place label packet had slots =
     (All (λ p. ¬ IsFor place label p) slots × (had ≡ replicate 11 false))
     ⊎ ((n : ℕ) × IsFirst (IsFor place label) slots n × HoldsAt (Holds packet had) slots n)
 
 -- a part of a packet that was sealed with this label is there then as well; where it was the last that lacked, the packet is answered,
 -- and else nothing
-abbrev pub Gathers : Keys → Place → Label → ℕ → List ℕ → List Parts → List Parts → Option (List ℕ) → Type 0
+abbrev pub Gathers : Keys → KeyPlace → Label → ℕ → List ℕ → List Parts → List Parts → Option (List ℕ) → Type 0
 Gathers keys place label index part old new answer =
     (packet : List ℕ) (had : List Bool)
     → IsSealedAs keys place label packet → part ≡ part_of packet index → Knows place label packet had old
@@ -64,8 +64,8 @@ Gathers keys place label index part old new answer =
     (λ out. (out ≡ packet) × IsWhole (slice_set had index true) (count_of (length packet)))
 
 -- what is known of any other packet stays, but for one of the same sender where that has four
-abbrev pub Keeps : Place → Label → List Parts → List Parts → Type 0
+abbrev pub Keeps : KeyPlace → Label → List Parts → List Parts → Type 0
 Keeps place label old new =
-    (place' : Place) (label' : Label) (packet : List ℕ) (had : List Bool)
+    (place' : KeyPlace) (label' : Label) (packet : List ℕ) (had : List Bool)
     → ¬ ((place' ≡ place) × (label' ≡ label)) → (label'.from ≢ label.from) ⊎ (count_from label.from old < 4)
     → Knows place' label' packet had old → Knows place' label' packet had new

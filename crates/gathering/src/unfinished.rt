@@ -7,7 +7,7 @@ ghost use Rattle.gathering.specs.Parts.{IsFor, IsSealedAs, IsWhole, placed, blan
 ghost use Rattle.seals.specs.Opening.{IsLabel};
 
 use ballots::Member;
-use seals::{Keys, Label, MOST_PARTS, Piece, Place};
+use seals::{KeyPlace, Keys, Label, MOST_PARTS, Piece};
 use std::alloc::{AllocError, Global};
 use std::marker::Model;
 
@@ -17,7 +17,7 @@ const ROOM: usize = 1192;
 /// A packet of this label, under the key at this place, of which some parts are there.
 #[derive(Drop)]
 pub(crate) struct Unfinished {
-    place: Place,
+    place: KeyPlace,
     label: Label,
     have: [bool; MOST_PARTS],
     bytes: Vec<u8>,
@@ -57,7 +57,11 @@ fn has_all(have: &[bool; MOST_PARTS], count: u8) -> bool
 
 impl Unfinished {
     /// One of which no part is there yet.
-    pub(crate) fn new(alloc: Global, place: Place, label: Label) -> Result<Unfinished, AllocError>
+    pub(crate) fn new(
+        alloc: Global,
+        place: KeyPlace,
+        label: Label,
+    ) -> Result<Unfinished, AllocError>
         requires { IsLabel label }
         ensures { IfOk result (λ u. u ≡ blank place label) }
     {

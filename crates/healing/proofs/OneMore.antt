@@ -5,7 +5,7 @@ use Rattle.std.proofs.lemmas.List.{take_more}
 use Rattle.std.proofs.lemmas.Bool.{eqb-true}
 use Rattle.std.proofs.lemmas.List.Folds.{list_any-append}
 use Rattle.protocol.specs.Limits.{last_number}
-use Rattle.healing.specs.declared.case.Case.{Case}
+use Rattle.healing.specs.declared.case.LackedNumber.{LackedNumber}
 use Rattle.healing.specs.Lists.{Rise, is_among}
 use Rattle.healing.specs.Healing.{IsDueIn, AreDueIn}
 
@@ -22,7 +22,7 @@ pub ends_more : (above : ℕ) (ns : List ℕ) (n : ℕ) → Ends above (ns ++ n 
 ends_more above [] n = refl
 ends_more above (m ∷ ns) n = ends_more m ns n
 
-pub due_more : (cases : List (ℕ × Case)) (now : ℕ) (ns : List ℕ) (n : ℕ) → AreDueIn cases now ns → IsDueIn cases now n → AreDueIn cases now (ns ++ n ∷ [])
+pub due_more : (cases : List (ℕ × LackedNumber)) (now : ℕ) (ns : List ℕ) (n : ℕ) → AreDueIn cases now ns → IsDueIn cases now n → AreDueIn cases now (ns ++ n ∷ [])
 due_more cases now [] n due is = (is, tt)
 due_more cases now (m ∷ ns) n due is = (due.0, due_more cases now ns n due.1 is)
 

@@ -4,19 +4,19 @@ use Rattle.std.specs.Prelude.{◌||◌}
 use Rattle.std.proofs.lemmas.Bool.{eqb-true}
 use Rattle.std.proofs.lemmas.Option.{none-some}
 use Rattle.gone_out.specs.Numbers.{has}
-use Rattle.healing.specs.declared.case.Case.{Case}
+use Rattle.healing.specs.declared.case.LackedNumber.{LackedNumber}
 use Rattle.healing.specs.Lists.{is_among}
 use Rattle.healing.specs.Cases.{ripe_in}
 use Rattle.healing.specs.Healing.{HealingValue, IsHealing, case_in, case_at, IsDueIn, AreDueIn, IsRipeIn}
 
-not_due : (cases : List (ℕ × Case)) (now n : ℕ) → case_in cases n ≡ None → ¬ IsDueIn cases now n
+not_due : (cases : List (ℕ × LackedNumber)) (now n : ℕ) → case_in cases n ≡ None → ¬ IsDueIn cases now n
 not_due cases now n none due = none-some _ (sym none ∙ due.1)
 
-same_due : (cases : List (ℕ × Case)) (now m n : ℕ) → eqb m n ≡ true → case_in cases n ≡ None → ¬ IsDueIn cases now m
+same_due : (cases : List (ℕ × LackedNumber)) (now m n : ℕ) → eqb m n ≡ true → case_in cases n ≡ None → ¬ IsDueIn cases now m
 same_due cases now m n same none = not_due cases now m (ap (case_in cases) (eqb-true m n same) ∙ none)
 
 -- what has no case is not among those that are due
-pub not_among : (cases : List (ℕ × Case)) (now n : ℕ) (batch : List ℕ) → case_in cases n ≡ None → AreDueIn cases now batch → is_among batch n ≡ false
+pub not_among : (cases : List (ℕ × LackedNumber)) (now n : ℕ) (batch : List ℕ) → case_in cases n ≡ None → AreDueIn cases now batch → is_among batch n ≡ false
 not_among cases now n [] none due = refl
 not_among cases now n (m ∷ ms) none due = go (eqb m n) refl (not_among cases now n ms none due.1)
   where
@@ -31,5 +31,5 @@ pub not_ripe : (h : HealingValue) (now number : ℕ) → IsHealing h → IsRipeI
 not_ripe h now number healing ripe = go (has h.gone number) refl
   where
     go : (b : Bool) → has h.gone number ≡ b → b ≡ false
-    go true out = absurd (true≢false (sym ripe ∙ ap (λ (c : Option Case). ripe_in c now) (healing.gone number out)))
+    go true out = absurd (true≢false (sym ripe ∙ ap (λ (c : Option LackedNumber). ripe_in c now) (healing.gone number out)))
     go false stays = refl

@@ -8,16 +8,16 @@ use Rattle.std.proofs.lemmas.Bool.{eqb-true}
 use Rattle.std.proofs.lemmas.List.{take-append-le, take_all, take_more}
 use Rattle.std.proofs.lemmas.List.Sorted.{IsNonDecreasingBy-from_sort, list_any-IsPermutation}
 use Rattle.protocol.specs.Limits.{last_number}
-use Rattle.healing.specs.declared.case.Case.{Case}
-use Rattle.healing.specs.declared.case.Stage.{Stage}
-use Rattle.healing.specs.declared.case.Stage.TheVariants.{Waiting, Recalled, Sought, Open, Left}
+use Rattle.healing.specs.declared.case.LackedNumber.{LackedNumber}
+use Rattle.healing.specs.declared.case.LackStage.{LackStage}
+use Rattle.healing.specs.declared.case.LackStage.TheVariants.{Waiting, Recalled, Sought, Open, Left}
 use Rattle.healing.specs.Cases.{awaited_in, is_over, is_recalled, recalled_in, was_asked}
 use Rattle.healing.specs.Lists.{is_among}
 use Rattle.healing.specs.Healing.{case_in}
 use Rattle.healing.proofs.OneMore.{Ends, among_more, new_among, or_cases, or_left, or_right, was_among}
 
 -- a circuit number that is asked for once more
-abbrev pub Counts : List (ℕ × Case) → ℕ → ℕ → Type 0
+abbrev pub Counts : List (ℕ × LackedNumber) → ℕ → ℕ → Type 0
 Counts cases now n = (1 ≤ n) × (n ≤ last_number) × (awaited_in (case_in cases n) now ≡ true)
 
 -- all of these numbers that count are kept
@@ -88,14 +88,14 @@ kept_before ns last k ends low high some =
     ]
 
 -- what is asked for once more is recalled
-asked_stage : (s : Stage) (now : ℕ) (b : Bool) → (was_asked s now && b) ≡ true → is_recalled s ≡ true
+asked_stage : (s : LackStage) (now : ℕ) (b : Bool) → (was_asked s now && b) ≡ true → is_recalled s ≡ true
 asked_stage (Recalled at) now b e = refl
 asked_stage Waiting now b e = absurd (true≢false (sym e))
 asked_stage Sought now b e = absurd (true≢false (sym e))
 asked_stage Open now b e = absurd (true≢false (sym e))
 asked_stage Left now b e = absurd (true≢false (sym e))
 
-pub awaited_recalled : (c : Option Case) (now : ℕ) → awaited_in c now ≡ true → recalled_in c ≡ true
+pub awaited_recalled : (c : Option LackedNumber) (now : ℕ) → awaited_in c now ≡ true → recalled_in c ≡ true
 awaited_recalled None now e = absurd (true≢false (sym e))
 awaited_recalled (Some c) now e = asked_stage c.stage now (not (is_over c now)) e
 

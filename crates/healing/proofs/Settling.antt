@@ -4,24 +4,24 @@ use Rattle.std.specs.Prelude.{if◌then◌else◌, ◌&&◌, ◌||◌}
 use Rattle.std.specs.Option.{option_map}
 use Rattle.std.proofs.lemmas.Bool.{eqb-true, cases_eq}
 use Rattle.std.proofs.lemmas.List.{take_more}
-use Rattle.healing.specs.declared.case.Case.{Case}
-use Rattle.healing.specs.declared.case.Stage.{Stage}
-use Rattle.healing.specs.declared.case.Stage.TheVariants.{Waiting, Recalled, Sought, Open, Left}
+use Rattle.healing.specs.declared.case.LackedNumber.{LackedNumber}
+use Rattle.healing.specs.declared.case.LackStage.{LackStage}
+use Rattle.healing.specs.declared.case.LackStage.TheVariants.{Waiting, Recalled, Sought, Open, Left}
 use Rattle.healing.specs.Cases.{is_due, is_over, settled, with_stage, was_recalled, recalled_in, is_recalled, has_vote}
 use Rattle.healing.specs.Lists.{is_among}
 use Rattle.healing.specs.Healing.{case_in, CaseIsPut, IsDueIn, AreDueIn}
 use Rattle.healing.proofs.OneMore.{among_more}
 
 -- each of these numbers was changed so
-abbrev pub AreChanged : (Case → Case) → List ℕ → List (ℕ × Case) → List (ℕ × Case) → Type 0
+abbrev pub AreChanged : (LackedNumber → LackedNumber) → List ℕ → List (ℕ × LackedNumber) → List (ℕ × LackedNumber) → Type 0
 AreChanged change numbers old new = (n : ℕ) → case_in new n ≡ (if is_among numbers n then option_map change (case_in old n) else case_in old n)
 
-twice : (change : Case → Case) → ((c : Case) → change (change c) ≡ change c) → (c : Option Case) → option_map change (option_map change c) ≡ option_map change c
+twice : (change : LackedNumber → LackedNumber) → ((c : LackedNumber) → change (change c) ≡ change c) → (c : Option LackedNumber) → option_map change (option_map change c) ≡ option_map change c
 twice change same None = refl
 twice change same (Some c) = ap Some (same c)
 
 changed :
-    (change : Case → Case) → ((c : Case) → change (change c) ≡ change c) → (a b : Bool) (was here now : Option Case)
+    (change : LackedNumber → LackedNumber) → ((c : LackedNumber) → change (change c) ≡ change c) → (a b : Bool) (was here now : Option LackedNumber)
     → now ≡ (if a then option_map change was else was) → (b ≡ true → here ≡ now)
     → (if b then option_map change here else now) ≡ (if (a || b) then option_map change was else was)
 changed change same true true was here now is at = ap (option_map change) (at refl ∙ is) ∙ twice change same was
@@ -38,7 +38,7 @@ eqb_sym n k =
 
 -- one number more was changed
 pub one_changed :
-    (change : Case → Case) → ((c : Case) → change (change c) ≡ change c) → (numbers : List ℕ) (k : ℕ) (old mid new : List (ℕ × Case))
+    (change : LackedNumber → LackedNumber) → ((c : LackedNumber) → change (change c) ≡ change c) → (numbers : List ℕ) (k : ℕ) (old mid new : List (ℕ × LackedNumber))
     → AreChanged change numbers old mid → CaseIsPut mid new k (option_map change (case_in mid k)) → AreChanged change (numbers ++ k ∷ []) old new
 one_changed change same numbers k old mid new before put n =
     put n
@@ -47,7 +47,7 @@ one_changed change same numbers k old mid new before put n =
     (ap (λ (b : Bool). is_among numbers n || b) (eqb_sym n k) ∙ sym (among_more numbers k n))
 
 -- to be settled twice is to be settled
-pub settled_twice : (now : ℕ) (c : Case) → settled now (settled now c) ≡ settled now c
+pub settled_twice : (now : ℕ) (c : LackedNumber) → settled now (settled now c) ≡ settled now c
 settled_twice now c = go (was_recalled c.stage now && not (has_vote c)) refl
   where
     go : (b : Bool) → (was_recalled c.stage now && not (has_vote c)) ≡ b → settled now (if b then with_stage Left c else c) ≡ (if b then with_stage Left c else c)
@@ -55,23 +55,23 @@ settled_twice now c = go (was_recalled c.stage now && not (has_vote c)) refl
     go false stays = ap (λ (b : Bool). if b then with_stage Left c else c) stays
 
 -- what was not recalled is settled
-not_recalled : (now : ℕ) (c : Case) → is_recalled c.stage ≡ false → settled now c ≡ c
+not_recalled : (now : ℕ) (c : LackedNumber) → is_recalled c.stage ≡ false → settled now c ≡ c
 not_recalled now c other = ap (λ (b : Bool). if (b && not (has_vote c)) then with_stage Left c else c) (go c.stage other)
   where
-    go : (s : Stage) → is_recalled s ≡ false → was_recalled s now ≡ false
+    go : (s : LackStage) → is_recalled s ≡ false → was_recalled s now ≡ false
     go Waiting e = refl
     go (Recalled at) e = absurd (true≢false e)
     go Sought e = refl
     go Open e = refl
     go Left e = refl
 
-none_settled : (now : ℕ) (c : Option Case) → recalled_in c ≡ false → option_map (settled now) c ≡ c
+none_settled : (now : ℕ) (c : Option LackedNumber) → recalled_in c ≡ false → option_map (settled now) c ≡ c
 none_settled now None e = refl
 none_settled now (Some c) e = ap Some (not_recalled now c e)
 
 -- where all that are recalled were settled, all are
 pub all_settled :
-    (now : ℕ) (numbers : List ℕ) (old new : List (ℕ × Case)) → AreChanged (settled now) numbers old new
+    (now : ℕ) (numbers : List ℕ) (old new : List (ℕ × LackedNumber)) → AreChanged (settled now) numbers old new
     → ((n : ℕ) → recalled_in (case_in old n) ≡ true → is_among numbers n ≡ true) → (n : ℕ) → case_in new n ≡ option_map (settled now) (case_in old n)
 all_settled now numbers old new changed all n = changed n ∙ go (is_among numbers n) (recalled_in (case_in old n)) refl refl
   where
@@ -81,38 +81,38 @@ all_settled now numbers old new changed all n = changed n ∙ go (is_among numbe
     go false false is e = sym (none_settled now (case_in old n) e)
     go false true is e = absurd (true≢false (sym (all n e) ∙ is))
 
-some_same : {c d : Case} → Some c ≡ Some d → c ≡ d
+some_same : {c d : LackedNumber} → Some c ≡ Some d → c ≡ d
 some_same e = cc
 
-no_some : {c : Case} → None ≡ Some c → ⊥
+no_some : {c : LackedNumber} → None ≡ Some c → ⊥
 no_some e = cc
 
 -- what is due was not left
-stays : (now : ℕ) (c : Case) (b : Bool) → is_due (if b then with_stage Left c else c) now ≡ true → (if b then with_stage Left c else c) ≡ c
+stays : (now : ℕ) (c : LackedNumber) (b : Bool) → is_due (if b then with_stage Left c else c) now ≡ true → (if b then with_stage Left c else c) ≡ c
 stays now c true due = absurd (true≢false (sym due))
 stays now c false due = refl
 
-back : (now : ℕ) (y : Option Case) (c : Case) → option_map (settled now) y ≡ Some c → is_due c now ≡ true → y ≡ Some c
+back : (now : ℕ) (y : Option LackedNumber) (c : LackedNumber) → option_map (settled now) y ≡ Some c → is_due c now ≡ true → y ≡ Some c
 back now None c e due = absurd (no_some e)
 back now (Some d) c e due =
     let is : settled now d ≡ c = some_same e in
-    let stayed : settled now d ≡ d = stays now d (is_over d now && not (has_vote d)) (ap (λ (k : Case). is_due k now) is ∙ due) in
+    let stayed : settled now d ≡ d = stays now d (is_over d now && not (has_vote d)) (ap (λ (k : LackedNumber). is_due k now) is ∙ due) in
     ap Some (sym stayed ∙ is)
 
 -- a number that is due after all were settled was so before
 due_before :
-    (old new : List (ℕ × Case)) (now : ℕ) → ((n : ℕ) → case_in new n ≡ option_map (settled now) (case_in old n)) → (n : ℕ) → IsDueIn new now n → IsDueIn old now n
+    (old new : List (ℕ × LackedNumber)) (now : ℕ) → ((n : ℕ) → case_in new n ≡ option_map (settled now) (case_in old n)) → (n : ℕ) → IsDueIn new now n → IsDueIn old now n
 due_before old new now all n h = (h.0, back now (case_in old n) h.0 (sym (all n) ∙ h.1) h.2, h.2)
 
 pub all_due :
-    (old new : List (ℕ × Case)) (now : ℕ) → ((n : ℕ) → case_in new n ≡ option_map (settled now) (case_in old n))
+    (old new : List (ℕ × LackedNumber)) (now : ℕ) → ((n : ℕ) → case_in new n ≡ option_map (settled now) (case_in old n))
     → (ns : List ℕ) → AreDueIn new now ns → AreDueIn old now ns
 all_due old new now all [] due = tt
 all_due old new now all (n ∷ ns) due = (due_before old new now all n due.0, all_due old new now all ns due.1)
 
 -- one place more was changed
 pub next_changed :
-    (change : Case → Case) → ((c : Case) → change (change c) ≡ change c) → (numbers : List ℕ) (i k : ℕ) (old mid new : List (ℕ × Case))
+    (change : LackedNumber → LackedNumber) → ((c : LackedNumber) → change (change c) ≡ change c) → (numbers : List ℕ) (i k : ℕ) (old mid new : List (ℕ × LackedNumber))
     → i < length numbers → k ≡ get_or numbers i 0 → AreChanged change (take i numbers) old mid → CaseIsPut mid new k (option_map change (case_in mid k))
     → AreChanged change (take (i + 1) numbers) old new
 next_changed change same numbers i k old mid new within is before put =

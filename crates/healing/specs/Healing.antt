@@ -8,12 +8,12 @@ use Rattle.protocol.specs.Limits.{last_number}
 use Rattle.healing.specs.Lists.{Rise, is_among}
 use Rattle.healing.specs.Queue.{stands_in}
 use Rattle.gone_out.specs.Numbers.{has}
-use Rattle.healing.specs.declared.news.News.{News}
+use Rattle.healing.specs.declared.news.NumberNews.{NumberNews}
 use Rattle.healing.specs.declared.wanted.Want.{Want}
 use Rattle.healing.specs.declared.wanted.Want.TheVariants.{Recall, Seek}
-use Rattle.healing.specs.declared.case.Stage.{Stage}
-use Rattle.healing.specs.declared.case.Stage.TheVariants.{Recalled, Sought}
-use Rattle.healing.specs.declared.case.Case.{Case}
+use Rattle.healing.specs.declared.case.LackStage.{LackStage}
+use Rattle.healing.specs.declared.case.LackStage.TheVariants.{Recalled, Sought}
+use Rattle.healing.specs.declared.case.LackedNumber.{LackedNumber}
 use Rattle.healing.specs.Cases.{is_due, ripe_in, sought_in, recalled_in, waits_in, awaited_in, known_after, settled, with_stage}
 
 -- the own member; what is known of all numbers: the case of each, those that wait, those that were recalled, those that are sought, and
@@ -21,7 +21,7 @@ use Rattle.healing.specs.Cases.{is_due, ripe_in, sought_in, recalled_in, waits_i
 -- for once more last, if they were
 pub record HealingValue : Type 0 where
   pub own : ℕ
-  pub cases : List (ℕ × Case)
+  pub cases : List (ℕ × LackedNumber)
   pub waiting : List ℕ
   pub recalled : List ℕ
   pub sought : List ℕ
@@ -30,10 +30,10 @@ pub record HealingValue : Type 0 where
   pub asked : Option ℕ
 
 -- the case that a number has among these
-abbrev pub case_in : List (ℕ × Case) → ℕ → Option Case
+abbrev pub case_in : List (ℕ × LackedNumber) → ℕ → Option LackedNumber
 case_in cases n = lookup (is_at (nat_cmp n)) cases
 
-abbrev pub case_at : HealingValue → ℕ → Option Case
+abbrev pub case_at : HealingValue → ℕ → Option LackedNumber
 case_at h n = case_in h.cases n
 
 -- what went out has no case; a number that waits is among those that do; one that is sought is among at most 8, and one that is recalled
@@ -47,36 +47,36 @@ pub record IsHealing (h : HealingValue) : Type 0 where
   pub few_recalled : length h.recalled ≤ 64
 
 -- the number waits, and is lacked
-abbrev pub IsDueIn : List (ℕ × Case) → ℕ → ℕ → Type 0
-IsDueIn cases now n = (c : Case) × (case_in cases n ≡ Some c) × (is_due c now ≡ true)
+abbrev pub IsDueIn : List (ℕ × LackedNumber) → ℕ → ℕ → Type 0
+IsDueIn cases now n = (c : LackedNumber) × (case_in cases n ≡ Some c) × (is_due c now ≡ true)
 
 -- the number is lacked, was recalled 2 s before, and a member has a vote of it
-abbrev pub IsRipeIn : List (ℕ × Case) → ℕ → ℕ → Type 0
+abbrev pub IsRipeIn : List (ℕ × LackedNumber) → ℕ → ℕ → Type 0
 IsRipeIn cases now n = ripe_in (case_in cases n) now ≡ true
 
 -- no circuit number is
-abbrev pub NoneIsRipe : List (ℕ × Case) → ℕ → Type 0
+abbrev pub NoneIsRipe : List (ℕ × LackedNumber) → ℕ → Type 0
 NoneIsRipe cases now = (n : ℕ) → 1 ≤ n → n ≤ last_number → ripe_in (case_in cases n) now ≡ false
 
 -- each of these numbers is due
-abbrev pub AreDueIn : List (ℕ × Case) → ℕ → List ℕ → Type 0
+abbrev pub AreDueIn : List (ℕ × LackedNumber) → ℕ → List ℕ → Type 0
 AreDueIn cases now [] = Unit {0}
 AreDueIn cases now (n ∷ ns) = IsDueIn cases now n × AreDueIn cases now ns
 
 -- the cases after a number was put into another stage
-abbrev pub StageIsPut : List (ℕ × Case) → List (ℕ × Case) → ℕ → Stage → Type 0
+abbrev pub StageIsPut : List (ℕ × LackedNumber) → List (ℕ × LackedNumber) → ℕ → LackStage → Type 0
 StageIsPut old new number stage = (n : ℕ) → case_in new n ≡ (if n == number then option_map (with_stage stage) (case_in old n) else case_in old n)
 
 -- the cases after one of them was put
-abbrev pub CaseIsPut : List (ℕ × Case) → List (ℕ × Case) → ℕ → Option Case → Type 0
+abbrev pub CaseIsPut : List (ℕ × LackedNumber) → List (ℕ × LackedNumber) → ℕ → Option LackedNumber → Type 0
 CaseIsPut old new number case = (n : ℕ) → case_in new n ≡ (if n == number then case else case_in old n)
 
 -- what becomes of a number of which there is news: nothing, where it went out
-abbrev pub told_of : HealingValue → ℕ → News → ℕ → Option Case
+abbrev pub told_of : HealingValue → ℕ → NumberNews → ℕ → Option LackedNumber
 told_of h number news now = if has h.gone number then None else known_after h.own news now (case_at h number)
 
 -- after news of a number no other has another case
-pub record IsTold (old new : HealingValue) (number : ℕ) (news : News) (now : ℕ) : Type 0 where
+pub record IsTold (old new : HealingValue) (number : ℕ) (news : NumberNews) (now : ℕ) : Type 0 where
   pub cases : CaseIsPut old.cases new.cases number (told_of old number news now)
   pub own : new.own ≡ old.own
   pub gone : new.gone ≡ old.gone
@@ -103,11 +103,11 @@ NoneIsOut gone (Recall batch) = (n : ℕ) → has gone n ≡ true → is_among b
 NoneIsOut gone (Seek number) = has gone number ≡ false
 
 -- the cases after these numbers were recalled
-abbrev pub AreRecalled : List ℕ → ℕ → List (ℕ × Case) → List (ℕ × Case) → Type 0
+abbrev pub AreRecalled : List ℕ → ℕ → List (ℕ × LackedNumber) → List (ℕ × LackedNumber) → Type 0
 AreRecalled batch now old new = (n : ℕ) → case_in new n ≡ (if is_among batch n then option_map (with_stage (Recalled now)) (case_in old n) else case_in old n)
 
 -- what becomes of a number where these are recalled: of each it is settled what came of its last recall, and these are recalled
-abbrev pub recalled_of : List ℕ → ℕ → ℕ → Option Case → Option Case
+abbrev pub recalled_of : List ℕ → ℕ → ℕ → Option LackedNumber → Option LackedNumber
 recalled_of batch now n c = if is_among batch n then option_map (with_stage (Recalled now)) (option_map (settled now) c) else option_map (settled now) c
 
 -- nothing comes next: datagrams wait, and fewer than 256 were taken in since something came next
@@ -136,21 +136,21 @@ may_ask None now = true
 may_ask (Some at) now = nat_le (at + 300) now
 
 -- these are all circuit numbers that are asked for once more: 1 to 64, each above the one before it
-pub record AreAwaited (cases : List (ℕ × Case)) (now : ℕ) (batch : List ℕ) : Type 0 where
+pub record AreAwaited (cases : List (ℕ × LackedNumber)) (now : ℕ) (batch : List ℕ) : Type 0 where
   pub all : (n : ℕ) → 1 ≤ n → n ≤ last_number → is_among batch n ≡ awaited_in (case_in cases n) now
   pub rise : Rise 0 batch
   pub some : 1 ≤ length batch
   pub few : length batch ≤ 64
 
 -- no number waits, is recalled or is sought
-abbrev pub is_resting : Option Case → Bool
+abbrev pub is_resting : Option LackedNumber → Bool
 is_resting c = not (waits_in c || recalled_in c || sought_in c)
 
-abbrev pub AllRest : List (ℕ × Case) → Type 0
+abbrev pub AllRest : List (ℕ × LackedNumber) → Type 0
 AllRest cases = (n : ℕ) → is_resting (case_in cases n) ≡ true
 
 -- no circuit number is asked for once more
-abbrev pub NoneIsAwaited : List (ℕ × Case) → ℕ → Type 0
+abbrev pub NoneIsAwaited : List (ℕ × LackedNumber) → ℕ → Type 0
 NoneIsAwaited cases now = (n : ℕ) → 1 ≤ n → n ≤ last_number → awaited_in (case_in cases n) now ≡ false
 
 -- none of these went out

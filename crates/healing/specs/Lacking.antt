@@ -1,16 +1,16 @@
 -- Which number is lacked, by all that was heard of it, looking back.
 use Rattle.std.specs.Prelude.{ℕ, Bool, true, false, not, ◌&&◌, ◌||◌, ◌==◌, Option, Some, None, is_some, nat_le, min, List, [], ◌∷◌, if◌then◌else◌}
 use Rattle.std.specs.Option.{option_map}
-use Rattle.healing.specs.declared.news.News.{News}
-use Rattle.healing.specs.declared.news.News.TheVariants.{Saved, Came, Voted, Held, Opened, Closed, Nothing}
-use Rattle.healing.specs.declared.case.Stage.TheVariants.{Recalled as RecalledStage, Sought as SoughtStage}
-use Rattle.healing.specs.declared.case.Case.{Case}
+use Rattle.healing.specs.declared.news.NumberNews.{NumberNews}
+use Rattle.healing.specs.declared.news.NumberNews.TheVariants.{Saved, Came, Voted, Held, Opened, Closed, Nothing}
+use Rattle.healing.specs.declared.case.LackStage.TheVariants.{Recalled as RecalledStage, Sought as SoughtStage}
+use Rattle.healing.specs.declared.case.LackedNumber.{LackedNumber}
 use Rattle.healing.specs.Cases.{known_after, known_from, quiet_from, voter_of, settled, with_stage}
 
 -- what happens to a number: news of it, that it is recalled, that it is settled what comes of a recall, that it is sought, and that it
 -- goes out
 pub data Event : Type 0 where
-  Told : (news : News) → Event
+  Told : (news : NumberNews) → Event
   Recalled : Event
   Settled : Event
   Sought : Event
@@ -101,7 +101,7 @@ before_ballot ((Sought, t) ∷ h) = h
 before_ballot ((e, t) ∷ h) = before_ballot h
 
 -- what the events make of a number, one after the other
-abbrev pub step : ℕ → Event → ℕ → Option Case → Option Case
+abbrev pub step : ℕ → Event → ℕ → Option LackedNumber → Option LackedNumber
 step own (Told news) t c = known_after own news t c
 step own WentOut t c = None
 step own Recalled t c = option_map (with_stage (RecalledStage t)) c
@@ -109,6 +109,6 @@ step own Settled t c = option_map (settled t) c
 step own Sought t c = option_map (with_stage SoughtStage) c
 
 -- the case of a number, at the plant of this own member
-abbrev pub case_of : ℕ → History → Option Case
+abbrev pub case_of : ℕ → History → Option LackedNumber
 case_of own [] = None
 case_of own ((e, t) ∷ h) = if went_out h then None else step own e t (case_of own h)

@@ -1,15 +1,15 @@
 -- The laws of what is lacked and of what is left.
 use Rattle.std.specs.Prelude.{◌≡◌, ℕ, Bool, true, false, not, Option, Some, None, ◌∷◌}
-use Rattle.healing.specs.declared.news.News.{News}
-use Rattle.healing.specs.declared.news.News.TheVariants.{Saved, Came, Voted, Held, Opened, Closed, Nothing}
-use Rattle.healing.specs.declared.case.Stage.{Stage}
-use Rattle.healing.specs.declared.case.Stage.TheVariants.{Waiting, Recalled, Sought, Open, Left}
-use Rattle.healing.specs.declared.case.Case.{Case}
+use Rattle.healing.specs.declared.news.NumberNews.{NumberNews}
+use Rattle.healing.specs.declared.news.NumberNews.TheVariants.{Saved, Came, Voted, Held, Opened, Closed, Nothing}
+use Rattle.healing.specs.declared.case.LackStage.{LackStage}
+use Rattle.healing.specs.declared.case.LackStage.TheVariants.{Waiting, Recalled, Sought, Open, Left}
+use Rattle.healing.specs.declared.case.LackedNumber.{LackedNumber}
 use Rattle.healing.specs.Cases.{lacks, is_due, known_after, voter_of}
 use Rattle.healing.specs.Lacking.{Told, History, is_lacked, is_told, before_ballot, case_of}
 
 -- whether a number with this case, or none, is lacked
-abbrev pub case_lacks : Option Case → ℕ → Bool
+abbrev pub case_lacks : Option LackedNumber → ℕ → Bool
 case_lacks None now = false
 case_lacks (Some c) now = lacks c now
 
@@ -18,7 +18,7 @@ abbrev pub CaseTellsAll : Type 0
 CaseTellsAll = (own : ℕ) (h : History) (now : ℕ) → case_lacks (case_of own h) now ≡ is_lacked h now
 
 -- a number with this case, or none, is due
-abbrev pub due_in : Option Case → ℕ → Bool
+abbrev pub due_in : Option LackedNumber → ℕ → Bool
 due_in None now = false
 due_in (Some c) now = is_due c now
 
@@ -27,7 +27,7 @@ abbrev pub HeldIsDueAtOnce : Type 0
 HeldIsDueAtOnce = (own member now : ℕ) → due_in (known_after own (Held member) now None) now ≡ true
 
 -- the number is left
-abbrev pub is_left : Stage → Bool
+abbrev pub is_left : LackStage → Bool
 is_left Left = true
 is_left Waiting = false
 is_left (Recalled at) = false
@@ -35,7 +35,7 @@ is_left Sought = false
 is_left Open = false
 
 -- the number has a case in which it is left
-abbrev pub left_in : Option Case → Bool
+abbrev pub left_in : Option LackedNumber → Bool
 left_in None = false
 left_in (Some c) = is_left c.stage
 
@@ -46,7 +46,7 @@ LeftKnowsNoNewVoter =
     → (member : ℕ) → is_told own h member ≡ true → is_told own (before_ballot h) member ≡ true
 
 -- a ballot of it is opened
-abbrev pub is_opened : News → Bool
+abbrev pub is_opened : NumberNews → Bool
 is_opened Opened = true
 is_opened (Saved votes) = false
 is_opened Came = false
@@ -63,5 +63,5 @@ is_new_in h own (Some member) = not (is_told own (before_ballot h) member)
 -- a number that is left stays so whatever news come, unless they tell of a new voter, or a ballot of it is opened
 abbrev pub LeftStaysLeft : Type 0
 LeftStaysLeft =
-    (own : ℕ) (h : History) (news : News) (t : ℕ) → left_in (case_of own h) ≡ true → is_new_in h own (voter_of own news) ≡ false
+    (own : ℕ) (h : History) (news : NumberNews) (t : ℕ) → left_in (case_of own h) ≡ true → is_new_in h own (voter_of own news) ≡ false
     → is_opened news ≡ false → left_in (case_of own ((Told news, t) ∷ h)) ≡ true

@@ -5,7 +5,7 @@ ghost use Rattle.protocol.specs.Limits.{last_number};
 ghost use Rattle.healing.specs.Healing.{AreDueIn, IsDueIn};
 ghost use Rattle.healing.specs.Queue.{stands_in};
 
-use crate::case::{Case, Stage};
+use crate::case::{LackStage, LackedNumber};
 use crate::due::Queue;
 use crate::ripe::case_of;
 use crate::wanted::{Batch, MOST_RECALLED};
@@ -18,7 +18,7 @@ pub(crate) type Few = ArrayVec<u32, MOST_RECALLED>;
 
 /// The numbers whose moments have come and that are due, at most so many; those that wait but are not due yet are put back.
 pub(crate) fn take_due(
-    cases: &BTreeMap<u32, Case>,
+    cases: &BTreeMap<u32, LackedNumber>,
     queue: &mut Queue,
     room: usize,
     now: u64,
@@ -35,7 +35,7 @@ pub(crate) fn take_due(
         if let Some(case) = case_of(cases, number) {
             if case.is_due(now) {
                 few.push(number);
-            } else if case.stage == Stage::Waiting {
+            } else if case.stage == LackStage::Waiting {
                 queue.put(case.due(), number)?;
             }
         }
@@ -44,7 +44,7 @@ pub(crate) fn take_due(
 }
 
 /// Whether a number may be recalled.
-fn may_be_recalled(cases: &BTreeMap<u32, Case>, number: u32, now: u64) -> bool
+fn may_be_recalled(cases: &BTreeMap<u32, LackedNumber>, number: u32, now: u64) -> bool
     ensures { IsTrue result → (number ≤ last_number) × IsDueIn cases.now.entries now number }
 {
     match case_of(cases, number) {
@@ -54,7 +54,11 @@ fn may_be_recalled(cases: &BTreeMap<u32, Case>, number: u32, now: u64) -> bool
 }
 
 /// Of these numbers those that are above the one before and due, as a batch; `None` where none is.
-pub(crate) fn batch_of(cases: &BTreeMap<u32, Case>, numbers: &[u32], now: u64) -> Option<Batch>
+pub(crate) fn batch_of(
+    cases: &BTreeMap<u32, LackedNumber>,
+    numbers: &[u32],
+    now: u64,
+) -> Option<Batch>
     requires { length numbers.now ≤ 64 }
     ensures due { IfSome result (λ batch. AreDueIn cases.now.entries now batch) }
     ensures few { IfSome result (λ batch. length batch ≤ length numbers.now) }

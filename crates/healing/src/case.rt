@@ -3,7 +3,7 @@
 ghost use Rattle.std.specs.Prelude.{◌≡◌};
 ghost use Rattle.healing.specs.Cases.{fresh, case_after, known_after, voters_after, before_after, moved, again, sooner, is_open, is_sought, is_recalled, is_waiting, has_new_place, sought_in, recalled_in, awaited_in, lacks, is_due, is_over, is_ripe, is_awaited, due_at, with_stage};
 
-use crate::news::News;
+use crate::news::NumberNews;
 use crate::voters::Voters;
 use ballots::Member;
 
@@ -15,7 +15,7 @@ const ASKED_AFTER: u64 = 300;
 
 /// What is done about a number.
 #[derive(Clone, Copy, PartialEq, Eq)]
-pub enum Stage {
+pub enum LackStage {
     /// It is recalled once it is lacked.
     Waiting,
     /// It was recalled at this moment, in milliseconds.
@@ -31,7 +31,7 @@ pub enum Stage {
 
 /// A number that is known here and did not go out. Moments are in milliseconds; the last that there is stands for all after it.
 #[derive(Clone, Copy, PartialEq, Eq)]
-pub struct Case {
+pub struct LackedNumber {
     /// From which moment on it is known for long enough: 5 s after a row of it was saved or a ballot of it was opened, and at once where a
     /// page told of it.
     pub known: u64,
@@ -41,17 +41,17 @@ pub struct Case {
     pub voters: Voters,
     /// Those that were known to have one as the last ballot or search of it was begun here.
     pub before: Voters,
-    pub stage: Stage,
+    pub stage: LackStage,
 }
 
-impl Stage {
+impl LackStage {
     /// Whether a ballot of the number is open here.
     fn is_open(self) -> bool
         ensures { result ≡ is_open self }
     {
         match self {
-            Stage::Sought | Stage::Open => true,
-            Stage::Waiting | Stage::Recalled { .. } | Stage::Left => false,
+            LackStage::Sought | LackStage::Open => true,
+            LackStage::Waiting | LackStage::Recalled { .. } | LackStage::Left => false,
         }
     }
 
@@ -60,8 +60,9 @@ impl Stage {
         ensures { result ≡ is_sought self }
     {
         match self {
-            Stage::Sought => true,
-            Stage::Waiting | Stage::Recalled { .. } | Stage::Open | Stage::Left => false,
+            LackStage::Sought => true,
+            LackStage::Waiting | LackStage::Recalled { .. } | LackStage::Open | LackStage::Left =>
+                false,
         }
     }
 
@@ -70,8 +71,8 @@ impl Stage {
         ensures { result ≡ is_recalled self }
     {
         match self {
-            Stage::Recalled { .. } => true,
-            Stage::Waiting | Stage::Sought | Stage::Open | Stage::Left => false,
+            LackStage::Recalled { .. } => true,
+            LackStage::Waiting | LackStage::Sought | LackStage::Open | LackStage::Left => false,
         }
     }
 
@@ -80,30 +81,31 @@ impl Stage {
         ensures { result ≡ is_waiting self }
     {
         match self {
-            Stage::Waiting => true,
-            Stage::Recalled { .. } | Stage::Sought | Stage::Open | Stage::Left => false,
+            LackStage::Waiting => true,
+            LackStage::Recalled { .. } | LackStage::Sought | LackStage::Open | LackStage::Left =>
+                false,
         }
     }
 
     /// The stage after news, as far as they begin or end a ballot.
-    fn moved(self, news: &News) -> Stage
+    fn moved(self, news: &NumberNews) -> LackStage
         ensures { result ≡ moved news.now self }
     {
         match (news, self) {
-            (News::Opened, _) => Stage::Open,
-            (News::Closed, Stage::Sought | Stage::Open) => Stage::Waiting,
-            (News::Nothing, Stage::Sought | Stage::Open) => Stage::Left,
+            (NumberNews::Opened, _) => LackStage::Open,
+            (NumberNews::Closed, LackStage::Sought | LackStage::Open) => LackStage::Waiting,
+            (NumberNews::Nothing, LackStage::Sought | LackStage::Open) => LackStage::Left,
             _ => self,
         }
     }
 
     /// The stage where all members that have a vote were known to have one as the last ballot was begun, or not all: a number that is left
     /// waits again then.
-    fn again(self, knows_all: bool) -> Stage
+    fn again(self, knows_all: bool) -> LackStage
         ensures { result ≡ again knows_all self }
     {
         match self {
-            Stage::Left if !knows_all => Stage::Waiting,
+            LackStage::Left if !knows_all => LackStage::Waiting,
             _ => self,
         }
     }
@@ -129,38 +131,38 @@ fn sooner(moment: Option<u64>, known: u64) -> u64
     }
 }
 
-impl Case {
+impl LackedNumber {
     /// A number that was not known, after news of it: it is known from a row that is saved here on, from a ballot of its own, or from a
     /// page that tells of it.
-    fn fresh(own: Member, news: &News, now: u64) -> Option<Case>
+    fn fresh(own: Member, news: &NumberNews, now: u64) -> Option<LackedNumber>
         ensures { result ≡ fresh own news.now now }
     {
         let known = news.known_from(now)?;
-        Some(Case {
+        Some(LackedNumber {
             known,
             quiet: news.quiet_from(now).unwrap_or(now),
             voters: voters_after(Voters::new(), news.voter(own)),
             before: Voters::new(),
-            stage: Stage::Waiting.moved(news),
+            stage: LackStage::Waiting.moved(news),
         })
     }
 
     /// Those that were known to have a vote as the last ballot was begun, after news.
-    fn before_after(self, news: &News) -> Voters
+    fn before_after(self, news: &NumberNews) -> Voters
         ensures { result ≡ before_after news.now self.voters self.before }
     {
         match news {
-            News::Opened => self.voters,
+            NumberNews::Opened => self.voters,
             _ => self.before,
         }
     }
 
     /// The case after news.
-    fn after(self, own: Member, news: &News, now: u64) -> Case
+    fn after(self, own: Member, news: &NumberNews, now: u64) -> LackedNumber
         ensures { result ≡ case_after own news.now now self }
     {
         let voters = voters_after(self.voters, news.voter(own));
-        Case {
+        LackedNumber {
             known: sooner(news.known_from(now), self.known),
             quiet: news.quiet_from(now).unwrap_or(self.quiet),
             voters,
@@ -170,10 +172,10 @@ impl Case {
     }
 
     /// The same number in another stage.
-    pub(crate) fn with_stage(self, stage: Stage) -> Case
+    pub(crate) fn with_stage(self, stage: LackStage) -> LackedNumber
         ensures { result ≡ with_stage stage self }
     {
-        Case {
+        LackedNumber {
             known: self.known,
             quiet: self.quiet,
             voters: self.voters,
@@ -205,7 +207,7 @@ impl Case {
         ensures { result ≡ is_over self now }
     {
         match self.stage {
-            Stage::Recalled { at } => now.saturating_sub(at) >= WAITED_FOR,
+            LackStage::Recalled { at } => now.saturating_sub(at) >= WAITED_FOR,
             _ => false,
         }
     }
@@ -215,7 +217,8 @@ impl Case {
         ensures { result ≡ is_awaited self now }
     {
         match self.stage {
-            Stage::Recalled { at } => now.saturating_sub(at) >= ASKED_AFTER && !self.is_over(now),
+            LackStage::Recalled { at } => now.saturating_sub(at) >= ASKED_AFTER
+                && !self.is_over(now),
             _ => false,
         }
     }
@@ -236,17 +239,22 @@ impl Case {
 }
 
 /// What becomes of a number after news of it, known or not.
-pub(crate) fn told(case: Option<Case>, own: Member, news: &News, now: u64) -> Option<Case>
+pub(crate) fn told(
+    case: Option<LackedNumber>,
+    own: Member,
+    news: &NumberNews,
+    now: u64,
+) -> Option<LackedNumber>
     ensures { result ≡ known_after own news.now now case }
 {
     match case {
         Some(case) => Some(case.after(own, news, now)),
-        None => Case::fresh(own, news, now),
+        None => LackedNumber::fresh(own, news, now),
     }
 }
 
 /// Whether a number waits that did not wait, or that is due earlier than it was.
-pub(crate) fn has_new_place(old: Option<Case>, case: Case) -> bool
+pub(crate) fn has_new_place(old: Option<LackedNumber>, case: LackedNumber) -> bool
     ensures { result ≡ has_new_place old case }
 {
     case.stage.is_waiting()
@@ -257,7 +265,7 @@ pub(crate) fn has_new_place(old: Option<Case>, case: Case) -> bool
 }
 
 /// Whether a number has a case in which it is sought.
-pub(crate) fn is_sought(case: Option<Case>) -> bool
+pub(crate) fn is_sought(case: Option<LackedNumber>) -> bool
     ensures { result ≡ sought_in case }
 {
     match case {
@@ -267,7 +275,7 @@ pub(crate) fn is_sought(case: Option<Case>) -> bool
 }
 
 /// Whether a number has a case in which it is recalled.
-pub(crate) fn is_recalled(case: Option<Case>) -> bool
+pub(crate) fn is_recalled(case: Option<LackedNumber>) -> bool
     ensures { result ≡ recalled_in case }
 {
     match case {
@@ -277,7 +285,7 @@ pub(crate) fn is_recalled(case: Option<Case>) -> bool
 }
 
 /// Whether a number has a case in which it is asked for once more.
-pub(crate) fn is_awaited(case: Option<Case>, now: u64) -> bool
+pub(crate) fn is_awaited(case: Option<LackedNumber>, now: u64) -> bool
     ensures { result ≡ awaited_in case now }
 {
     match case {

@@ -3,16 +3,16 @@
 ghost use Rattle.std.specs.Prelude.{is_some, ◌≡◌, ◌<◌, ◌≤◌, ◌+◌, ◌⊎◌, ℕ, true, false, [], Some, None, Ok, IfOk, OnOk, OnErr, IfSome, ◌==◌, min, if◌then◌else◌, length};
 ghost use Rattle.gone_out.specs.Numbers.{has};
 ghost use Rattle.std.specs.Option.{option_map};
-ghost use Rattle.healing.specs.declared.case.Stage.TheVariants.{Recalled, Sought};
+ghost use Rattle.healing.specs.declared.case.LackStage.TheVariants.{Recalled, Sought};
 ghost use Rattle.healing.specs.Cases.{settled, with_stage};
 ghost use Rattle.healing.specs.Lists.{Rise};
 ghost use Rattle.healing.specs.Healing.{AllRest, case_at, AreAwaited, AreDueIn, AreNotOut, AreRecalled, Becomes, CaseIsPut, is_held, IsOut, IsRipeIn, IsTold, IsWanted, may_ask, NoneIsAwaited, NoneIsOut, NoneIsRipe, SeeksAll, StageIsPut};
 
 use crate::batch::{batch_of, take_due};
-use crate::case::{Case, Stage, has_new_place, told};
+use crate::case::{LackStage, LackedNumber, has_new_place, told};
 use crate::due::Queue;
 use crate::lists::{still_recalled, still_sought};
-use crate::news::News;
+use crate::news::NumberNews;
 use crate::repeats::{may_ask, repeated};
 use crate::ripe::{case_of, first_ripe, put_case, put_stage, take_out};
 use crate::wanted::{Batch, MOST_RECALLED, Want};
@@ -35,7 +35,7 @@ const MOST_BEFORE_NEXT: u16 = 256;
 pub struct Healing {
     /// The own member, which has a vote of a number whose row has one.
     own: Member,
-    cases: BTreeMap<u32, Case>,
+    cases: BTreeMap<u32, LackedNumber>,
     queue: Queue,
     /// The numbers that were recalled, and maybe some that are so no longer.
     recalled: ArrayVec<u32, MOST_RECALLED>,
@@ -109,7 +109,7 @@ impl Healing {
     }
 
     /// There is news of a number, at this moment in milliseconds. Of a number that went out there is none.
-    pub fn tell(&mut self, number: Number, news: News, now: u64) -> Result<(), AllocError>
+    pub fn tell(&mut self, number: Number, news: NumberNews, now: u64) -> Result<(), AllocError>
         ensures ok { OnOk result (IsTold self.old self.new number news now) }
         ensures err { OnErr result ((n : ℕ) → case_at self.new n ≡ case_at self.old n) }
         ensures gone { self.new.gone ≡ self.old.gone }
@@ -166,7 +166,7 @@ impl Healing {
         }
         let number = first_ripe(&self.cases, self.recalled.as_slice(), now)?;
         self.sought.push(number.get());
-        put_stage(&mut self.cases, number.get(), Stage::Sought);
+        put_stage(&mut self.cases, number.get(), LackStage::Sought);
         Some(number)
     }
 
@@ -183,7 +183,7 @@ impl Healing {
             && case.is_over(now)
             && case.voters.is_empty()
         {
-            put_stage(&mut self.cases, number, Stage::Left);
+            put_stage(&mut self.cases, number, LackStage::Left);
         }
     }
 
@@ -214,7 +214,7 @@ impl Healing {
         ensures len { length self.new.recalled ≡ length self.old.recalled + 1 }
     {
         self.recalled.push(number);
-        put_stage(&mut self.cases, number, Stage::Recalled { at: now });
+        put_stage(&mut self.cases, number, LackStage::Recalled { at: now });
         self.queue.leave(number);
     }
 

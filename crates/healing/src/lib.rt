@@ -14,8 +14,8 @@ mod ripe;
 mod voters;
 mod wanted;
 
-pub use case::{Case, Stage};
+pub use case::{LackStage, LackedNumber};
 pub use healing::Healing;
-pub use news::News;
+pub use news::NumberNews;
 pub use voters::Voters;
 pub use wanted::{Batch, Want};

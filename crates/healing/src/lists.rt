@@ -5,7 +5,7 @@ ghost use Rattle.healing.specs.Cases.{sought_in, recalled_in};
 ghost use Rattle.healing.specs.Healing.{case_in};
 ghost use Rattle.healing.specs.Lists.{is_among};
 
-use crate::case::{Case, is_recalled, is_sought};
+use crate::case::{LackedNumber, is_recalled, is_sought};
 use crate::ripe::case_of;
 use arrayvec::ArrayVec;
 use std::collections::BTreeMap;
@@ -22,7 +22,7 @@ fn add_if<const N: usize>(adds: bool, numbers: &mut ArrayVec<u32, N>, number: u3
 
 /// Of these numbers those that are sought.
 pub(crate) fn still_sought(
-    cases: &BTreeMap<u32, Case>,
+    cases: &BTreeMap<u32, LackedNumber>,
     numbers: &ArrayVec<u32, 8>,
 ) -> ArrayVec<u32, 8>
     ensures { (n : ℕ) → sought_in (case_in cases.now.entries n) ≡ true → is_among numbers.now.items n ≡ true → is_among result.items n ≡ true }
@@ -37,7 +37,7 @@ pub(crate) fn still_sought(
 
 /// Of these numbers those that are recalled.
 pub(crate) fn still_recalled(
-    cases: &BTreeMap<u32, Case>,
+    cases: &BTreeMap<u32, LackedNumber>,
     numbers: &ArrayVec<u32, 64>,
 ) -> ArrayVec<u32, 64>
     ensures { (n : ℕ) → recalled_in (case_in cases.now.entries n) ≡ true → is_among numbers.now.items n ≡ true → is_among result.items n ≡ true }

@@ -13,7 +13,7 @@ const QUIET_FOR: u64 = 2_000;
 
 /// What is told of a number.
 #[derive(Clone, Copy, PartialEq, Eq)]
-pub enum News {
+pub enum NumberNews {
     /// A row of it was saved here, or found at the start; whether the row has a vote.
     Saved { votes: bool },
     /// A datagram about it came that tells no vote.
@@ -30,19 +30,19 @@ pub enum News {
     Nothing,
 }
 
-impl News {
+impl NumberNews {
     /// The member that is told to have a vote, if one is: the own one, where a row is saved that has one.
     pub(crate) fn voter(&self, own: Member) -> Option<Member>
         ensures { result ≡ voter_of own self.now }
     {
         match self {
-            News::Voted { member } | News::Held { member } => Some(*member),
-            News::Saved { votes: true } => Some(own),
-            News::Saved { votes: false }
-            | News::Came
-            | News::Opened
-            | News::Closed
-            | News::Nothing => None,
+            NumberNews::Voted { member } | NumberNews::Held { member } => Some(*member),
+            NumberNews::Saved { votes: true } => Some(own),
+            NumberNews::Saved { votes: false }
+            | NumberNews::Came
+            | NumberNews::Opened
+            | NumberNews::Closed
+            | NumberNews::Nothing => None,
         }
     }
 
@@ -51,9 +51,12 @@ impl News {
         ensures { result ≡ known_from self.now now }
     {
         match self {
-            News::Saved { .. } | News::Opened => Some(now.saturating_add(KNOWN_FOR)),
-            News::Held { .. } => Some(now),
-            News::Came | News::Voted { .. } | News::Closed | News::Nothing => None,
+            NumberNews::Saved { .. } | NumberNews::Opened => Some(now.saturating_add(KNOWN_FOR)),
+            NumberNews::Held { .. } => Some(now),
+            NumberNews::Came
+            | NumberNews::Voted { .. }
+            | NumberNews::Closed
+            | NumberNews::Nothing => None,
         }
     }
 
@@ -62,10 +65,11 @@ impl News {
         ensures { result ≡ quiet_from self.now now }
     {
         match self {
-            News::Saved { .. } | News::Came | News::Voted { .. } | News::Opened => {
-                Some(now.saturating_add(QUIET_FOR))
-            }
-            News::Held { .. } | News::Closed | News::Nothing => None,
+            NumberNews::Saved { .. }
+            | NumberNews::Came
+            | NumberNews::Voted { .. }
+            | NumberNews::Opened => { Some(now.saturating_add(QUIET_FOR)) }
+            NumberNews::Held { .. } | NumberNews::Closed | NumberNews::Nothing => None,
         }
     }
 }

@@ -9,7 +9,7 @@ ghost use Rattle.healing.specs.Lists.{Rise, is_among};
 ghost use Rattle.healing.specs.Healing.{case_in, may_ask};
 
 use crate::batch::Few;
-use crate::case::{Case, is_awaited};
+use crate::case::{LackedNumber, is_awaited};
 use crate::lists::still_recalled;
 use crate::ripe::case_of;
 use crate::wanted::{Batch, MOST_RECALLED};
@@ -30,7 +30,7 @@ pub(crate) fn may_ask(asked: Option<u64>, now: u64) -> bool
 }
 
 /// Whether a number is at most the last circuit number, and is asked for once more.
-fn may_be_repeated(cases: &BTreeMap<u32, Case>, number: u32, now: u64) -> bool
+fn may_be_repeated(cases: &BTreeMap<u32, LackedNumber>, number: u32, now: u64) -> bool
     ensures high { result ≡ true → number ≤ last_number }
     ensures is { result ≡ true → awaited_in (case_in cases.now.entries number) now ≡ true }
     ensures all { number ≤ last_number → awaited_in (case_in cases.now.entries number) now ≡ true → result ≡ true }
@@ -39,7 +39,7 @@ fn may_be_repeated(cases: &BTreeMap<u32, Case>, number: u32, now: u64) -> bool
 }
 
 /// Of these numbers, which are sorted, those that are asked for once more, each once.
-fn awaited(cases: &BTreeMap<u32, Case>, numbers: &[u32], now: u64) -> Few
+fn awaited(cases: &BTreeMap<u32, LackedNumber>, numbers: &[u32], now: u64) -> Few
     requires few { length numbers.now ≤ 64 }
     requires sorted { IsSorted nat_cmp numbers.now }
     ensures all { (n : ℕ) → 1 ≤ n → n ≤ last_number → awaited_in (case_in cases.now.entries n) now ≡ true → is_among numbers.now n ≡ true → is_among result.items n ≡ true }
@@ -74,7 +74,7 @@ fn batch_with(rising: Few) -> Option<Batch>
 
 /// Of the numbers that are recalled, all of which are among these, those that are asked for once more; `None` where none is.
 pub(crate) fn repeated(
-    cases: &BTreeMap<u32, Case>,
+    cases: &BTreeMap<u32, LackedNumber>,
     recalled: &ArrayVec<u32, MOST_RECALLED>,
     now: u64,
 ) -> Option<Batch>

@@ -44,6 +44,6 @@ impl Batch {
 pub enum Want {
     /// It asks all members, itself among them, for their votes of these numbers again.
     Recall { numbers: Batch },
-    /// It searches this number. Where the station takes no search of it now, `News::Closed` is told of it, and it waits again.
+    /// It searches this number. Where the station takes no search of it now, `NumberNews::Closed` is told of it, and it waits again.
     Seek { number: Number },
 }

@@ -1,7 +1,7 @@
 //! What a plant does to catch up, in stories whose moments were worked out by hand.
 
 use ballots::{Ballot, Member, Number};
-use catch_up::{CatchUp, Errand, Packet, Start, Unheard};
+use catch_up::{CatchUp, Errand, PacketHead, Start, Unheard};
 use gone_out::{Known, Numbers, Origin};
 use node_core::Note;
 use recalls::{Recall, RecallFault};
@@ -254,7 +254,7 @@ fn goes(alloc: Global, plant: &mut CatchUp, step: Step) -> Option<bool> {
             Some(plant.did(Number::new(n)?, &note, true, now).is_ok())
         }
         Step::Voted(n, now) => {
-            let packet = Packet {
+            let packet = PacketHead {
                 number: Number::new(n)?,
                 sender: Member::new(1)?,
                 is_vote: true,

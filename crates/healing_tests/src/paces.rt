@@ -2,7 +2,7 @@
 
 use ballots::{Member, Number};
 use gone_out::Numbers;
-use healing::{Batch, Healing, News, Want};
+use healing::{Batch, Healing, NumberNews, Want};
 use std::alloc::Global;
 
 /// What is told of a number, other than by members.
@@ -299,18 +299,18 @@ fn seeks(want: Option<Want>, wanted: u32) -> bool {
     }
 }
 
-fn news_of(told: Told) -> News {
+fn news_of(told: Told) -> NumberNews {
     match told {
-        Told::Row => News::Saved { votes: false },
-        Told::OwnVote => News::Saved { votes: true },
-        Told::Came => News::Came,
-        Told::Opened => News::Opened,
-        Told::Closed => News::Closed,
-        Told::Nothing => News::Nothing,
+        Told::Row => NumberNews::Saved { votes: false },
+        Told::OwnVote => NumberNews::Saved { votes: true },
+        Told::Came => NumberNews::Came,
+        Told::Opened => NumberNews::Opened,
+        Told::Closed => NumberNews::Closed,
+        Told::Nothing => NumberNews::Nothing,
     }
 }
 
-fn tell(healing: &mut Healing, first: u32, last: u32, news: News, now: u64) -> Option<bool> {
+fn tell(healing: &mut Healing, first: u32, last: u32, news: NumberNews, now: u64) -> Option<bool> {
     for n in first..last.saturating_add(1) {
         healing.tell(Number::new(n)?, news, now).ok()?;
     }
@@ -322,11 +322,11 @@ fn goes(healing: &mut Healing, step: Step) -> Option<bool> {
         Step::Tell(first, last, told, now) => tell(healing, first, last, news_of(told), now),
         Step::Voted(n, member, now) => {
             let member = Member::new(member)?;
-            tell(healing, n, n, News::Voted { member }, now)
+            tell(healing, n, n, NumberNews::Voted { member }, now)
         }
         Step::Held(n, member, now) => {
             let member = Member::new(member)?;
-            tell(healing, n, n, News::Held { member }, now)
+            tell(healing, n, n, NumberNews::Held { member }, now)
         }
         Step::Out(n) => {
             healing.went_out(Number::new(n)?);

@@ -4,7 +4,7 @@ use ballots::{Ballot, Member, Number};
 use catch_up::{CatchUp, Errand, Start};
 use gone_out::{Known, Numbers, Origin};
 use node_core::Note;
-use rolls::{Aside, Body, Counts, Page, Roll, Votes};
+use rolls::{Aside, Counts, Page, Roll, RollBody, Votes};
 use std::alloc::Global;
 
 /// The circuit that the plant belongs to.
@@ -81,14 +81,14 @@ fn numbers_of(alloc: Global, first: u32, last: u32) -> Option<Numbers> {
 }
 
 /// What a member says that was asked this, and has votes of these numbers.
-fn said(asked: &Body, numbers: &Numbers) -> Option<Body> {
+fn said(asked: &RollBody, numbers: &Numbers) -> Option<RollBody> {
     match asked {
-        Body::CountsAsked => {
+        RollBody::CountsAsked => {
             let mut counts = Counts::none();
             counts.set(Page::new(0)?, u16::try_from(numbers.len()).ok()?);
-            Some(Body::Counts(counts))
+            Some(RollBody::Counts(counts))
         }
-        Body::PageAsked(page) => Some(Body::Page(Votes::of(*page, numbers))),
+        RollBody::PageAsked(page) => Some(RollBody::Page(Votes::of(*page, numbers))),
         _ => None,
     }
 }
@@ -104,7 +104,7 @@ fn roll_to(errand: &Errand, member: u8) -> Option<Roll> {
 /// A member answers an ask.
 fn answer(plant: &mut CatchUp, asked: &Roll, numbers: &Numbers, now: u64) -> Option<bool> {
     let body = said(asked.body(), numbers)?;
-    let is_page = matches!(&body, Body::Page(_));
+    let is_page = matches!(&body, RollBody::Page(_));
     let roll = Roll::new(CIRCUIT, asked.to(), asked.from(), asked.asked(), body)?;
     plant.hear(&Aside::Roll(Ok(roll)), now).ok()?;
     Some(is_page)
@@ -171,14 +171,14 @@ fn answers(plant: &mut CatchUp, member: u8, now: u64) -> Option<bool> {
         Member::new(member)?,
         Member::new(2)?,
         9,
-        Body::CountsAsked,
+        RollBody::CountsAsked,
     )?;
     plant.hear(&Aside::Roll(Ok(roll)), now).ok()?;
     let Some(errand) = &plant.next(now, false).ok()? else {
         return Some(false);
     };
     let roll = roll_to(errand, member)?;
-    Some(roll.asked() == 9 && matches!(roll.body(), Body::Counts(_)))
+    Some(roll.asked() == 9 && matches!(roll.body(), RollBody::Counts(_)))
 }
 
 /// Whether nothing is sent.

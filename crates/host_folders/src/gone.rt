@@ -4,7 +4,7 @@ ghost use Rattle.std.specs.Prelude.{◌≡◌, IfOk};
 ghost use Rattle.folders.specs.GoneOut.{StartsWith};
 
 use crate::copies::free_path;
-use crate::held::{Found, Held, find, path_in};
+use crate::held::{Held, HeldFile, find, path_in};
 use crate::looks::{id_at, within};
 use crate::maker::Maker;
 use crate::part::Part;
@@ -21,7 +21,7 @@ use std::io::ErrorKind;
 
 /// The folders of a plant, and what makes files there.
 #[derive(Drop)]
-pub(crate) struct Plant<'p, 'a> {
+pub(crate) struct PlantFolders<'p, 'a> {
     pub(crate) maker: &'p mut Maker<'a>,
     pub(crate) releases: &'p Releases,
     pub(crate) offers: &'p str,
@@ -29,7 +29,7 @@ pub(crate) struct Plant<'p, 'a> {
 
 /// What a station keeps of what went out.
 #[derive(Drop)]
-pub(crate) struct Keeper {
+pub(crate) struct GoneKeeper {
     own: Origin,
     ledger: Ledger,
     /// The file, where one that has the station's head lay under the name as it was looked at last.
@@ -41,7 +41,7 @@ pub(crate) struct Keeper {
 pub(crate) enum GoneOut {
     /// It is not known yet what the file holds: these were noted.
     Early(Vec<Number>),
-    Kept(Keeper),
+    Kept(GoneKeeper),
 }
 
 /// Gives a file that is not this station's another name, with the first number that is free behind it.
@@ -65,16 +65,16 @@ fn make_anew(
 
 /// The names of files that are looked for.
 #[derive(Clone, Copy)]
-enum Sort {
+enum FileSort {
     Released,
     Sent,
 }
 
 /// The number of a file of this name.
-fn number_of(alloc: Global, sort: Sort, name: &str) -> Result<Option<Number>, FolderFault> {
+fn number_of(alloc: Global, sort: FileSort, name: &str) -> Result<Option<Number>, FolderFault> {
     let number = match sort {
-        Sort::Released => release_number(alloc, name)?,
-        Sort::Sent => sent_number(alloc, name)?,
+        FileSort::Released => release_number(alloc, name)?,
+        FileSort::Sent => sent_number(alloc, name)?,
     };
     Ok(number)
 }
@@ -83,7 +83,7 @@ fn number_of(alloc: Global, sort: Sort, name: &str) -> Result<Option<Number>, Fo
 fn add_files(
     rt: &HostRuntime,
     folder: &str,
-    sort: Sort,
+    sort: FileSort,
     found: &mut Numbers,
 ) -> Result<(), FolderFault> {
     if id_at(rt, folder)?.is_none() {
@@ -103,14 +103,14 @@ fn add_files(
     Ok(())
 }
 
-impl Plant<'_, '_> {
+impl PlantFolders<'_, '_> {
     /// The numbers of which a file lies among the releases or among what was sent.
     fn files(&self) -> Result<Numbers, FolderFault> {
         let rt = self.maker.rt;
         let mut found = Numbers::new(rt.alloc())?;
-        add_files(rt, self.releases.path(), Sort::Released, &mut found)?;
+        add_files(rt, self.releases.path(), FileSort::Released, &mut found)?;
         let sent = within(rt.alloc(), self.offers, Place::Sent.folder())?;
-        add_files(rt, &sent, Sort::Sent, &mut found)?;
+        add_files(rt, &sent, FileSort::Sent, &mut found)?;
         Ok(found)
     }
 
@@ -128,7 +128,7 @@ impl Plant<'_, '_> {
     }
 }
 
-impl Keeper {
+impl GoneKeeper {
     /// Whether the file under the name is the one that is held.
     fn holds_what_stands(&self, rt: &HostRuntime, folder: &str) -> Result<bool, FolderFault> {
         let path = path_in(rt, folder)?;
@@ -143,9 +143,9 @@ impl Keeper {
         &mut self,
         rt: &HostRuntime,
         folder: &str,
-        found: Found,
+        found: HeldFile,
     ) -> Result<(), FolderFault> {
-        let Found { held, kept } = found;
+        let HeldFile { held, kept } = found;
         let Some(Kept { numbers, has_head }) = kept else {
             return set_aside(rt, folder);
         };
@@ -188,9 +188,9 @@ impl Keeper {
 }
 
 /// What is kept from now on over a file of this station.
-fn keeper_of(alloc: Global, own: &Origin, held: Held, kept: Kept) -> Keeper {
+fn keeper_of(alloc: Global, own: &Origin, held: Held, kept: Kept) -> GoneKeeper {
     let held = kept.has_head.then_some(held);
-    Keeper {
+    GoneKeeper {
         own: *own,
         ledger: Ledger::new(alloc, kept.numbers),
         held,
@@ -224,7 +224,7 @@ impl GoneOut {
     pub(crate) fn sync(&self) -> Result<(), FolderFault> {
         match self {
             GoneOut::Kept(
-                Keeper {
+                GoneKeeper {
                     held: Some(held),
                     ..
                 },
@@ -234,7 +234,11 @@ impl GoneOut {
     }
 
     /// Keeps what went out from now on, and what was noted before, once the file is written.
-    fn keep(&mut self, plant: &mut Plant<'_, '_>, mut keeper: Keeper) -> Result<(), FolderFault> {
+    fn keep(
+        &mut self,
+        plant: &mut PlantFolders<'_, '_>,
+        mut keeper: GoneKeeper,
+    ) -> Result<(), FolderFault> {
         if let GoneOut::Early(early) = self {
             keeper.ledger.note(early.as_slice())?;
         }
@@ -246,7 +250,7 @@ impl GoneOut {
     /// Reads what went out here, or begins to keep it.
     pub(crate) fn start(
         &mut self,
-        plant: &mut Plant<'_, '_>,
+        plant: &mut PlantFolders<'_, '_>,
         own: &Origin,
         known: &Numbers,
     ) -> Result<WentOut, FolderFault>
@@ -256,7 +260,7 @@ impl GoneOut {
         let found = find(plant.maker.rt, plant.releases.path(), own)?;
         let is_other = found.is_some();
         if let Some(
-            Found {
+            HeldFile {
                 held,
                 kept: Some(kept),
             },
@@ -267,7 +271,7 @@ impl GoneOut {
             return Ok(went);
         }
         let went = plant.first(known, is_other)?;
-        let keeper = Keeper {
+        let keeper = GoneKeeper {
             own: *own,
             ledger: Ledger::new(alloc, copy_of(alloc, known)?),
             held: None,

@@ -6,7 +6,7 @@ use std::fs::{File, TryLockError};
 
 /// A folder whose lock is held, as long as it is open.
 #[derive(Drop)]
-struct Held {
+struct HeldFolder {
     folder: File,
     id: FileId,
 }
@@ -26,18 +26,18 @@ pub(crate) enum Guard {
 #[derive(Drop)]
 pub(crate) struct Guarded {
     path: String,
-    held: Option<Held>,
+    held: Option<HeldFolder>,
     /// Whether one was ever held.
     was_held: bool,
 }
 
 /// Opens the folder at a path and takes its lock. A host that has no locks for it refuses nothing.
-fn hold(rt: &HostRuntime, path: &str) -> Result<Held, FolderFault> {
+fn hold(rt: &HostRuntime, path: &str) -> Result<HeldFolder, FolderFault> {
     let folder = File::open(rt, path)?;
     let id = id_of(&folder.metadata()?);
     match folder.try_lock() {
         Err(TryLockError::WouldBlock) => Err(FolderFault::InUse),
-        Ok(()) | Err(TryLockError::Error(_)) => Ok(Held { folder, id }),
+        Ok(()) | Err(TryLockError::Error(_)) => Ok(HeldFolder { folder, id }),
     }
 }
 

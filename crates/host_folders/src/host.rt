@@ -1,6 +1,6 @@
 //! What a station asks of two folders of the host, call by call.
 
-use crate::gone::{GoneOut, Plant};
+use crate::gone::{GoneOut, PlantFolders};
 use crate::maker::Maker;
 use crate::moving::set_aside;
 use crate::offers::Offers;
@@ -125,7 +125,7 @@ impl<'a> Folders for HostFolders<'a> {
     ) -> Result<Option<WentOut>, FolderFault> {
         self.releases.check(self.maker.rt)?;
         self.settle_gone()?;
-        let mut plant = Plant {
+        let mut plant = PlantFolders {
             maker: &mut self.maker,
             releases: &self.releases,
             offers: self.offers.path(),

@@ -9,4 +9,4 @@ mod told;
 pub use descriptors::fill_descriptors;
 pub use limits::file_limit;
 pub use patience::Patience;
-pub use told::Told;
+pub use told::StandardError;

@@ -18,7 +18,7 @@ const MOST: usize = 4096;
 /// Standard error. Where it takes nothing for a second, what is written is lost, and it is told how many lines were as soon as it takes
 /// something again.
 #[derive(Drop)]
-pub struct Told {
+pub struct StandardError {
     alloc: Global,
     patience: Patience,
 }
@@ -49,9 +49,9 @@ fn put_first(bytes: &[u8]) -> usize
     }
 }
 
-impl Told {
-    pub fn new(alloc: Global) -> Told {
-        Told {
+impl StandardError {
+    pub fn new(alloc: Global) -> StandardError {
+        StandardError {
             alloc,
             patience: Patience::new(),
         }
@@ -68,7 +68,7 @@ impl Told {
     }
 }
 
-impl Write for Told {
+impl Write for StandardError {
     fn write(&mut self, buf: &[u8]) -> io::Result<usize> {
         if !is_ready(self.patience.limit()) {
             self.patience.lose(count_lines(buf));

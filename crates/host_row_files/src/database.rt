@@ -7,7 +7,7 @@ ghost use Rattle.command_ends.specs.Ends.{IsOfRows};
 ghost use Rattle.command_ends.specs.declared.end.End.TheVariants.{Done};
 ghost use Rattle.acceptor_store.specs.Files.{WasClosed};
 ghost use Rattle.host_row_files.specs.Taking.{AreUpgraded, WereUpgraded};
-ghost use Rattle.host_row_files.specs.declared.database.Task.TheVariants.{Upgrade};
+ghost use Rattle.host_row_files.specs.declared.database.RowsTask.TheVariants.{Upgrade};
 
 use crate::causes::refused_by;
 use acceptor_store::SqliteRows;
@@ -22,7 +22,7 @@ use std::io::Write;
 
 /// What a command does with all rows of a database.
 #[derive(Clone, Copy)]
-pub(crate) enum Task {
+pub(crate) enum RowsTask {
     /// They are listed.
     List(Global),
     /// They are upgraded to the second layout.
@@ -32,7 +32,7 @@ pub(crate) enum Task {
 /// Does this with the rows, and gives them back where it ended well; else it gives the end, and they are let go.
 fn carried_out<S: Alter + Drop, W: Write, E: Write>(
     mut rows: SqliteRows<S>,
-    task: Task,
+    task: RowsTask,
     out: &mut W,
     err: &mut E,
 ) -> Result<SqliteRows<S>, End>
@@ -42,8 +42,8 @@ fn carried_out<S: Alter + Drop, W: Write, E: Write>(
     ensures rows { IfErr result IsOfRows }
 {
     let end = match task {
-        Task::List(alloc) => print_rows(alloc, &mut rows, out, err),
-        Task::Upgrade => upgrade_rows(&mut rows, out, err),
+        RowsTask::List(alloc) => print_rows(alloc, &mut rows, out, err),
+        RowsTask::Upgrade => upgrade_rows(&mut rows, out, err),
     };
     if end == End::Done { Ok(rows) } else { Err(end) }
 }
@@ -73,7 +73,7 @@ pub(crate) fn close_database<D: Disk + Drop>(
 /// many seconds.
 pub(crate) fn done_over<D: Disk + Drop, W: Write, E: Write>(
     rows: SqliteRows<FileStore<D>>,
-    task: Task,
+    task: RowsTask,
     out: &mut W,
     err: &mut E,
 ) -> End

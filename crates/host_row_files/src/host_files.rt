@@ -10,7 +10,7 @@ ghost use Rattle.acceptor_store.specs.Sqlite.{IsOurs};
 ghost use Rattle.host_row_files.specs.Taking.{AreTaken, HasMade, HasUpgraded};
 
 use crate::causes::refused_by;
-use crate::database::{Task, close_database, done_over};
+use crate::database::{RowsTask, close_database, done_over};
 use crate::life::{begin_at, end_at};
 use crate::look::{test_begun, test_opening};
 use crate::making::make_at;
@@ -148,7 +148,7 @@ impl RowFiles for HostFiles {
         err: &mut E,
     ) -> End {
         match self.open(rt, path, None) {
-            Ok(rows) => done_over(rows, Task::List(rt.alloc()), out, err),
+            Ok(rows) => done_over(rows, RowsTask::List(rt.alloc()), out, err),
             Err(refused) => refused.tell(err),
         }
     }
@@ -161,7 +161,7 @@ impl RowFiles for HostFiles {
         err: &mut E,
     ) -> End {
         match self.open(rt, path, None) {
-            Ok(rows) => done_over(rows, Task::Upgrade, out, err),
+            Ok(rows) => done_over(rows, RowsTask::Upgrade, out, err),
             Err(refused) => refused.tell(err),
         }
     }

@@ -11,7 +11,7 @@ use std::{fs, io};
 
 /// A row file and its log.
 #[derive(Clone, Copy)]
-struct Found {
+struct RowFilePair {
     file: FoundFile,
     log: FoundLog,
 }
@@ -57,10 +57,10 @@ fn is_free(rt: &HostRuntime, path: &str) -> Result<bool, RefusedRows> {
 }
 
 /// What stands at a path. A link is followed, as the database does, and the log lies where it leads.
-fn found_at(rt: &HostRuntime, path: &str) -> Result<Found, RefusedRows> {
+fn found_at(rt: &HostRuntime, path: &str) -> Result<RowFilePair, RefusedRows> {
     if is_free(rt, path)? {
         let log = log_beside(rt, path)?;
-        return Ok(Found {
+        return Ok(RowFilePair {
             file: FoundFile::Nothing,
             log,
         });
@@ -68,7 +68,7 @@ fn found_at(rt: &HostRuntime, path: &str) -> Result<Found, RefusedRows> {
     let file = kind_of(rt, path)?;
     let real = fs::canonicalize(rt, path)?;
     let log = log_beside(rt, real.as_str())?;
-    Ok(Found { file, log })
+    Ok(RowFilePair { file, log })
 }
 
 /// Refuses a path at which no row file may be made.

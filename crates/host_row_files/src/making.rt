@@ -28,16 +28,16 @@ const PAUSE: u64 = 50;
 
 /// A file that is made under another name, with its log.
 #[derive(Drop)]
-struct Part {
+struct RowFilePart {
     path: String,
     log: String,
 }
 
 /// The names under which the file of a path is made.
-fn part_of(rt: &HostRuntime, path: &str) -> Result<Part, RefusedRows> {
+fn part_of(rt: &HostRuntime, path: &str) -> Result<RowFilePart, RefusedRows> {
     let part = format!(in rt.alloc(); "{path}.making")?;
     let log = format!(in rt.alloc(); "{path}.making-wal")?;
-    Ok(Part { path: part, log })
+    Ok(RowFilePart { path: part, log })
 }
 
 /// Opens the folder of a path.
@@ -69,7 +69,7 @@ fn remove(rt: &HostRuntime, path: &str) -> io::Result<()> {
     }
 }
 
-impl Part {
+impl RowFilePart {
     /// Removes what is there under these names.
     fn clear(&self, rt: &HostRuntime) -> io::Result<()> {
         remove(rt, &self.log)?;
@@ -94,7 +94,12 @@ fn make_closed(
 }
 
 /// Gives a file that was made whole its name, where nothing stands there by now, and waits until the disk has the name.
-fn name_part(rt: &HostRuntime, folder: &File, part: &Part, path: &str) -> Result<(), RefusedRows> {
+fn name_part(
+    rt: &HostRuntime,
+    folder: &File,
+    part: &RowFilePart,
+    path: &str,
+) -> Result<(), RefusedRows> {
     remove(rt, &part.log)?;
     test_making(rt, path)?;
     fs::rename(rt, part.path.as_str(), path)?;
@@ -108,7 +113,7 @@ fn name_part(rt: &HostRuntime, folder: &File, part: &Part, path: &str) -> Result
 fn make_whole(
     rt: &HostRuntime,
     folder: &File,
-    part: &Part,
+    part: &RowFilePart,
     path: &str,
     identity: Identity,
     version: Version,

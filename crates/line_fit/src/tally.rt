@@ -9,7 +9,7 @@ use widths::Widths;
 
 /// What a line comes to.
 #[derive(Clone, Copy)]
-struct Tally {
+struct FitTally {
     /// The width of its matrices and fixed spaces, in units.
     fixed: u32,
     /// How many spacebands it has.
@@ -17,22 +17,22 @@ struct Tally {
 }
 
 /// What one item comes to.
-fn tally_one(item: &Item) -> Tally
+fn tally_one(item: &Item) -> FitTally
     ensures fixed { result.fixed ≡ fixed_width item.now }
     ensures bands { result.bands ≡ bands_of (item.now ∷ []) }
     ensures range { (result.fixed ≤ 65535) × (result.bands ≤ 1) }
 {
     match item {
-        Item::Matrix { width, .. } | Item::Space { width } => Tally {
+        Item::Matrix { width, .. } | Item::Space { width } => FitTally {
             fixed: u32::from(*width),
             bands: 0,
         },
-        Item::Band => Tally { fixed: 0, bands: 1 },
+        Item::Band => FitTally { fixed: 0, bands: 1 },
     }
 }
 
 /// What a line comes to.
-fn tally_of(items: &[Item]) -> Tally
+fn tally_of(items: &[Item]) -> FitTally
     requires { length items.now ≤ most_frames }
     ensures fixed { result.fixed ≡ fixed_of items.now }
     ensures bands { result.bands ≡ bands_of items.now }
@@ -45,24 +45,24 @@ fn tally_of(items: &[Item]) -> Tally
         fixed += one.fixed;
         bands += one.bands;
     }
-    Tally { fixed, bands }
+    FitTally { fixed, bands }
 }
 
 /// The least and the greatest width of a line.
 #[derive(Clone, Copy)]
-pub struct Span {
+pub struct LineSpan {
     pub least: u32,
     pub greatest: u32,
 }
 
 /// The widths of a line with its bands at their least, and at their greatest.
-pub fn span_of(items: &[Item], widths: &Widths) -> Span
+pub fn span_of(items: &[Item], widths: &Widths) -> LineSpan
     requires { length items.now ≤ most_frames }
     ensures least { result.least ≡ least_width widths.now items.now }
     ensures greatest { result.greatest ≡ greatest_width widths.now items.now }
 {
-    let Tally { fixed, bands } = tally_of(items);
-    Span {
+    let FitTally { fixed, bands } = tally_of(items);
+    LineSpan {
         least: fixed + bands * u32::from(widths.band_min()),
         greatest: fixed + bands * u32::from(widths.band_max()),
     }

@@ -8,9 +8,9 @@ use Rattle.std.proofs.lemmas.Bool.Decides.{same_from_decides, Decides-eqb, Decid
 use Rattle.std.proofs.lemmas.Slice.Eq.{bytes_eq-Decides}
 use Rattle.protocol.specs.Limits.{last_number}
 use Rattle.folders.specs.Offers.{kind_word}
-use Rattle.folders.specs.declared.names.Kind.{Kind}
-use Rattle.folders.specs.declared.names.Kind.TheVariants.{Tape, Text, Withdraw, Seek}
-use Rattle.folders.specs.declared.names.Request.{Request}
+use Rattle.folders.specs.declared.names.OfferKind.{OfferKind}
+use Rattle.folders.specs.declared.names.OfferKind.TheVariants.{Tape, Text, Withdraw, Seek}
+use Rattle.folders.specs.declared.names.FileRequest.{FileRequest}
 use Rattle.offers.specs.Order.{rank, kind_rank}
 use Rattle.looks.specs.Names.{name_of, IsRequest}
 
@@ -26,7 +26,7 @@ split (x ∷ xs) (y ∷ ys) a b p q e =
     let more = split xs ys a b p.1 q.1 rest in (cc, more.1)
 
 -- the end of a name behind its dot, and the place of its kind by that
-abbrev kind_end : Kind → List ℕ
+abbrev kind_end : OfferKind → List ℕ
 kind_end Tape = codes "tape"
 kind_end Text = codes "text"
 kind_end Withdraw = codes "withdraw"
@@ -35,13 +35,13 @@ kind_end Seek = codes "seek"
 abbrev place_of_end : List ℕ → ℕ
 place_of_end word = let letter = get_or word 2 0 in cond (letter == 112) 0 (cond (letter == 120) 1 (cond (letter == 116) 2 3))
 
-ends : (kind : Kind) → kind_word kind ≡ 46 ∷ kind_end kind
+ends : (kind : OfferKind) → kind_word kind ≡ 46 ∷ kind_end kind
 ends Tape = refl
 ends Text = refl
 ends Withdraw = refl
 ends Seek = refl
 
-placed : (kind : Kind) → place_of_end (kind_end kind) ≡ kind_rank kind
+placed : (kind : OfferKind) → place_of_end (kind_end kind) ≡ kind_rank kind
 placed Tape = refl
 placed Text = refl
 placed Withdraw = refl
@@ -51,20 +51,20 @@ placed Seek = refl
 abbrev end_at : ℕ → List ℕ
 end_at place = cond (place == 0) (codes ".tape") (cond (place == 1) (codes ".text") (cond (place == 2) (codes ".withdraw") (codes ".seek")))
 
-ended : (kind : Kind) → end_at (kind_rank kind) ≡ kind_word kind
+ended : (kind : OfferKind) → end_at (kind_rank kind) ≡ kind_word kind
 ended Tape = refl
 ended Text = refl
 ended Withdraw = refl
 ended Seek = refl
 
-within : (kind : Kind) → kind_rank kind ≤ 3
+within : (kind : OfferKind) → kind_rank kind ≤ 3
 within Tape = omega arith
 within Text = omega arith
 within Withdraw = omega arith
 within Seek = omega arith
 
 -- of one name one place
-one_place : (r s : Request) → r.number ≤ last_number → s.number ≤ last_number → name_of r ≡ name_of s → rank r ≡ rank s
+one_place : (r s : FileRequest) → r.number ≤ last_number → s.number ≤ last_number → name_of r ≡ name_of s → rank r ≡ rank s
 one_place r s p q e =
     let small : r.number < 2 ^ 64 = omega (arith, p) in
     let low : s.number < 2 ^ 64 = omega (arith, q) in
@@ -76,7 +76,7 @@ one_place r s p q e =
     omega (arith, number, kind)
 
 -- of one place one name
-one_name : (r s : Request) → rank r ≡ rank s → name_of r ≡ name_of s
+one_name : (r s : FileRequest) → rank r ≡ rank s → name_of r ≡ name_of s
 one_name r s e =
     let low = within r.kind in
     let high = within s.kind in
@@ -86,7 +86,7 @@ one_name r s e =
     ap (λ (n : ℕ). decimal n ++ kind_word r.kind) number ∙ ap (λ (w : List ℕ). decimal s.number ++ w) word
 
 -- two requests have one name just where they have one place
-pub same_name : (r s : Request) → IsRequest r → IsRequest s → bytes_eq (name_of r) (name_of s) ≡ (rank r == rank s)
+pub same_name : (r s : FileRequest) → IsRequest r → IsRequest s → bytes_eq (name_of r) (name_of s) ≡ (rank r == rank s)
 same_name r s p q =
     same_from_decides (bytes_eq (name_of r) (name_of s)) (rank r == rank s) (bytes_eq-Decides (name_of r) (name_of s))
     (Decides-like (rank r == rank s) (one_name r s) (one_place r s p.1 q.1) (Decides-eqb (rank r) (rank s)))

@@ -18,9 +18,9 @@ use Rattle.std.proofs.lemmas.Slice.Eq.{bytes_eq-Decides}
 use Rattle.std.proofs.lemmas.List.Elements.{filter_map-append}
 use Rattle.folders.specs.declared.folders.Found as files
 use Rattle.folders.specs.declared.folders.PassedOver.{PassedOver}
-use Rattle.folders.specs.declared.names.Request.{Request}
+use Rattle.folders.specs.declared.names.FileRequest.{FileRequest}
 use Rattle.folders.specs.declared.stamp.Stamp.{Stamp}
-use Rattle.offers.specs.declared.offer.Found.{Found}
+use Rattle.offers.specs.declared.offer.FoundOffer.{FoundOffer}
 use Rattle.offers.specs.Order.{rank, rising_from}
 use Rattle.looks.specs.Names.{name_of, IsStray}
 use Rattle.looks.specs.Gathering.{GatheringValue, ArePlaced, IsGathering, PutsRequest, PutsStray, TakesFile, TakesFiles, TakesOther, TakesOthers, fault_as, other_at, request_at, stamp_as, stray_at, under}
@@ -71,13 +71,13 @@ below : (a b : ℕ) → nat_cmp a b ≡ Less → a < b
 below a b e = grind (arith, nat_tests)
 
 -- entries in order, from a place on
-all_behind : (a : ℕ) (es : List (ℕ × Found)) → AllByRecursion (λ y. nat_cmp a y ≡ Less) (keys_of es) → AllByRecursion (λ y. suc a ≤ y) (keys_of es)
+all_behind : (a : ℕ) (es : List (ℕ × FoundOffer)) → AllByRecursion (λ y. nat_cmp a y ≡ Less) (keys_of es) → AllByRecursion (λ y. suc a ≤ y) (keys_of es)
 all_behind a [] h = tt
 all_behind a (e ∷ es) h = (omega (arith, below a e.0 h.0), all_behind a es h.1)
 
 -- files that stand in order of their places are all of them in order
 pub rising_values :
-    (low : ℕ) (es : List (ℕ × Found)) → IsStrictlySortedBy nat_cmp (keys_of es) → AllByRecursion (λ y. low ≤ y) (keys_of es) → ArePlaced es
+    (low : ℕ) (es : List (ℕ × FoundOffer)) → IsStrictlySortedBy nat_cmp (keys_of es) → AllByRecursion (λ y. low ≤ y) (keys_of es) → ArePlaced es
     → rising_from low (values_of es) ≡ values_of es
 unfolding IsStrictlySortedBy
 rising_values low [] r h placed = refl
@@ -87,7 +87,7 @@ rising_values low (e ∷ es) r h placed =
     let least : low ≤ e.0 = h.0 in
     rw place (grind (arith, nat_tests, rest, least))
 
-pub all_from_start : (es : List (ℕ × Found)) → AllByRecursion (λ y. 0 ≤ y) (keys_of es)
+pub all_from_start : (es : List (ℕ × FoundOffer)) → AllByRecursion (λ y. 0 ≤ y) (keys_of es)
 all_from_start [] = tt
 all_from_start (e ∷ es) = (omega arith, all_from_start es)
 
@@ -107,16 +107,16 @@ then_ok (Err e) p f = tt
 
 -- each file stands at its own place still, and has a name that asks for nothing
 pub placed_after :
-    {A E : Type 0} (r : Result A E) (es new : List (ℕ × Found)) (k : ℕ) (f : Found) (strays : List (String Global × Stamp))
+    {A E : Type 0} (r : Result A E) (es new : List (ℕ × FoundOffer)) (k : ℕ) (f : FoundOffer) (strays : List (String Global × Stamp))
     → OnOk r (new ≡ insert_entry nat_cmp es k f) → OnErr r (new ≡ es) → k ≡ rank f.request → IsGathering es strays → IsGathering new strays
 placed_after (Ok x) es new k f strays ok err at all = record {
-  placed = rw ok (all_inserted nat_cmp (λ (e : ℕ × Found). rank e.1.request ≡ e.0) es k f all.placed (sym at) (λ e h same. sym at ∙ same_number k e.0 same));
+  placed = rw ok (all_inserted nat_cmp (λ (e : ℕ × FoundOffer). rank e.1.request ≡ e.0) es k f all.placed (sym at) (λ e h same. sym at ∙ same_number k e.0 same));
   stray = all.stray;
 }
 placed_after (Err x) es new k f strays ok err at all = record { placed = rw err all.placed; stray = all.stray }
 
 pub stray_after :
-    {A E : Type 0} (r : Result A E) (requests : List (ℕ × Found)) (es new : List (String Global × Stamp)) (k : String Global) (stamp : Stamp)
+    {A E : Type 0} (r : Result A E) (requests : List (ℕ × FoundOffer)) (es new : List (String Global × Stamp)) (k : String Global) (stamp : Stamp)
     → OnOk r (new ≡ insert_entry string_cmp es k stamp) → OnErr r (new ≡ es) → IsStray (string_bytes k) → IsGathering requests es → IsGathering requests new
 stray_after (Ok x) requests es new k stamp ok err at all = record {
   placed = all.placed;
@@ -126,7 +126,7 @@ stray_after (Err x) requests es new k stamp ok err at all = record { placed = al
 
 -- a file whose name asks for something
 pub takes_request :
-    (file : files.Found) (r : Request) (old new : GatheringValue)
+    (file : files.Found) (r : FileRequest) (old new : GatheringValue)
     → string_bytes file.name ≡ name_of r → PutsRequest (record { request = r; stamp = file.stamp }) old new → old.is_broken ≡ false → TakesFile file old new
 takes_request file r old new own puts whole = record {
   requests = λ s number.
@@ -148,7 +148,7 @@ pub takes_stray :
     → IsStray (string_bytes file.name) → PutsStray (string_bytes file.name) file.stamp old new → old.is_broken ≡ false → TakesFile file old new
 takes_stray file old new own puts whole = record {
   requests = λ s number.
-      ap (λ es. option_map (λ (f : Found). f.stamp) (lookup (is_at (nat_cmp (rank s))) es)) puts.requests
+      ap (λ es. option_map (λ (f : FoundOffer). f.stamp) (lookup (is_at (nat_cmp (rank s))) es)) puts.requests
       ∙ sym (ap (λ b. option_or (cond b (Some file.stamp) None) (request_at old s))
       (differ (string_bytes file.name) (name_of s) (λ e. own.0 s.kind s.number number.0 number.1 e)));
   strays = λ name stray. puts.strays name ∙ or_before (bytes_eq (string_bytes file.name) name) file.stamp (stray_at old name);

@@ -12,16 +12,16 @@ use Rattle.folders.specs.declared.fault.FolderFault.{FolderFault}
 use Rattle.folders.specs.declared.folders.Found as files
 use Rattle.folders.specs.declared.folders.Listing.{Listing}
 use Rattle.folders.specs.declared.folders.PassedOver.{PassedOver}
-use Rattle.folders.specs.declared.names.Request.{Request}
+use Rattle.folders.specs.declared.names.FileRequest.{FileRequest}
 use Rattle.folders.specs.declared.stamp.Stamp.{Stamp}
-use Rattle.offers.specs.declared.offer.Found.{Found}
+use Rattle.offers.specs.declared.offer.FoundOffer.{FoundOffer}
 use Rattle.offers.specs.Order.{rank}
 use Rattle.looks.specs.Names.{name_of, IsRequest, IsStray}
 
 -- what a look found so far, each as a finite map in order of its keys: of each place the file that asks for it, of each name that asks for
 -- nothing its stamp, of each name that is passed over why; how many names were not UTF-8; and whether there was no memory for some of it
 pub record GatheringValue : Type 0 where
-  pub requests : List (ℕ × Found)
+  pub requests : List (ℕ × FoundOffer)
   pub strays : List (String Global × Stamp)
   pub others : List (String Global × FolderFault)
   pub skipped : ℕ
@@ -36,8 +36,8 @@ abbrev pub under : {X : Type 0} → List (String Global × X) → List ℕ → O
 under entries name = lookup (is_at (λ k. slice_cmp nat_cmp name (string_bytes k))) entries
 
 -- the stamp of the file that asks for this
-abbrev pub request_at : GatheringValue → Request → Option Stamp
-request_at g r = option_map (λ (f : Found). f.stamp) (lookup (is_at (nat_cmp (rank r))) g.requests)
+abbrev pub request_at : GatheringValue → FileRequest → Option Stamp
+request_at g r = option_map (λ (f : FoundOffer). f.stamp) (lookup (is_at (nat_cmp (rank r))) g.requests)
 
 -- the stamp of a file whose name asks for nothing
 abbrev pub stray_at : GatheringValue → List ℕ → Option Stamp
@@ -48,11 +48,11 @@ abbrev pub other_at : GatheringValue → List ℕ → Option FolderFault
 other_at g name = under g.others name
 
 -- each file that asks for something stands at its own place
-abbrev pub ArePlaced : List (ℕ × Found) → Type 0
-ArePlaced requests = AllByRecursion (λ (e : ℕ × Found). rank e.1.request ≡ e.0) requests
+abbrev pub ArePlaced : List (ℕ × FoundOffer) → Type 0
+ArePlaced requests = AllByRecursion (λ (e : ℕ × FoundOffer). rank e.1.request ≡ e.0) requests
 
 -- each file that asks for something stands at its own place, and each other one has a name that asks for nothing and is not left alone
-pub record IsGathering (requests : List (ℕ × Found)) (strays : List (String Global × Stamp)) : Type 0 where
+pub record IsGathering (requests : List (ℕ × FoundOffer)) (strays : List (String Global × Stamp)) : Type 0 where
   pub placed : ArePlaced requests
   pub stray : AllByRecursion (λ (e : String Global × Stamp). IsStray (string_bytes e.0)) strays
 
@@ -73,9 +73,9 @@ abbrev pub last_fault : List ℕ → Option FolderFault → List PassedOver → 
 last_fault name before others = last_or before (filter_map (fault_as name) others)
 
 -- a file was put to those that ask for something
-pub record PutsRequest (f : Found) (old new : GatheringValue) : Type 0 where
+pub record PutsRequest (f : FoundOffer) (old new : GatheringValue) : Type 0 where
   pub request : IsRequest f.request
-  pub requests : (r : Request) → request_at new r ≡ (if rank f.request == rank r then Some f.stamp else request_at old r)
+  pub requests : (r : FileRequest) → request_at new r ≡ (if rank f.request == rank r then Some f.stamp else request_at old r)
   pub strays : new.strays ≡ old.strays
   pub others : new.others ≡ old.others
   pub skipped : new.skipped ≡ old.skipped
@@ -89,7 +89,7 @@ pub record PutsStray (own : List ℕ) (stamp : Stamp) (old new : GatheringValue)
 
 -- a file was taken in: it is what was found of its request, or of its name where that asks for nothing; one that is left alone is nowhere
 pub record TakesFile (file : files.Found) (old new : GatheringValue) : Type 0 where
-  pub requests : (r : Request) → IsRequest r → request_at new r ≡ option_or (stamp_as (name_of r) file) (request_at old r)
+  pub requests : (r : FileRequest) → IsRequest r → request_at new r ≡ option_or (stamp_as (name_of r) file) (request_at old r)
   pub strays : (name : List ℕ) → IsStray name → stray_at new name ≡ option_or (stamp_as name file) (stray_at old name)
   pub others : new.others ≡ old.others
   pub skipped : new.skipped ≡ old.skipped
@@ -97,7 +97,7 @@ pub record TakesFile (file : files.Found) (old new : GatheringValue) : Type 0 wh
 
 -- files were taken in: of each request it is known what was found last under its name, and so of each name that asks for nothing
 pub record TakesFiles (found : List files.Found) (old new : GatheringValue) : Type 0 where
-  pub requests : (r : Request) → IsRequest r → request_at new r ≡ last_stamp (name_of r) (request_at old r) found
+  pub requests : (r : FileRequest) → IsRequest r → request_at new r ≡ last_stamp (name_of r) (request_at old r) found
   pub strays : (name : List ℕ) → IsStray name → stray_at new name ≡ last_stamp name (stray_at old name) found
   pub others : new.others ≡ old.others
   pub skipped : new.skipped ≡ old.skipped
@@ -121,7 +121,7 @@ pub record TakesOthers (others : List PassedOver) (old new : GatheringValue) : T
 
 -- what was found in a turn was taken in, and there was memory for all that was before
 pub record Takes (listing : Listing) (old new : GatheringValue) : Type 0 where
-  pub requests : (r : Request) → IsRequest r → request_at new r ≡ last_stamp (name_of r) (request_at old r) listing.files.items
+  pub requests : (r : FileRequest) → IsRequest r → request_at new r ≡ last_stamp (name_of r) (request_at old r) listing.files.items
   pub strays : (name : List ℕ) → IsStray name → stray_at new name ≡ last_stamp name (stray_at old name) listing.files.items
   pub others : (name : List ℕ) → other_at new name ≡ last_fault name (other_at old name) listing.others.items
   pub skipped : new.skipped ≡ min (old.skipped + listing.skipped) (2 ^ 64 - 1)

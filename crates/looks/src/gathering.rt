@@ -8,18 +8,18 @@ ghost use Rattle.looks.specs.Handing.{Hands, is_crowded};
 
 use crate::looking::MOST_NAMES;
 use crate::requests::Requests;
-use folders::{FolderFault, Listing, PassedOver, Request, Stamp, is_left, named};
-use offers::{Found, rank};
+use folders::{FileRequest, FolderFault, Listing, PassedOver, Stamp, is_left, named};
+use offers::{FoundOffer, rank};
 use std::alloc::{AllocError, Global};
 use std::collections::BTreeMap;
 use std::marker::Model;
 
 /// What a look found so far, in order as it comes, so that no turn sorts all of it. What comes twice counts once, as it was found last.
 #[derive(Drop)]
-pub(crate) struct Gathering {
+pub(crate) struct LookFindings {
     alloc: Global,
     /// The files whose names ask for something, by their places.
-    requests: BTreeMap<u32, Found>,
+    requests: BTreeMap<u32, FoundOffer>,
     /// The files whose names ask for nothing, by their names.
     strays: BTreeMap<String, Stamp>,
     /// Why something is passed over, by its name.
@@ -30,7 +30,7 @@ pub(crate) struct Gathering {
     is_broken: bool,
 }
 
-impl Model for Gathering {
+impl Model for LookFindings {
     ghost use Rattle.looks.specs.Gathering.{GatheringValue, IsGathering};
 
     ghost Value = { GatheringValue };
@@ -42,7 +42,7 @@ impl Model for Gathering {
 
 /// What a look found that has come to its end.
 #[derive(Drop)]
-pub struct Seen {
+pub struct EndedLook {
     /// The files whose names ask for something.
     pub requests: Requests,
     /// The files whose names ask for nothing, by their names.
@@ -54,7 +54,7 @@ pub struct Seen {
 }
 
 /// The place of a file among all files that there can be, whose number is one of a circuit.
-fn place_of(request: Request) -> u32
+fn place_of(request: FileRequest) -> u32
     ensures place { result ≡ rank request }
     ensures request { IsRequest request }
 {
@@ -62,7 +62,7 @@ fn place_of(request: Request) -> u32
     rank(request)
 }
 
-impl Seen {
+impl EndedLook {
     /// Whether more of a kind was found than is taken in in one turn.
     pub fn is_crowded(&self) -> bool
         ensures { result ≡ is_crowded self.now }
@@ -73,12 +73,12 @@ impl Seen {
     }
 }
 
-impl Gathering {
+impl LookFindings {
     /// Nothing was found yet.
-    pub(crate) fn new(alloc: Global) -> Gathering
+    pub(crate) fn new(alloc: Global) -> LookFindings
         ensures { result ≡ nothing_found }
     {
-        Gathering {
+        LookFindings {
             alloc,
             requests: BTreeMap::new(alloc),
             strays: BTreeMap::new(alloc),
@@ -89,7 +89,7 @@ impl Gathering {
     }
 
     /// Puts a file to those that ask for something.
-    fn put_request(&mut self, found: Found) -> Result<(), AllocError>
+    fn put_request(&mut self, found: FoundOffer) -> Result<(), AllocError>
         ensures ok { OnOk result (PutsRequest found self.old self.new) }
         ensures broken { self.new.is_broken ≡ self.old.is_broken }
     {
@@ -119,7 +119,7 @@ impl Gathering {
     {
         let folders::Found { name, stamp } = file;
         match named(self.alloc, name.as_str())? {
-            Some(request) => self.put_request(Found { request, stamp }),
+            Some(request) => self.put_request(FoundOffer { request, stamp }),
             None if is_left(name.as_str()) => Ok(()),
             None => self.put_stray(name, stamp),
         }
@@ -172,10 +172,10 @@ impl Gathering {
 
     /// All of it, once the look has come to its end; where there was no memory for some of it, `AllocError`. None of it is walked, however much
     /// it is.
-    pub(crate) fn finish(self) -> Result<Seen, AllocError>
+    pub(crate) fn finish(self) -> Result<EndedLook, AllocError>
         ensures { IfOk result (λ seen. Hands self seen) }
     {
-        let Gathering {
+        let LookFindings {
             alloc,
             requests,
             strays,
@@ -186,7 +186,7 @@ impl Gathering {
         if is_broken {
             return Err(AllocError);
         }
-        Ok(Seen {
+        Ok(EndedLook {
             requests: Requests::over(alloc, requests),
             strays,
             others,

@@ -9,7 +9,7 @@ mod requests;
 mod sighting;
 mod strays;
 
-pub use gathering::Seen;
+pub use gathering::EndedLook;
 pub use looking::{Looking, MOST_NAMES};
 pub use merging::Merging;
 pub use requests::Requests;

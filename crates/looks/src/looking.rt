@@ -3,7 +3,7 @@
 ghost use Rattle.std.specs.Prelude.{◌≡◌, false, true, IsSome, IfSome, IfOk, None};
 ghost use Rattle.looks.specs.Looking.{Finds, GoesOn, at_start, found_by, goes_on, is_due, rest_after, rests_after, takes_turn, turned};
 
-use crate::gathering::{Gathering, Seen};
+use crate::gathering::{EndedLook, LookFindings};
 use folders::Listing;
 use std::alloc::{AllocError, Global};
 use std::mem;
@@ -23,7 +23,7 @@ const LONG_REST: u64 = 500;
 
 /// Where the looks stand. Moments are in milliseconds.
 #[derive(Drop)]
-pub(crate) enum Stage {
+pub(crate) enum LookStage {
     /// None goes on, and from this moment on the next is begun.
     Rests {
         until: u64,
@@ -31,7 +31,7 @@ pub(crate) enum Stage {
     /// One goes on.
     GoesOn {
         /// What it found so far.
-        found: Gathering,
+        found: LookFindings,
         /// Whether the last deed was a part of it.
         was_part: bool,
     },
@@ -41,7 +41,7 @@ pub(crate) enum Stage {
 #[derive(Drop)]
 pub struct Looking {
     alloc: Global,
-    stage: Stage,
+    stage: LookStage,
 }
 
 /// How long it is rested after a look of several turns or of one, that took so many milliseconds. A look of several turns is followed by
@@ -65,7 +65,7 @@ impl Looking {
     {
         Looking {
             alloc,
-            stage: Stage::Rests { until: 0 },
+            stage: LookStage::Rests { until: 0 },
         }
     }
 
@@ -73,7 +73,7 @@ impl Looking {
     pub fn goes_on(&self) -> bool
         ensures { result ≡ goes_on self.now.stage }
     {
-        matches!(self.stage, Stage::GoesOn { .. })
+        matches!(self.stage, LookStage::GoesOn { .. })
     }
 
     /// Whether it is time to begin a look at this moment, or to go on with one.
@@ -81,8 +81,8 @@ impl Looking {
         ensures { result ≡ is_due self.now.stage now }
     {
         match &self.stage {
-            Stage::Rests { until } => *until <= now,
-            Stage::GoesOn { .. } => true,
+            LookStage::Rests { until } => *until <= now,
+            LookStage::GoesOn { .. } => true,
         }
     }
 
@@ -92,8 +92,8 @@ impl Looking {
         ensures stage { self.new.stage ≡ turned self.old.stage }
     {
         match &mut self.stage {
-            Stage::Rests { .. } => false,
-            Stage::GoesOn { was_part, .. } => {
+            LookStage::Rests { .. } => false,
+            LookStage::GoesOn { was_part, .. } => {
                 *was_part = !*was_part;
                 *was_part
             }
@@ -101,18 +101,18 @@ impl Looking {
     }
 
     /// What was found so far, and whether the last deed was a part of the look; none goes on from then on.
-    fn so_far(&mut self) -> (Gathering, bool)
+    fn so_far(&mut self) -> (LookFindings, bool)
         ensures { result ≡ found_by self.old.stage }
     {
-        let rests = Stage::Rests { until: 0 };
+        let rests = LookStage::Rests { until: 0 };
         match mem::replace(&mut self.stage, rests) {
-            Stage::Rests { .. } => (Gathering::new(self.alloc), false),
-            Stage::GoesOn { found, was_part } => (found, was_part),
+            LookStage::Rests { .. } => (LookFindings::new(self.alloc), false),
+            LookStage::GoesOn { found, was_part } => (found, was_part),
         }
     }
 
     /// Takes in what was found in a turn, at a moment; all that the look found, where it has come to its end.
-    pub fn take(&mut self, listing: Listing, now: u64) -> Option<Result<Seen, AllocError>>
+    pub fn take(&mut self, listing: Listing, now: u64) -> Option<Result<EndedLook, AllocError>>
         ensures goes_on { listing.is_end ≡ false → GoesOn listing self.old.stage self.new.stage }
         ensures nothing { listing.is_end ≡ false → result ≡ None }
         ensures ends { listing.is_end ≡ true → self.new.stage ≡ rests_after self.old.stage listing.took now }
@@ -125,10 +125,10 @@ impl Looking {
         found.take(listing);
         if is_end {
             let until = now.saturating_add(rest_after(several, took));
-            self.stage = Stage::Rests { until };
+            self.stage = LookStage::Rests { until };
             Some(found.finish())
         } else {
-            self.stage = Stage::GoesOn { found, was_part };
+            self.stage = LookStage::GoesOn { found, was_part };
             None
         }
     }
@@ -138,6 +138,6 @@ impl Looking {
         ensures { self.new.stage ≡ rests_after self.old.stage 2 now }
     {
         let until = now.saturating_add(rest_after(self.goes_on(), SHORT));
-        self.stage = Stage::Rests { until };
+        self.stage = LookStage::Rests { until };
     }
 }

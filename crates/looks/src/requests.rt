@@ -5,7 +5,7 @@ ghost use Rattle.std.specs.Map.{values_of};
 ghost use Rattle.offers.specs.Order.{rising};
 ghost use Rattle.looks.specs.Gathering.{ArePlaced};
 
-use offers::Found;
+use offers::FoundOffer;
 use std::alloc::{AllocError, Global};
 use std::collections::BTreeMap;
 use std::marker::Model;
@@ -14,15 +14,15 @@ use std::marker::Model;
 #[derive(Drop)]
 pub struct Requests {
     alloc: Global,
-    found: BTreeMap<u32, Found>,
+    found: BTreeMap<u32, FoundOffer>,
 }
 
 impl Model for Requests {
     ghost use Rattle.std.specs.Prelude.{ℕ, List};
-    ghost use Rattle.offers.specs.declared.offer.Found.{Found};
+    ghost use Rattle.offers.specs.declared.offer.FoundOffer.{FoundOffer};
     ghost use Rattle.looks.specs.Gathering.{ArePlaced};
 
-    ghost Value = { List (ℕ × Found) };
+    ghost Value = { List (ℕ × FoundOffer) };
 
     ghost view = { λ r. r.found.entries };
 
@@ -30,7 +30,7 @@ impl Model for Requests {
 }
 
 /// The same, in order of their places.
-fn in_order(alloc: Global, found: BTreeMap<u32, Found>) -> Result<Vec<Found>, AllocError>
+fn in_order(alloc: Global, found: BTreeMap<u32, FoundOffer>) -> Result<Vec<FoundOffer>, AllocError>
     requires { ArePlaced found.entries }
     ensures all { IfOk result (λ requests. requests.items ≡ values_of found.entries) }
     ensures order { IfOk result (λ requests. rising requests.items ≡ requests.items) }
@@ -44,7 +44,7 @@ fn in_order(alloc: Global, found: BTreeMap<u32, Found>) -> Result<Vec<Found>, Al
 
 impl Requests {
     /// These, each at its own place.
-    pub(crate) fn over(alloc: Global, found: BTreeMap<u32, Found>) -> Requests
+    pub(crate) fn over(alloc: Global, found: BTreeMap<u32, FoundOffer>) -> Requests
         requires { ArePlaced found.entries }
         ensures { result ≡ found.entries }
     {
@@ -59,7 +59,7 @@ impl Requests {
     }
 
     /// All of them, in order of their places.
-    pub fn in_order(self) -> Result<Vec<Found>, AllocError>
+    pub fn in_order(self) -> Result<Vec<FoundOffer>, AllocError>
         ensures all { IfOk result (λ requests. requests.items ≡ values_of self) }
         ensures order { IfOk result (λ requests. rising requests.items ≡ requests.items) }
     {

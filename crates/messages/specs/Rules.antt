@@ -2,11 +2,11 @@
 use Rattle.std.specs.Prelude.{ℕ, Bool, true, not, ◌&&◌, ◌==◌, Some, None}
 use Rattle.protocol.specs.Ballots.{Ballot, is_below}
 use Rattle.protocol.specs.Packets.{Packet, Body, Prepare, Promise, Accept, Accepted, Nack}
-use Rattle.messages.specs.declared.body.Kind.{Kind}
-use Rattle.messages.specs.declared.body.Kind.TheVariants as kinds
+use Rattle.messages.specs.declared.body.PacketKind.{PacketKind}
+use Rattle.messages.specs.declared.body.PacketKind.TheVariants as kinds
 
 -- the kind of packet that says this
-abbrev pub kind_of : Body → Kind
+abbrev pub kind_of : Body → PacketKind
 kind_of Prepare = kinds.Prepare
 kind_of (Promise report) = kinds.Promise
 kind_of (Accept entry) = kinds.Accept
@@ -14,7 +14,7 @@ kind_of (Accepted entry) = kinds.Accepted
 kind_of (Nack promised) = kinds.Nack
 
 -- a request is sent at a ballot of its sender's, and a Promise or a Nack answers one of its addressee's
-abbrev pub may_send : Kind → ℕ → ℕ → ℕ → Bool
+abbrev pub may_send : PacketKind → ℕ → ℕ → ℕ → Bool
 may_send kinds.Prepare owner from to = owner == from
 may_send kinds.Accept owner from to = owner == from
 may_send kinds.Promise owner from to = owner == to

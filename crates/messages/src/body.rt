@@ -13,7 +13,7 @@ use tape_frames::{Entry, EntryRef, Version};
 
 /// The kind of a packet.
 #[derive(Clone, Copy, PartialEq, Eq)]
-pub enum Kind {
+pub enum PacketKind {
     /// A request to promise.
     Prepare,
     /// A promise.
@@ -58,13 +58,13 @@ pub enum Body {
 
 /// Whether the ballot's owner is the member that a packet of this kind asks for: its sender for a request, its addressee for a
 /// Promise or a Nack, any for an Accepted.
-pub fn may_send(kind: Kind, owner: Member, from: Member, to: Member) -> bool
+pub fn may_send(kind: PacketKind, owner: Member, from: Member, to: Member) -> bool
     ensures { result ≡ may_send kind owner from to }
 {
     match kind {
-        Kind::Prepare | Kind::Accept => owner.get() == from.get(),
-        Kind::Promise | Kind::Nack => owner.get() == to.get(),
-        Kind::Accepted => true,
+        PacketKind::Prepare | PacketKind::Accept => owner.get() == from.get(),
+        PacketKind::Promise | PacketKind::Nack => owner.get() == to.get(),
+        PacketKind::Accepted => true,
     }
 }
 
@@ -83,15 +83,15 @@ fn copy_promise(alloc: Global, report: &Option<VoteRef<'_>>) -> Result<Body, All
 
 impl<'a> BodyRef<'a> {
     /// The kind of packet that says this.
-    pub fn kind(&self) -> Kind
+    pub fn kind(&self) -> PacketKind
         ensures { result ≡ kind_of (said self.now) }
     {
         match self {
-            BodyRef::Prepare => Kind::Prepare,
-            BodyRef::Promise { .. } => Kind::Promise,
-            BodyRef::Accept { .. } => Kind::Accept,
-            BodyRef::Accepted { .. } => Kind::Accepted,
-            BodyRef::Nack { .. } => Kind::Nack,
+            BodyRef::Prepare => PacketKind::Prepare,
+            BodyRef::Promise { .. } => PacketKind::Promise,
+            BodyRef::Accept { .. } => PacketKind::Accept,
+            BodyRef::Accepted { .. } => PacketKind::Accepted,
+            BodyRef::Nack { .. } => PacketKind::Nack,
         }
     }
 

@@ -4,5 +4,5 @@
 mod body;
 mod packet;
 
-pub use body::{Body, BodyRef, Kind, may_send};
+pub use body::{Body, BodyRef, PacketKind, may_send};
 pub use packet::{Packet, PacketRef};

@@ -18,7 +18,7 @@ ghost use Rattle.node_core.specs.Turns.{event_value, note_value, is_quiet, HasPr
 use crate::event::Event;
 use crate::rows::{copied, is_promised, raise, vote};
 use crate::turn::{CoreRefusal, Note, Turn};
-use crate::voting::{self, Telling, Voting};
+use crate::voting::{self, RecallAnswer, Voting};
 use ballots::{Ballot, Member, Number, Row, VoteRef};
 use learner::Heard;
 use mail::{Letter, Mail, Seat};
@@ -453,7 +453,7 @@ impl Instance {
         ensures of { IsInstanceOf seat self.new }
         ensures number { self.new.number ≡ self.old.number }
     {
-        let Telling { turn, own } = voting::tell_again(seat, self.number, to, row);
+        let RecallAnswer { turn, own } = voting::tell_again(seat, self.number, to, row);
         match own {
             None => Ok(turn),
             Some(vote) => {

@@ -8,7 +8,7 @@ ghost use Rattle.node_core.specs.Turns.{IsOrderly};
 
 use crate::event::Event;
 use crate::turn::{CoreRefusal, Note, Turn};
-use crate::voting::{self, Telling, Voting};
+use crate::voting::{self, RecallAnswer, Voting};
 use ballots::Row;
 use mail::Seat;
 use messages::{BodyRef, PacketRef};
@@ -50,7 +50,7 @@ pub(crate) fn take(
         Event::Due { .. } => Ok(Turn::quiet(Note::Idle)),
         Event::Arrived { packet, .. } => Ok(receive(alloc, seat, packet, row)?),
         Event::Recall { number, to } => {
-            let Telling { turn, .. } = voting::tell_again(seat, *number, *to, row);
+            let RecallAnswer { turn, .. } = voting::tell_again(seat, *number, *to, row);
             Ok(turn)
         }
     }

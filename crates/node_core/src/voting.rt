@@ -29,7 +29,7 @@ pub(crate) struct Voting<'a> {
 
 /// The answer to a recall: what goes out, and the vote that the station tells itself, if it does. That vote is still to be heard.
 #[derive(Drop)]
-pub(crate) struct Telling<'a> {
+pub(crate) struct RecallAnswer<'a> {
     pub turn: Turn,
     pub own: Option<VoteRef<'a>>,
 }
@@ -126,25 +126,30 @@ pub(crate) fn accept<'a>(
 }
 
 /// Tells the row's vote again, to another member or to the station itself. A row that has no vote has nothing to tell, whatever it has promised.
-pub(crate) fn tell_again<'a>(seat: Seat, number: Number, to: Member, row: &'a Row) -> Telling<'a>
+pub(crate) fn tell_again<'a>(
+    seat: Seat,
+    number: Number,
+    to: Member,
+    row: &'a Row,
+) -> RecallAnswer<'a>
     ensures telling { IsTelling seat number to row.now result.turn result.own }
     ensures orderly { IsOrderly result.turn }
 {
     let Some(vote) = row.vote() else {
         let turn = Turn::quiet(Note::Blank);
-        return Telling { turn, own: None };
+        return RecallAnswer { turn, own: None };
     };
     let ballot = vote.ballot();
     let note = Note::Recalled { ballot };
     if to.get() == seat.me().get() {
         let turn = Turn::quiet(note);
-        return Telling {
+        return RecallAnswer {
             turn,
             own: Some(vote.lend()),
         };
     }
     let mail = Mail::new(seat, number, ballot, Letter::VoteTo { to });
-    Telling {
+    RecallAnswer {
         turn: Turn {
             row: None,
             mail: Some(mail),

@@ -7,18 +7,18 @@ use Rattle.std.proofs.lemmas.Map.Made.{length-remove_key}
 use Rattle.std.proofs.lemmas.List.Folds.{list_any-append}
 use Rattle.std.proofs.lemmas.List.Sums.{sum_by-cons}
 use Rattle.pace.specs.UnderWay.{without, without_at}
-use Rattle.folders.specs.declared.names.Kind.{Kind}
-use Rattle.folders.specs.declared.names.Kind.TheVariants.{Tape, Text, Withdraw, Seek}
-use Rattle.folders.specs.declared.names.Request.{Request}
+use Rattle.folders.specs.declared.names.OfferKind.{OfferKind}
+use Rattle.folders.specs.declared.names.OfferKind.TheVariants.{Tape, Text, Withdraw, Seek}
+use Rattle.folders.specs.declared.names.FileRequest.{FileRequest}
 use Rattle.folders.specs.declared.wishes.Wish.{Wish}
 use Rattle.folders.specs.declared.wishes.Wish.TheVariants.{Offered, Sought}
-use Rattle.offers.specs.declared.offer.Found.{Found}
+use Rattle.offers.specs.declared.offer.FoundOffer.{FoundOffer}
 use Rattle.offers.specs.declared.offer.Offer.{Offer}
 use Rattle.offers.specs.declared.stage.Landing.{Landing}
 use Rattle.offers.specs.declared.stage.Landing.TheVariants.{Ended, Nothing, Busy, Barred, Released}
-use Rattle.offers.specs.declared.stage.News.{News}
-use Rattle.offers.specs.declared.stage.News.TheVariants as news
-use Rattle.offers.specs.declared.stage.Reason.{Reason}
+use Rattle.offers.specs.declared.stage.FileNews.{FileNews}
+use Rattle.offers.specs.declared.stage.FileNews.TheVariants as news
+use Rattle.offers.specs.declared.stage.OfferFault.{OfferFault}
 use Rattle.offers.specs.declared.stage.Stage.{Stage}
 use Rattle.offers.specs.declared.stage.Tries.{Tries}
 use Rattle.offers.specs.declared.stage.Stage.TheVariants.{Watched, Waiting, UnderWay, Refused, Answered, Gone}
@@ -75,7 +75,7 @@ other_joins m n w apart = let other : (n == m) ≡ false = grind (arith, nat_tes
 
 -- ---- what asks for a file, by its place
 
-same_kind : (i j : Kind) → kind_rank i ≡ kind_rank j → i ≡ j
+same_kind : (i j : OfferKind) → kind_rank i ≡ kind_rank j → i ≡ j
 same_kind Tape Tape e = refl
 same_kind Tape Text e = cc
 same_kind Tape Withdraw e = cc
@@ -93,26 +93,26 @@ same_kind Seek Text e = cc
 same_kind Seek Withdraw e = cc
 same_kind Seek Seek e = refl
 
-few_kinds : (k : Kind) → kind_rank k ≤ 3
+few_kinds : (k : OfferKind) → kind_rank k ≤ 3
 few_kinds Tape = omega arith
 few_kinds Text = omega arith
 few_kinds Withdraw = omega arith
 few_kinds Seek = omega arith
 
 -- of one place there is one that asks for it
-pub same_number : (r s : Request) → rank r ≡ rank s → r.number ≡ s.number
+pub same_number : (r s : FileRequest) → rank r ≡ rank s → r.number ≡ s.number
 same_number r s e = omega (arith, few_kinds r.kind, few_kinds s.kind)
 
-abbrev of_kind : ℕ → Kind → Request
+abbrev of_kind : ℕ → OfferKind → FileRequest
 of_kind n k = record { number = n; kind = k }
 
-by_parts : (a b : ℕ) (i j : Kind) → a ≡ b → i ≡ j → of_kind a i ≡ of_kind b j
+by_parts : (a b : ℕ) (i j : OfferKind) → a ≡ b → i ≡ j → of_kind a i ≡ of_kind b j
 by_parts a b i j n k = rw (n, k) refl
 
-same_request : (r s : Request) → r.number ≡ s.number → r.kind ≡ s.kind → r ≡ s
+same_request : (r s : FileRequest) → r.number ≡ s.number → r.kind ≡ s.kind → r ≡ s
 same_request r s n k = by_parts r.number s.number r.kind s.kind n k
 
-pub same_place : (r s : Request) → rank r ≡ rank s → r ≡ s
+pub same_place : (r s : FileRequest) → rank r ≡ rank s → r ≡ s
 same_place r s e =
     let number = same_number r s e in
     let kinds : kind_rank r.kind ≡ kind_rank s.kind = omega arith in
@@ -199,7 +199,7 @@ has_landed Released now (Answered at pause) = refl
 has_landed Released now Gone = refl
 
 -- such news puts none under way
-pub never_begins : (n : News) (now : ℕ) (s : Stage) → begins n ≡ false → flies (after n now s) ≡ true → flies s ≡ true
+pub never_begins : (n : FileNews) (now : ℕ) (s : Stage) → begins n ≡ false → flies (after n now s) ≡ true → flies s ≡ true
 never_begins (news.Read wish) now (Watched at replaced) b h = cc
 never_begins (news.Read wish) now (Waiting own at tries) b h = cc
 never_begins (news.Read wish) now (UnderWay own tries) b h = refl
@@ -225,18 +225,18 @@ never_begins (news.Landed landing) now s b h = let none = has_landed landing now
 -- ---- what holds of the files and the numbers, after each
 
 -- where no more files are under way, the same holds
-pub held_still : (w : List ℕ) (new old : List Offer) → ((r : Request) → is_asked new r ≡ true → is_asked old r ≡ true) → AreHeld w old → AreHeld w new
+pub held_still : (w : List ℕ) (new old : List Offer) → ((r : FileRequest) → is_asked new r ≡ true → is_asked old r ≡ true) → AreHeld w old → AreHeld w new
 held_still w new old fewer held = λ r h. held r (fewer r h)
 
-pub alone_still : (new old : List Offer) → ((r : Request) → is_asked new r ≡ true → is_asked old r ≡ true) → AreAlone old → AreAlone new
+pub alone_still : (new old : List Offer) → ((r : FileRequest) → is_asked new r ≡ true → is_asked old r ≡ true) → AreAlone old → AreAlone new
 alone_still new old fewer alone = λ r s h k e. alone r s (fewer r h) (fewer s k) e
 
 -- news that puts none under way
-pub told_fewer : (k : ℕ) (n : News) (now : ℕ) (os : List Offer) → begins n ≡ false → (r : Request) → is_asked (changed k (after n now) os) r ≡ true → is_asked os r ≡ true
+pub told_fewer : (k : ℕ) (n : FileNews) (now : ℕ) (os : List Offer) → begins n ≡ false → (r : FileRequest) → is_asked (changed k (after n now) os) r ≡ true → is_asked os r ≡ true
 told_fewer k n now os b r h = was_flying k (rank r) (after n now) os (λ s g. never_begins n now s b g) h
 
 -- what was read of a file is such news
-pub read_begins_none : (wish : Result Wish Reason) (n : News) → n ≡ news_of wish → begins n ≡ false
+pub read_begins_none : (wish : Result Wish OfferFault) (n : FileNews) → n ≡ news_of wish → begins n ≡ false
 read_begins_none (Ok wish) n e = rw e refl
 read_begins_none (Err why) n e = rw e refl
 
@@ -244,7 +244,7 @@ read_begins_none (Err why) n e = rw e refl
 lands : (landing : Landing) (now : ℕ) (s : Stage) → flies (after (news.Landed landing) now s) ≡ true → flies s ≡ true
 lands landing now s h = never_begins (news.Landed landing) now s refl h
 
-pub landed_fewer : (n : ℕ) (landing : Landing) (now : ℕ) (os : List Offer) (r : Request) → is_asked (all_changed n (after (news.Landed landing) now) os) r ≡ true → is_asked os r ≡ true
+pub landed_fewer : (n : ℕ) (landing : Landing) (now : ℕ) (os : List Offer) (r : FileRequest) → is_asked (all_changed n (after (news.Landed landing) now) os) r ≡ true → is_asked os r ≡ true
 landed_fewer n landing now os r h =
     let g = after (news.Landed landing) now in
     let one = changed (rank (tape_of n)) g os in
@@ -255,7 +255,7 @@ landed_fewer n landing now os r h =
     let in_one : is_asked one r ≡ true = was_flying (rank (text_of n)) (rank r) g one (lands landing now) in_two in
     was_flying (rank (tape_of n)) (rank r) g os (lands landing now) in_one
 
-none_landed : (n : ℕ) (kind : Kind) (landing : Landing) (now : ℕ) (os : List Offer) → is_asked (all_changed n (after (news.Landed landing) now) os) (record { number = n; kind = kind }) ≡ true → ⊥
+none_landed : (n : ℕ) (kind : OfferKind) (landing : Landing) (now : ℕ) (os : List Offer) → is_asked (all_changed n (after (news.Landed landing) now) os) (record { number = n; kind = kind }) ≡ true → ⊥
 none_landed n Tape landing now os h =
     let g = after (news.Landed landing) now in
     let one = changed (rank (tape_of n)) g os in
@@ -292,10 +292,10 @@ none_landed n Seek landing now os h =
     cc
 
 -- none of its files is under way then
-landed_apart : (n : ℕ) (landing : Landing) (now : ℕ) (os : List Offer) (r : Request) → is_asked (all_changed n (after (news.Landed landing) now) os) r ≡ true → r.number ≢ n
+landed_apart : (n : ℕ) (landing : Landing) (now : ℕ) (os : List Offer) (r : FileRequest) → is_asked (all_changed n (after (news.Landed landing) now) os) r ≡ true → r.number ≢ n
 landed_apart n landing now os r h = λ e.
     let same : r ≡ of_kind n r.kind = same_request r (of_kind n r.kind) e refl in
-    none_landed n r.kind landing now os (subst (λ (x : Request). is_asked (all_changed n (after (news.Landed landing) now) os) x ≡ true) same h)
+    none_landed n r.kind landing now os (subst (λ (x : FileRequest). is_asked (all_changed n (after (news.Landed landing) now) os) x ≡ true) same h)
 
 pub held_landed : (w : List ℕ) (n : ℕ) (landing : Landing) (now : ℕ) (os : List Offer) → AreHeld w os → AreHeld (without n w) (all_changed n (after (news.Landed landing) now) os)
 held_landed w n landing now os held = λ r h. other_stays r.number n w (landed_apart n landing now os r h) ∙ held r (landed_fewer n landing now os r h)
@@ -303,7 +303,7 @@ held_landed w n landing now os held = λ r h. other_stays r.number n w (landed_a
 -- ---- one more is asked for
 
 -- where a file is under way behind an ask, it was before, or it is the one that was asked for
-pub asked_or : (q r : Request) (os : List Offer) → is_asked (changed (rank q) (after news.Asked 0) os) r ≡ true → (is_asked os r ≡ true) ⊎ (r ≡ q)
+pub asked_or : (q r : FileRequest) (os : List Offer) → is_asked (changed (rank q) (after news.Asked 0) os) r ≡ true → (is_asked os r ≡ true) ⊎ (r ≡ q)
 asked_or q r os h = elim (two_ways (rank r == rank q)) [
   | inl here ↦ inr (same_place r q (grind (arith, nat_tests)))
   | inr behind ↦ inl (let same = same_elsewhere (rank q) (rank r) (after news.Asked 0) os (grind (arith, nat_tests)) in rw same at h)
@@ -315,20 +315,20 @@ joins n w = let here : (n == n) ≡ true = grind (arith, nat_tests) in list_any-
 stays_with : (m n : ℕ) (w : List ℕ) → is_under_way m w ≡ true → is_under_way m (w ++ n ∷ []) ≡ true
 stays_with m n w h = list_any-append (λ x. x == m) w (n ∷ []) ∙ rw h refl
 
-pub held_asked : (w : List ℕ) (q : Request) (os : List Offer) → AreHeld w os → AreHeld (w ++ q.number ∷ []) (changed (rank q) (after news.Asked 0) os)
+pub held_asked : (w : List ℕ) (q : FileRequest) (os : List Offer) → AreHeld w os → AreHeld (w ++ q.number ∷ []) (changed (rank q) (after news.Asked 0) os)
 held_asked w q os held = λ r h. elim (asked_or q r os h) [
   | inl before ↦ stays_with r.number q.number w (held r before)
   | inr same ↦ rw same (joins q.number w)
 ]
 
-pub alone_asked : (w : List ℕ) (q : Request) (os : List Offer) → AreHeld w os → AreAlone os → is_under_way q.number w ≡ false → AreAlone (changed (rank q) (after news.Asked 0) os)
+pub alone_asked : (w : List ℕ) (q : FileRequest) (os : List Offer) → AreHeld w os → AreAlone os → is_under_way q.number w ≡ false → AreAlone (changed (rank q) (after news.Asked 0) os)
 alone_asked w q os held alone none = λ r s h k e. elim (asked_or q r os h) [
   | inl r_before ↦ elim (asked_or q s os k) [
     | inl s_before ↦ alone r s r_before s_before e
-    | inr s_new ↦ let there : is_under_way q.number w ≡ true = rw (sym (ap (λ (x : Request). x.number) s_new), sym e) (held r r_before) in cc
+    | inr s_new ↦ let there : is_under_way q.number w ≡ true = rw (sym (ap (λ (x : FileRequest). x.number) s_new), sym e) (held r r_before) in cc
   ]
   | inr r_new ↦ elim (asked_or q s os k) [
-    | inl s_before ↦ let there : is_under_way q.number w ≡ true = rw (sym (ap (λ (x : Request). x.number) r_new), e) (held s s_before) in cc
+    | inl s_before ↦ let there : is_under_way q.number w ≡ true = rw (sym (ap (λ (x : FileRequest). x.number) r_new), e) (held s s_before) in cc
     | inr s_new ↦ r_new ∙ sym s_new
   ]
 ]
@@ -344,14 +344,14 @@ none_anew now (Answered at pause) h = cc
 none_anew now Gone h = cc
 
 -- a file that is under way after a look was so before it
-kept_flying : (known : Option Offer) (now : ℕ) (f : Found) → flies (stage_after known now f) ≡ true → file_flies known ≡ true
+kept_flying : (known : Option Offer) (now : ℕ) (f : FoundOffer) → flies (stage_after known now f) ≡ true → file_flies known ≡ true
 kept_flying None now f h = cc
 kept_flying (Some o) now f h = elim (two_ways (is_same_stamp o.stamp f.stamp)) [
   | inl same ↦ rw same at h
   | inr other ↦ none_anew now o.stage (rw other at h)
 ]
 
-at_one : (old : List Offer) (now l : ℕ) (f : Found) (rest : List Offer) → file_flies (cond (rank f.request == l) (Some (seen old now f)) (file_at rest l)) ≡ true → (file_flies (file_at rest l) ≡ true → file_flies (file_at old l) ≡ true) → file_flies (file_at old l) ≡ true
+at_one : (old : List Offer) (now l : ℕ) (f : FoundOffer) (rest : List Offer) → file_flies (cond (rank f.request == l) (Some (seen old now f)) (file_at rest l)) ≡ true → (file_flies (file_at rest l) ≡ true → file_flies (file_at old l) ≡ true) → file_flies (file_at old l) ≡ true
 at_one old now l f rest h behind = elim (two_ways (rank f.request == l)) [
   | inl here ↦
       let place : rank f.request ≡ l = grind (arith, nat_tests) in
@@ -359,26 +359,26 @@ at_one old now l f rest h behind = elim (two_ways (rank f.request == l)) [
   | inr apart ↦ behind (rw apart at h)
 ]
 
-go_looked : (old : List Offer) (now low l : ℕ) (found : List Found) → file_flies (file_at (map (seen old now) (rising_from low found)) l) ≡ true → file_flies (file_at old l) ≡ true
+go_looked : (old : List Offer) (now low l : ℕ) (found : List FoundOffer) → file_flies (file_at (map (seen old now) (rising_from low found)) l) ≡ true → file_flies (file_at old l) ≡ true
 go_looked old now low l [] h = cc
 go_looked old now low l (f ∷ fs) h = elim (two_ways (nat_lt (rank f.request) low)) [
   | inl below ↦ go_looked old now low l fs (rw below at h)
   | inr from ↦ at_one old now l f (map (seen old now) (rising_from (suc (rank f.request)) fs)) (rw from at h) (go_looked old now (suc (rank f.request)) l fs)
 ]
 
-pub looked_fewer : (old : List Offer) (now : ℕ) (found : List Found) (r : Request) → is_asked (looked old now found) r ≡ true → is_asked old r ≡ true
+pub looked_fewer : (old : List Offer) (now : ℕ) (found : List FoundOffer) (r : FileRequest) → is_asked (looked old now found) r ≡ true → is_asked old r ≡ true
 looked_fewer old now found r h = go_looked old now 0 (rank r) found h
 
 -- ---- how many files are under way
 
 -- those behind the first
-first_apart : (o : Offer) (os : List Offer) (r : Request) → RisesFrom (suc (rank o.request)) os → is_asked os r ≡ true → rank o.request ≢ rank r
+first_apart : (o : Offer) (os : List Offer) (r : FileRequest) → RisesFrom (suc (rank o.request)) os → is_asked os r ≡ true → rank o.request ≢ rank r
 first_apart o os r rises h = λ e.
     let none : file_at os (rank r) ≡ None = absent (rank r) (suc (rank o.request)) os (omega arith) rises in
     let flies_not : is_asked os r ≡ false = rw none refl in
     cc
 
-behind_first : (o : Offer) (os : List Offer) (r : Request) → RisesFrom (suc (rank o.request)) os → is_asked os r ≡ true → is_asked (o ∷ os) r ≡ true
+behind_first : (o : Offer) (os : List Offer) (r : FileRequest) → RisesFrom (suc (rank o.request)) os → is_asked os r ≡ true → is_asked (o ∷ os) r ≡ true
 behind_first o os r rises h =
     let apart = first_apart o os r rises h in
     let other : (rank o.request == rank r) ≡ false = grind (arith, nat_tests) in
@@ -390,7 +390,7 @@ counted o = cond (flies o.stage) 1 0
 pub few_asked : (low : ℕ) (os : List Offer) (w : List ℕ) → RisesFrom low os → AreHeld w os → AreAlone os → asked_count os ≤ length w
 few_asked low [] w rises held alone = omega arith
 few_asked low (o ∷ os) w rises held alone =
-    let behind = λ (r : Request) (h : is_asked os r ≡ true). behind_first o os r rises.1 h in
+    let behind = λ (r : FileRequest) (h : is_asked os r ≡ true). behind_first o os r rises.1 h in
     let rest_alone : AreAlone os = λ r s h k e. alone r s (behind r h) (behind s k) e in
     elim (two_ways (flies o.stage)) [
       | inl flying ↦

@@ -4,7 +4,7 @@ use Rattle.std.proofs.lemmas.List.{get_or_default}
 use Rattle.offers.specs.declared.deed.Deed.{Deed}
 use Rattle.offers.specs.declared.deed.Deed.TheVariants.{Move, Ask, Read, Refuse}
 use Rattle.offers.specs.declared.offer.Offer.{Offer}
-use Rattle.folders.specs.declared.names.Request.{Request}
+use Rattle.folders.specs.declared.names.FileRequest.{FileRequest}
 use Rattle.tape_frames.specs.declared.entry.Entry.{Entry}
 use Rattle.offers.specs.Left.{NoMoves, HasLeft}
 use Rattle.offers.specs.Order.{rank, file_at, Rises, IsPlaceOf}
@@ -44,7 +44,7 @@ no_move b i o within is none = λ j d low high.
     rw (same, there) none
 
 -- where the file at an index does not leave, the file of its place does not
-go_left : (b : Standing) (r : Request) (i : ℕ) → Rises b.files → IsPlaceOf b.files (rank r) i → NoMoves b i (i + 1) → (x : Option Offer) → x ≡ file_at b.files (rank r) → IfSome x (λ o. is_leaving_of b o ≡ false)
+go_left : (b : Standing) (r : FileRequest) (i : ℕ) → Rises b.files → IsPlaceOf b.files (rank r) i → NoMoves b i (i + 1) → (x : Option Offer) → x ≡ file_at b.files (rank r) → IfSome x (λ o. is_leaving_of b o ≡ false)
 go_left b r i rises there none None e = tt
 go_left b r i rises there none (Some o) e =
     let found = file_is 0 b.files i o (rank r) rises there.within (there.is o) in
@@ -52,7 +52,7 @@ go_left b r i rises there none (Some o) e =
     let left = none i o (omega arith) (omega arith) in
     rw same at left
 
-pub has_left : (b : Standing) (r : Request) (i : ℕ) → Rises b.files → IsPlaceOf b.files (rank r) i → NoMoves b i (i + 1) → HasLeft b r
+pub has_left : (b : Standing) (r : FileRequest) (i : ℕ) → Rises b.files → IsPlaceOf b.files (rank r) i → NoMoves b i (i + 1) → HasLeft b r
 has_left b r i rises there none = go_left b r i rises there none (file_at b.files (rank r)) refl
 
 -- of which kind each is

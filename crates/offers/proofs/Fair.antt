@@ -2,8 +2,8 @@
 use Rattle.std.proofs.Common.{◌≡◌, ℕ, ◌<◌, ◌≤◌, ◌+◌, inl, inr, List, [], ◌∷◌, Option, Some, None, IfSome, Bool, true, false, length, get_or, min, refl, ap, ◌∙◌, arith}
 use Rattle.std.proofs.lemmas.Bool.Decides.{nat_tests}
 use Rattle.std.specs.List.{list_any}
-use Rattle.folders.specs.declared.names.Kind.{Kind}
-use Rattle.folders.specs.declared.names.Request.{Request}
+use Rattle.folders.specs.declared.names.OfferKind.{OfferKind}
+use Rattle.folders.specs.declared.names.FileRequest.{FileRequest}
 use Rattle.offers.specs.declared.deed.Allowed.{Allowed}
 use Rattle.offers.specs.declared.deed.Deed.{Deed}
 use Rattle.offers.specs.declared.deed.Deed.TheVariants.{Move, Ask, Read, Refuse}
@@ -32,15 +32,15 @@ is_none true false place m t a g h = refl
 is_none false k place m t a g h = cc
 
 -- where the searches go first and one that is none is asked for, the station may be asked for no search
-no_searches : (b : Standing) (r : Request) → is_search_turn b ≡ true → AsksFirst b (Ask r) → is_search r.kind ≡ false → NoSearches b
+no_searches : (b : Standing) (r : FileRequest) → is_search_turn b ≡ true → AsksFirst b (Ask r) → is_search r.kind ≡ false → NoSearches b
 no_searches b r turn h kind =
     let first = h.1.1 in
     let file = standing_at b.files h.0 first.within in
-    let other : is_search (get_or b.files h.0 file.0).request.kind ≡ false = ap (λ (q : Request). is_search q.kind) (h.2 file.0) ∙ kind in
+    let other : is_search (get_or b.files h.0 file.0).request.kind ≡ false = ap (λ (q : FileRequest). is_search q.kind) (h.2 file.0) ∙ kind in
     let behind = is_behind (is_search_turn b) (is_search (get_or b.files h.0 file.0).request.kind) _ _ h.1.0 turn other (first.is file.0) in
     λ i d lt. is_none (is_search_turn b) _ _ _ h.1.0 turn behind (first.first i d lt)
 
-pub passes_few : (b : Standing) (r : Request) → AsksFirst b (Ask r) → PassesFew b (Ask r)
+pub passes_few : (b : Standing) (r : FileRequest) → AsksFirst b (Ask r) → PassesFew b (Ask r)
 passes_few b r h = elim (two_ways (is_search r.kind)) [
   | inl search ↦ inl search
   | inr other ↦ elim (two_ways (is_search_turn b)) [
@@ -66,7 +66,7 @@ fair_move b (Refuse r found why) h = absurd h
 -- ---- over any number of asks
 
 -- one that is no search counts one more
-counts : (k : Kind) (since : ℕ) → is_search k ≡ false → since_ask k since ≡ min (since + 1) 8
+counts : (k : OfferKind) (since : ℕ) → is_search k ≡ false → since_ask k since ≡ min (since + 1) 8
 counts k since e = rw e refl
 
 any_search : (asks : List Asked) (since : ℕ) → AreAsks since asks → 9 ≤ length asks + min since 8 → list_any (λ (a : Asked). is_search a.request.kind) asks ≡ true

@@ -3,9 +3,9 @@ use Rattle.std.proofs.Common.{◌≡◌, ◌≢◌, ℕ, ◌+◌, ◌<◌, ◌�
 use Rattle.std.proofs.lemmas.Bool.{cases_lt}
 use Rattle.std.proofs.lemmas.Bool.Decides.{nat_tests}
 use Rattle.std.proofs.lemmas.List.{get_or-map, get_or-set_same, get_or-set_other, get_or_default, length-set, length-map}
-use Rattle.folders.specs.declared.names.Kind.{Kind}
-use Rattle.folders.specs.declared.names.Kind.TheVariants.{Tape, Text, Withdraw, Seek}
-use Rattle.folders.specs.declared.names.Request.{Request}
+use Rattle.folders.specs.declared.names.OfferKind.{OfferKind}
+use Rattle.folders.specs.declared.names.OfferKind.TheVariants.{Tape, Text, Withdraw, Seek}
+use Rattle.folders.specs.declared.names.FileRequest.{FileRequest}
 use Rattle.offers.specs.declared.marks.Marks.{Marks}
 use Rattle.offers.specs.declared.offer.Offer.{Offer}
 use Rattle.offers.specs.declared.stage.Stage.{Stage}
@@ -15,8 +15,8 @@ use Rattle.offers.specs.Marks.{flag, move_mark, other_mark, ask_mark, AreMarks, 
 use Rattle.offers.specs.Moments.{moment_at, NoneIn, NoneFrom, MatchIn}
 use Rattle.pace.specs.UnderWay.{with_one, without}
 use Rattle.tape_frames.specs.declared.entry.Entry.{Entry}
-use Rattle.offers.specs.declared.offer.Found.{Found}
-use Rattle.offers.specs.declared.stage.News.TheVariants as news
+use Rattle.offers.specs.declared.offer.FoundOffer.{FoundOffer}
+use Rattle.offers.specs.declared.stage.FileNews.TheVariants as news
 use Rattle.offers.specs.Looks.{seen, looked}
 use Rattle.offers.specs.Order.{rank, file_at, rising_from, Rises, IsPlaceOf}
 use Rattle.offers.specs.Rules.{Standing, entry_in, is_under_way, is_leaving_of}
@@ -95,16 +95,16 @@ has_room b files m marked e = record {
 -- ---- the files of a number are marked anew
 
 -- a file of another number stands at none of its places
-apart_place : (r s : Request) → r.number ≢ s.number → rank r ≢ rank s
+apart_place : (r s : FileRequest) → r.number ≢ s.number → rank r ≢ rank s
 apart_place r s apart = λ e. apart (same_number r s e)
 
-last_place : (n : ℕ) (k : Kind) (r : Request) → rank r ≡ rank (record { number = n; kind = k }) → rank r ≢ rank (search_of n) → rank r ≢ rank (withdrawal_of n) → rank r ≢ rank (text_of n) → rank r ≡ rank (tape_of n)
+last_place : (n : ℕ) (k : OfferKind) (r : FileRequest) → rank r ≡ rank (record { number = n; kind = k }) → rank r ≢ rank (search_of n) → rank r ≢ rank (withdrawal_of n) → rank r ≢ rank (text_of n) → rank r ≡ rank (tape_of n)
 last_place n Tape r is a b c = is
 last_place n Text r is a b c = absurd (c is)
 last_place n Withdraw r is a b c = absurd (b is)
 last_place n Seek r is a b c = absurd (a is)
 
-its_place : (r : Request) (n : ℕ) → r.number ≡ n → rank r ≡ rank (record { number = n; kind = r.kind })
+its_place : (r : FileRequest) (n : ℕ) → r.number ≡ n → rank r ≡ rank (record { number = n; kind = r.kind })
 its_place r n e = rw e refl
 
 -- the file of a place is the one at its index
@@ -213,7 +213,7 @@ remarked n b new m marks marked a moves others sought entries searches = record 
 pub many_changed : (k : ℕ) (g : Stage → Stage) (os : List Offer) → length (changed k g os) ≡ length os
 many_changed k g os = length-map os (change_at k g)
 
-go_apart : (r : Request) (g : Stage → Stage) (o : Offer) → (change_at (rank r) g o).request.number ≢ r.number → change_at (rank r) g o ≡ o
+go_apart : (r : FileRequest) (g : Stage → Stage) (o : Offer) → (change_at (rank r) g o).request.number ≢ r.number → change_at (rank r) g o ≡ o
 go_apart r g o apart = elim (two_ways (rank o.request == rank r)) [
   | inl here ↦
       let same : rank o.request ≡ rank r = grind (arith, nat_tests) in
@@ -222,7 +222,7 @@ go_apart r g o apart = elim (two_ways (rank o.request == rank r)) [
   | inr behind ↦ stays (rank r) g o behind
 ]
 
-pub changed_apart : (r : Request) (g : Stage → Stage) (os : List Offer) (i : ℕ) (d : Offer) → i < length os → (get_or (changed (rank r) g os) i d).request.number ≢ r.number → get_or (changed (rank r) g os) i d ≡ get_or os i d
+pub changed_apart : (r : FileRequest) (g : Stage → Stage) (os : List Offer) (i : ℕ) (d : Offer) → i < length os → (get_or (changed (rank r) g os) i d).request.number ≢ r.number → get_or (changed (rank r) g os) i d ≡ get_or os i d
 changed_apart r g os i d within apart =
     let at = get_or-map (change_at (rank r) g) os i d d within in
     at ∙ go_apart r g (get_or os i d) (rw at at apart)
@@ -253,7 +253,7 @@ all_apart n g os i d within apart =
 -- ---- what each change leaves
 
 -- a file was told news
-pub told_marked : (b : Standing) (r : Request) (g : Stage → Stage) (m marks : Marks) → IsMarked b m → RemarksNumber (move_mark b.released b.still b.looked) (changed (rank r) g b.files) r.number m.moves marks.moves → RemarksNumber (other_mark false b.window b.still b.looked) (changed (rank r) g b.files) r.number m.others marks.others → RemarksNumber (other_mark true b.window b.still b.looked) (changed (rank r) g b.files) r.number m.sought marks.sought → RemarksNumber (ask_mark false b.released b.window b.still b.looked) (changed (rank r) g b.files) r.number m.entries marks.entries → RemarksNumber (ask_mark true b.released b.window b.still b.looked) (changed (rank r) g b.files) r.number m.searches marks.searches → IsMarked (record b { files = changed (rank r) g b.files }) marks
+pub told_marked : (b : Standing) (r : FileRequest) (g : Stage → Stage) (m marks : Marks) → IsMarked b m → RemarksNumber (move_mark b.released b.still b.looked) (changed (rank r) g b.files) r.number m.moves marks.moves → RemarksNumber (other_mark false b.window b.still b.looked) (changed (rank r) g b.files) r.number m.others marks.others → RemarksNumber (other_mark true b.window b.still b.looked) (changed (rank r) g b.files) r.number m.sought marks.sought → RemarksNumber (ask_mark false b.released b.window b.still b.looked) (changed (rank r) g b.files) r.number m.entries marks.entries → RemarksNumber (ask_mark true b.released b.window b.still b.looked) (changed (rank r) g b.files) r.number m.searches marks.searches → IsMarked (record b { files = changed (rank r) g b.files }) marks
 told_marked b r g m marks marked moves others sought entries searches =
     let apart : IsApart r.number b (record b { files = changed (rank r) g b.files }) = record {
       entries = λ x e. refl;
@@ -282,10 +282,10 @@ landed_marked b n g released m marks marked same moves others sought entries sea
     remarked n b (landed_files b n g released) m marks marked apart moves others sought entries searches
 
 -- a file is asked for, where there is room
-abbrev pub asked_files : Standing → Request → Bool → Standing
+abbrev pub asked_files : Standing → FileRequest → Bool → Standing
 asked_files b q found = record b { files = cond found (changed (rank q) (after news.Asked 0) b.files) b.files; window = with_one found q.number b.window }
 
-asked_apart : (b : Standing) (q : Request) (found : Bool) → IsApart q.number b (asked_files b q found)
+asked_apart : (b : Standing) (q : FileRequest) (found : Bool) → IsApart q.number b (asked_files b q found)
 asked_apart b q true = record {
   entries = λ x e. refl;
   numbers = λ x e. other_joins x q.number b.window e;
@@ -303,22 +303,22 @@ asked_apart b q false = record {
   still = refl;
 }
 
-pub many_asked : (q : Request) (found : Bool) (os : List Offer) → length (cond found (changed (rank q) (after news.Asked 0) os) os) ≡ length os
+pub many_asked : (q : FileRequest) (found : Bool) (os : List Offer) → length (cond found (changed (rank q) (after news.Asked 0) os) os) ≡ length os
 many_asked q true os = many_changed (rank q) (after news.Asked 0) os
 many_asked q false os = refl
 
-pub asked_marked : (b : Standing) (q : Request) (found : Bool) (m marks : Marks) → IsMarked b m → RemarksNumber (move_mark b.released b.still b.looked) (asked_files b q found).files q.number m.moves marks.moves → RemarksNumber (other_mark false (asked_files b q found).window b.still b.looked) (asked_files b q found).files q.number m.others marks.others → RemarksNumber (other_mark true (asked_files b q found).window b.still b.looked) (asked_files b q found).files q.number m.sought marks.sought → RemarksNumber (ask_mark false b.released (asked_files b q found).window b.still b.looked) (asked_files b q found).files q.number m.entries marks.entries → RemarksNumber (ask_mark true b.released (asked_files b q found).window b.still b.looked) (asked_files b q found).files q.number m.searches marks.searches → IsMarked (asked_files b q found) marks
+pub asked_marked : (b : Standing) (q : FileRequest) (found : Bool) (m marks : Marks) → IsMarked b m → RemarksNumber (move_mark b.released b.still b.looked) (asked_files b q found).files q.number m.moves marks.moves → RemarksNumber (other_mark false (asked_files b q found).window b.still b.looked) (asked_files b q found).files q.number m.others marks.others → RemarksNumber (other_mark true (asked_files b q found).window b.still b.looked) (asked_files b q found).files q.number m.sought marks.sought → RemarksNumber (ask_mark false b.released (asked_files b q found).window b.still b.looked) (asked_files b q found).files q.number m.entries marks.entries → RemarksNumber (ask_mark true b.released (asked_files b q found).window b.still b.looked) (asked_files b q found).files q.number m.searches marks.searches → IsMarked (asked_files b q found) marks
 asked_marked b q found m marks marked moves others sought entries searches = remarked q.number b (asked_files b q found) m marks marked (asked_apart b q found) moves others sought entries searches
 
 -- a look finds no more than was found
-few_rising : (low : ℕ) (found : List Found) → length (rising_from low found) ≤ length found
+few_rising : (low : ℕ) (found : List FoundOffer) → length (rising_from low found) ≤ length found
 few_rising low [] = omega arith
 few_rising low (f ∷ fs) = elim (two_ways (nat_lt (rank f.request) low)) [
   | inl below ↦ rw below (let rest = few_rising low fs in omega arith)
   | inr from ↦ rw from (let rest = few_rising (suc (rank f.request)) fs in omega arith)
 ]
 
-pub few_looked : (old : List Offer) (now : ℕ) (found : List Found) → length (looked old now found) ≤ length found
+pub few_looked : (old : List Offer) (now : ℕ) (found : List FoundOffer) → length (looked old now found) ≤ length found
 few_looked old now found = rw (length-map (rising_from 0 found) (seen old now)) (few_rising 0 found)
 
 pub room_for : (files : List Offer) (m : Marks) (n : ℕ) → length files ≤ n → length m.moves ≡ n → length m.others ≡ n → length m.sought ≡ n → length m.entries ≡ n → length m.searches ≡ n → HasRoom files m

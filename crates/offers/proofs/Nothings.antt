@@ -5,9 +5,9 @@ use Rattle.folders.specs.declared.wishes.Wish.{Wish}
 use Rattle.folders.specs.declared.wishes.Wish.TheVariants.{Offered, Sought}
 use Rattle.tape_frames.specs.declared.entry.Entry.{Entry}
 use Rattle.offers.specs.declared.stage.Landing.TheVariants.{Ended, Nothing, Busy, Barred, Released}
-use Rattle.offers.specs.declared.stage.News.{News}
-use Rattle.offers.specs.declared.stage.News.TheVariants as news
-use Rattle.offers.specs.declared.stage.Reason.{Reason}
+use Rattle.offers.specs.declared.stage.FileNews.{FileNews}
+use Rattle.offers.specs.declared.stage.FileNews.TheVariants as news
+use Rattle.offers.specs.declared.stage.OfferFault.{OfferFault}
 use Rattle.offers.specs.declared.stage.Stage.{Stage}
 use Rattle.offers.specs.declared.stage.Stage.TheVariants.{Watched, Waiting, UnderWay, Refused, Answered, Gone}
 use Rattle.offers.specs.declared.stage.Tries.{Tries}
@@ -54,7 +54,7 @@ asked_counts n W now (Refused reason at pause) h = tt
 asked_counts n W now (Answered at pause) h = h
 asked_counts n W now Gone h = tt
 
-none_counts : (n : ℕ) (W : Type 0) (why : Reason) (now : ℕ) (s : Stage) → Counts n W s → Counts n W (after (news.NoOffer why) now s)
+none_counts : (n : ℕ) (W : Type 0) (why : OfferFault) (now : ℕ) (s : Stage) → Counts n W s → Counts n W (after (news.NoOffer why) now s)
 none_counts n W why now (Watched at replaced) h = tt
 none_counts n W why now (Waiting wish at tries) h = h
 none_counts n W why now (UnderWay wish tries) h = h
@@ -78,7 +78,7 @@ busy_counts n W now (Refused reason at pause) h = tt
 busy_counts n W now (Answered at pause) h = h
 busy_counts n W now Gone h = tt
 
-barred_counts : (n : ℕ) (W : Type 0) (why : Reason) (now : ℕ) (s : Stage) → Counts n W s → Counts n W (landed (Barred why) now s)
+barred_counts : (n : ℕ) (W : Type 0) (why : OfferFault) (now : ℕ) (s : Stage) → Counts n W s → Counts n W (landed (Barred why) now s)
 barred_counts n W why now (Watched at replaced) h = tt
 barred_counts n W why now (Waiting wish at tries) h = h
 barred_counts n W why now (UnderWay wish tries) h = tt
@@ -148,7 +148,7 @@ anew_counts now Gone = tt
 abbrev Counted : List Befell → Stage → Type 0
 Counted befell s = Counts (nothings_since befell) (WasSought befell) s
 
-after_news : (some : News) (now : ℕ) (before : List Befell) (s : Stage) → Counted before s → Counted (told some now ∷ before) (after some now s)
+after_news : (some : FileNews) (now : ℕ) (before : List Befell) (s : Stage) → Counted before s → Counted (told some now ∷ before) (after some now s)
 after_news (news.Read (Offered entry)) now before s h = offered_counts _ _ entry now s h
 after_news (news.Read Sought) now before s h = sought_counts _ _ now s h
 after_news (news.NoOffer why) now before s h = none_counts _ _ why now s h

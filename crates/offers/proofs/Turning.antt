@@ -1,6 +1,6 @@
 -- The order of deeds, from what each part of the choice says.
 use Rattle.std.proofs.Common.{◌≡◌, inl, inr, ℕ, ◌<◌, ◌*◌, Option, Some, None, IfSome, Bool, true, false, length, arith}
-use Rattle.folders.specs.declared.names.Request.{Request}
+use Rattle.folders.specs.declared.names.FileRequest.{FileRequest}
 use Rattle.offers.specs.declared.deed.Allowed.{Allowed}
 use Rattle.offers.specs.declared.deed.Deed.{Deed}
 use Rattle.offers.specs.declared.deed.Deed.TheVariants.{Move, Ask, Read, Refuse}
@@ -31,10 +31,10 @@ held_of_others b k asks h = ((h.0.0, (h.0.1.0, first_of_others b k _ _ h.0.1.1))
 held_of_moves : (b : Standing) (k : ℕ) (asks : Bool) → IsHeld (record b { moves = k }) asks → IsHeld b asks
 held_of_moves b k asks h = ((h.0.0, (h.0.1.0, first_of_moves b k _ _ h.0.1.1)), h.1)
 
-asks_of_others : (b : Standing) (k : ℕ) (asks : Bool) (r : Request) → IsAskOrOther (record b { others = k }) asks (Some (Ask r)) → IsAskOrOther b asks (Some (Ask r))
+asks_of_others : (b : Standing) (k : ℕ) (asks : Bool) (r : FileRequest) → IsAskOrOther (record b { others = k }) asks (Some (Ask r)) → IsAskOrOther b asks (Some (Ask r))
 asks_of_others b k asks r h = (h.0, (h.1.0, (h.1.1.0, first_of_others b k _ _ h.1.1.1), h.1.2))
 
-asks_of_moves : (b : Standing) (k : ℕ) (asks : Bool) (r : Request) → IsAskOrOther (record b { moves = k }) asks (Some (Ask r)) → IsAskOrOther b asks (Some (Ask r))
+asks_of_moves : (b : Standing) (k : ℕ) (asks : Bool) (r : FileRequest) → IsAskOrOther (record b { moves = k }) asks (Some (Ask r)) → IsAskOrOther b asks (Some (Ask r))
 asks_of_moves b k asks r h = (h.0, (h.1.0, (h.1.1.0, first_of_moves b k _ _ h.1.1.1), h.1.2))
 
 none_of_moves : (b : Standing) (k : ℕ) (asks : Bool) → IsAskOrOther (record b { moves = k }) asks None → IsAskOrOther b asks None

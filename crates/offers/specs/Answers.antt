@@ -4,7 +4,7 @@ use Rattle.tape_frames.specs.declared.entry.Entry.{Entry}
 use Rattle.pace.specs.UnderWay.{without}
 use Rattle.offers.specs.declared.stage.Landing.{Landing}
 use Rattle.offers.specs.declared.stage.Landing.TheVariants as landings
-use Rattle.offers.specs.declared.stage.News.TheVariants as news
+use Rattle.offers.specs.declared.stage.FileNews.TheVariants as news
 use Rattle.offers.specs.Rules.{Standing, entry_in, entry_of}
 use Rattle.offers.specs.Stages.{after, all_changed}
 

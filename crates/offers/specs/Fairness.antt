@@ -1,7 +1,7 @@
 -- No search starves, over any number of asks.
 use Rattle.std.specs.Prelude.{◌≡◌, ◌≤◌, ℕ, List, [], ◌∷◌, true, Some, length}
 use Rattle.std.specs.List.{list_any}
-use Rattle.folders.specs.declared.names.Request.{Request}
+use Rattle.folders.specs.declared.names.FileRequest.{FileRequest}
 use Rattle.offers.specs.declared.deed.Deed.TheVariants.{Ask}
 use Rattle.offers.specs.Left.{NoSearches}
 use Rattle.offers.specs.Order.{is_search}
@@ -11,7 +11,7 @@ use Rattle.offers.specs.Turns.{AsksFirst, since_after}
 -- the station was asked for this, by a book as it stood
 pub record Asked : Type 0 where
   pub book : Standing
-  pub request : Request
+  pub request : FileRequest
 
 -- asks one after the other, each in its turn, while the station may be asked for a search; between them anything may happen but an ask
 abbrev pub AreAsks : ℕ → List Asked → Type 0

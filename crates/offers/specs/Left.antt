@@ -1,6 +1,6 @@
 -- What is left to be done with the files of the book.
 use Rattle.std.specs.Prelude.{◌≡◌, ◌<◌, ◌≤◌, ◌+◌, ℕ, Bool, false, if◌then◌else◌, List, Option, None, length, slice_index_or, IfSome, true}
-use Rattle.folders.specs.declared.names.Request.{Request}
+use Rattle.folders.specs.declared.names.FileRequest.{FileRequest}
 use Rattle.offers.specs.declared.offer.Offer.{Offer}
 use Rattle.offers.specs.Order.{rank, file_at, is_search}
 use Rattle.offers.specs.Rules.{Standing, is_leaving_of, ask_moment_of, ask_moment_among, has_other_of}
@@ -41,5 +41,5 @@ abbrev pub NoSearches : Standing → Type 0
 NoSearches b = NoneAmong (ask_moment_among true b) b.files
 
 -- the file that asks for this does not leave the offers now; or there is no such file
-abbrev pub HasLeft : Standing → Request → Type 0
+abbrev pub HasLeft : Standing → FileRequest → Type 0
 HasLeft b r = IfSome (file_at b.files (rank r)) (λ o. is_leaving_of b o ≡ false)

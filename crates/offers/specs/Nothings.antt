@@ -2,15 +2,15 @@
 use Rattle.std.specs.Prelude.{◌≡◌, ◌≤◌, ◌+◌, ℕ, List, [], ◌∷◌, Bool, true, false}
 use Rattle.folders.specs.declared.wishes.Wish.TheVariants.{Sought}
 use Rattle.offers.specs.declared.stage.Landing.TheVariants as landings
-use Rattle.offers.specs.declared.stage.News.{News}
-use Rattle.offers.specs.declared.stage.News.TheVariants as news
+use Rattle.offers.specs.declared.stage.FileNews.{FileNews}
+use Rattle.offers.specs.declared.stage.FileNews.TheVariants as news
 use Rattle.offers.specs.declared.stage.Stage.{Stage}
 use Rattle.offers.specs.declared.stage.Stage.TheVariants.{Watched, Waiting, UnderWay, Refused, Answered, Gone}
 use Rattle.offers.specs.Stages.{after, anew}
 
 -- what befalls a file of the book: some news of it at a moment, or a look found it changed
 pub data Befell : Type 0 where
-  told : (news : News) (now : ℕ) → Befell
+  told : (news : FileNews) (now : ℕ) → Befell
   changed : (now : ℕ) → Befell
 
 -- what is known of a file that was found first at a moment, after all this, of which the latest is told first

@@ -7,7 +7,7 @@ use Rattle.std.specs.Map.{lookup}
 use Rattle.folders.specs.declared.leaving.Place.{Place}
 use Rattle.folders.specs.declared.leaving.Place.TheVariants as places
 use Rattle.folders.specs.declared.stamp.Stamp.{Stamp}
-use Rattle.folders.specs.declared.names.Request.{Request}
+use Rattle.folders.specs.declared.names.FileRequest.{FileRequest}
 use Rattle.folders.specs.declared.wishes.Wish.{Wish}
 use Rattle.folders.specs.Offers.{IsPlaceOf}
 use Rattle.tape_frames.specs.declared.entry.Entry.{Entry}
@@ -16,7 +16,7 @@ use Rattle.offers.specs.declared.deed.Deed.{Deed}
 use Rattle.offers.specs.declared.deed.Deed.TheVariants.{Move, Ask, Read, Refuse}
 use Rattle.offers.specs.declared.offer.Offer.{Offer}
 use Rattle.offers.specs.Order.{is_search}
-use Rattle.offers.specs.declared.stage.Reason.{Reason}
+use Rattle.offers.specs.declared.stage.OfferFault.{OfferFault}
 use Rattle.offers.specs.declared.stage.Stage.{Stage}
 use Rattle.offers.specs.declared.stage.Stage.TheVariants.{Watched, Waiting, UnderWay, Refused, Answered, Gone}
 
@@ -74,7 +74,7 @@ IsReady looked (Answered at pause) = ⊥
 IsReady looked Gone = ⊥
 
 -- it is no offer for this reason, and its moment has come
-abbrev pub IsRefused : ℕ → Reason → Stage → Type 0
+abbrev pub IsRefused : ℕ → OfferFault → Stage → Type 0
 IsRefused looked why (Watched at replaced) = ⊥
 IsRefused looked why (Waiting wish at tries) = ⊥
 IsRefused looked why (UnderWay wish tries) = ⊥
@@ -98,14 +98,14 @@ Leaves entry looked (Answered at pause) to = (at ≤ looked) × (to ≡ places.D
 Leaves entry looked Gone to = ⊥
 
 -- a file leaves the offers, for what was released under its number, or as a search that was answered
-pub record MayMove (b : Standing) (o : Offer) (r : Request) (found : Stamp) (to : Place) : Type 0 where
+pub record MayMove (b : Standing) (o : Offer) (r : FileRequest) (found : Stamp) (to : Place) : Type 0 where
   pub file : o.request ≡ r
   pub as_found : o.stamp ≡ found
   pub whole : IsWhole b.still b.looked o
   pub leaves : Leaves (entry_of b r.number) b.looked o.stage to
 
 -- the station is asked for a file
-pub record MayAsk (b : Standing) (o : Offer) (r : Request) : Type 0 where
+pub record MayAsk (b : Standing) (o : Offer) (r : FileRequest) : Type 0 where
   pub file : o.request ≡ r
   pub whole : IsWhole b.still b.looked o
   pub ready : IsReady b.looked o.stage
@@ -114,7 +114,7 @@ pub record MayAsk (b : Standing) (o : Offer) (r : Request) : Type 0 where
   pub window : length b.window < 16
 
 -- a file is read; none is while its number is under way, so that one that was replaced waits for the ballots of the one before
-pub record MayRead (b : Standing) (o : Offer) (r : Request) (found : Stamp) (replaced : Bool) : Type 0 where
+pub record MayRead (b : Standing) (o : Offer) (r : FileRequest) (found : Stamp) (replaced : Bool) : Type 0 where
   pub file : o.request ≡ r
   pub as_found : o.stamp ≡ found
   pub whole : IsWhole b.still b.looked o
@@ -122,7 +122,7 @@ pub record MayRead (b : Standing) (o : Offer) (r : Request) (found : Stamp) (rep
   pub one : is_under_way r.number b.window ≡ false
 
 -- a file leaves the offers, since it is none
-pub record MayRefuse (b : Standing) (o : Offer) (r : Request) (found : Stamp) (why : Reason) : Type 0 where
+pub record MayRefuse (b : Standing) (o : Offer) (r : FileRequest) (found : Stamp) (why : OfferFault) : Type 0 where
   pub file : o.request ≡ r
   pub as_found : o.stamp ≡ found
   pub whole : IsWhole b.still b.looked o

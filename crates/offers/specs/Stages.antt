@@ -1,15 +1,15 @@
 -- What news of a file makes of what is known of it.
 use Rattle.std.specs.Prelude.{ℕ, ◌+◌, ◌-◌, ◌*◌, ◌^◌, ◌==◌, nat_le, min, true, false, List, map, Option, Some, None, Result, Ok, Err, if◌then◌else◌}
-use Rattle.folders.specs.declared.names.Kind.TheVariants.{Tape, Text, Withdraw, Seek}
-use Rattle.folders.specs.declared.names.Request.{Request}
+use Rattle.folders.specs.declared.names.OfferKind.TheVariants.{Tape, Text, Withdraw, Seek}
+use Rattle.folders.specs.declared.names.FileRequest.{FileRequest}
 use Rattle.folders.specs.declared.wishes.Wish.{Wish}
 use Rattle.folders.specs.declared.wishes.Wish.TheVariants.{Offered, Sought}
 use Rattle.offers.specs.declared.offer.Offer.{Offer}
 use Rattle.offers.specs.declared.stage.Landing.{Landing}
 use Rattle.offers.specs.declared.stage.Landing.TheVariants.{Ended, Nothing, Busy, Barred, Released}
-use Rattle.offers.specs.declared.stage.News.{News}
-use Rattle.offers.specs.declared.stage.News.TheVariants as news
-use Rattle.offers.specs.declared.stage.Reason.{Reason}
+use Rattle.offers.specs.declared.stage.FileNews.{FileNews}
+use Rattle.offers.specs.declared.stage.FileNews.TheVariants as news
+use Rattle.offers.specs.declared.stage.OfferFault.{OfferFault}
 use Rattle.offers.specs.declared.stage.Stage.{Stage}
 use Rattle.offers.specs.declared.stage.Stage.TheVariants.{Watched, Waiting, UnderWay, Refused, Answered, Gone}
 use Rattle.offers.specs.declared.stage.Tries.{Tries}
@@ -100,7 +100,7 @@ landed Released now Gone = Gone
 
 -- what is known of a file after some news: what was read of it counts only where it was watched, and the station is asked only where it
 -- waits
-abbrev pub after : News → ℕ → Stage → Stage
+abbrev pub after : FileNews → ℕ → Stage → Stage
 after (news.Read wish) now (Watched at replaced) = Waiting wish at first_tries
 after (news.Read wish) now (Waiting own at tries) = Waiting own at tries
 after (news.Read wish) now (UnderWay own tries) = UnderWay own tries
@@ -132,16 +132,16 @@ abbrev pub changed : ℕ → (Stage → Stage) → List Offer → List Offer
 changed k g offers = map (change_at k g) offers
 
 -- the files of a number
-abbrev pub tape_of : ℕ → Request
+abbrev pub tape_of : ℕ → FileRequest
 tape_of n = record { number = n; kind = Tape }
 
-abbrev pub text_of : ℕ → Request
+abbrev pub text_of : ℕ → FileRequest
 text_of n = record { number = n; kind = Text }
 
-abbrev pub withdrawal_of : ℕ → Request
+abbrev pub withdrawal_of : ℕ → FileRequest
 withdrawal_of n = record { number = n; kind = Withdraw }
 
-abbrev pub search_of : ℕ → Request
+abbrev pub search_of : ℕ → FileRequest
 search_of n = record { number = n; kind = Seek }
 
 -- the files of a number changed so and no others
@@ -164,6 +164,6 @@ wish_at None = None
 wish_at (Some o) = wish_of o.stage
 
 -- what there is to tell of a file that was read
-abbrev pub news_of : Result Wish Reason → News
+abbrev pub news_of : Result Wish OfferFault → FileNews
 news_of (Ok wish) = news.Read wish
 news_of (Err reason) = news.NoOffer reason

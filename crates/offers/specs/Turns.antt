@@ -7,8 +7,8 @@ use Rattle.offers.specs.declared.deed.Allowed.{Allowed}
 use Rattle.offers.specs.declared.deed.Deed.{Deed}
 use Rattle.offers.specs.declared.deed.Deed.TheVariants.{Move, Ask, Read, Refuse}
 use Rattle.offers.specs.declared.offer.Offer.{Offer}
-use Rattle.offers.specs.declared.stage.News.TheVariants as news
-use Rattle.folders.specs.declared.names.Kind.{Kind}
+use Rattle.offers.specs.declared.stage.FileNews.TheVariants as news
+use Rattle.folders.specs.declared.names.OfferKind.{OfferKind}
 use Rattle.offers.specs.Order.{rank, is_search}
 use Rattle.offers.specs.Rules.{Standing}
 use Rattle.offers.specs.Asks.{IsFirstAsk}
@@ -93,7 +93,7 @@ row_after (Some (Read r found replaced)) row = 0
 row_after (Some (Refuse r found why)) row = 0
 
 -- how many that are no searches were asked for since the last that is one, as far as that matters, once one of a kind is asked for
-abbrev pub since_ask : Kind → ℕ → ℕ
+abbrev pub since_ask : OfferKind → ℕ → ℕ
 since_ask kind since = if is_search kind then 0 else min (since + 1) 8
 
 -- the same once this is done

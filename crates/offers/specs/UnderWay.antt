@@ -1,10 +1,10 @@
 -- Which files are under way, and how they stand to the numbers that are.
 use Rattle.std.specs.Prelude.{◌≡◌, ℕ, List, Bool, true, false, Option, Some, None}
 use Rattle.std.specs.List.{count_by}
-use Rattle.folders.specs.declared.names.Request.{Request}
+use Rattle.folders.specs.declared.names.FileRequest.{FileRequest}
 use Rattle.offers.specs.declared.offer.Offer.{Offer}
-use Rattle.offers.specs.declared.stage.News.{News}
-use Rattle.offers.specs.declared.stage.News.TheVariants as news
+use Rattle.offers.specs.declared.stage.FileNews.{FileNews}
+use Rattle.offers.specs.declared.stage.FileNews.TheVariants as news
 use Rattle.offers.specs.declared.stage.Stage.{Stage}
 use Rattle.offers.specs.declared.stage.Stage.TheVariants.{Watched, Waiting, UnderWay, Refused, Answered, Gone}
 use Rattle.offers.specs.Order.{rank, file_at}
@@ -25,7 +25,7 @@ file_flies None = false
 file_flies (Some o) = flies o.stage
 
 -- the file that asks for this is under way
-abbrev pub is_asked : List Offer → Request → Bool
+abbrev pub is_asked : List Offer → FileRequest → Bool
 is_asked files r = file_flies (file_at files (rank r))
 
 -- how many files are under way
@@ -34,14 +34,14 @@ asked_count files = count_by (λ (o : Offer). flies o.stage) files
 
 -- the number of each file that is under way is under way
 abbrev pub AreHeld : List ℕ → List Offer → Type 0
-AreHeld window files = (r : Request) → is_asked files r ≡ true → is_under_way r.number window ≡ true
+AreHeld window files = (r : FileRequest) → is_asked files r ≡ true → is_under_way r.number window ≡ true
 
 -- of one number one file is under way
 abbrev pub AreAlone : List Offer → Type 0
-AreAlone files = (r s : Request) → is_asked files r ≡ true → is_asked files s ≡ true → r.number ≡ s.number → r ≡ s
+AreAlone files = (r s : FileRequest) → is_asked files r ≡ true → is_asked files s ≡ true → r.number ≡ s.number → r ≡ s
 
 -- such news puts a file under way
-abbrev pub begins : News → Bool
+abbrev pub begins : FileNews → Bool
 begins (news.Read wish) = false
 begins (news.NoOffer why) = false
 begins news.Asked = true

@@ -10,21 +10,21 @@ ghost use Rattle.offers.specs.UnderWay.{begins};
 use crate::book::Book;
 use crate::edits::{tell, tell_all};
 use crate::marks::remark;
-use crate::stage::{Landing, News, Reason};
+use crate::stage::{FileNews, Landing, OfferFault};
 use crate::under_way::is_under_way;
 use ballots::Number;
-use folders::{Request, Wish};
+use folders::{FileRequest, Wish};
 use std::alloc::AllocError;
 use std::collections::BTreeMap;
 use tape_frames::Entry;
 
 /// What there is to tell of a file that was read.
-fn news_of(wish: Result<Wish, Reason>) -> News
+fn news_of(wish: Result<Wish, OfferFault>) -> FileNews
     ensures { result ≡ news_of wish }
 {
     match wish {
-        Ok(wish) => News::Read(wish),
-        Err(reason) => News::NoOffer(reason),
+        Ok(wish) => FileNews::Read(wish),
+        Err(reason) => FileNews::NoOffer(reason),
     }
 }
 
@@ -41,7 +41,7 @@ fn keep(released: &mut BTreeMap<u32, Entry>, number: Number, entry: Entry) -> Re
 
 impl Book {
     /// Takes in some news of a file, which puts none under way.
-    fn note(&mut self, request: Request, news: News, now: u64)
+    fn note(&mut self, request: FileRequest, news: FileNews, now: u64)
         requires { begins news ≡ false }
         ensures { self.new ≡ record self.old { files = changed (rank request) (after news now) self.old.files; asks = true } }
     {
@@ -52,24 +52,24 @@ impl Book {
     }
 
     /// A file was read, and asks for this, or is no offer.
-    pub fn was_read(&mut self, request: Request, wish: Result<Wish, Reason>)
+    pub fn was_read(&mut self, request: FileRequest, wish: Result<Wish, OfferFault>)
         ensures { self.new ≡ record self.old { files = changed (rank request) (after (news_of wish) 0) self.old.files; asks = true } }
     {
         self.note(request, news_of(wish), 0);
     }
 
     /// A file could not be read, or moved, at a moment.
-    pub fn could_not(&mut self, request: Request, now: u64)
-        ensures { self.new ≡ record self.old { files = changed (rank request) (after News.PutOff now) self.old.files; asks = true } }
+    pub fn could_not(&mut self, request: FileRequest, now: u64)
+        ensures { self.new ≡ record self.old { files = changed (rank request) (after FileNews.PutOff now) self.old.files; asks = true } }
     {
-        self.note(request, News::PutOff, now);
+        self.note(request, FileNews::PutOff, now);
     }
 
     /// A file was moved: it is no longer among the offers.
-    pub fn moved(&mut self, request: Request)
-        ensures { self.new ≡ record self.old { files = changed (rank request) (after News.Moved 0) self.old.files; asks = true } }
+    pub fn moved(&mut self, request: FileRequest)
+        ensures { self.new ≡ record self.old { files = changed (rank request) (after FileNews.Moved 0) self.old.files; asks = true } }
     {
-        self.note(request, News::Moved, 0);
+        self.note(request, FileNews::Moved, 0);
     }
 
     /// This became of a number, at a moment: it is no longer under way. Whether it was.
@@ -115,7 +115,7 @@ impl Book {
     }
 
     /// The station does not take what it was asked for a number, and never will: its file is no offer. Whether the number was under way.
-    pub fn barred(&mut self, number: Number, reason: Reason) -> bool
+    pub fn barred(&mut self, number: Number, reason: OfferFault) -> bool
         ensures news { result ≡ is_under_way number self.old.window }
         ensures same { self.new ≡ landed_in number (Landing.Barred reason) 0 self.old }
     {

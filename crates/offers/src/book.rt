@@ -10,14 +10,14 @@ ghost use Rattle.offers.specs.Turns.{deeds_left};
 ghost use Rattle.offers.specs.UnderWay.{AreHeld, AreAlone, asked_count};
 
 use crate::edits::index_of;
-use crate::known::Known;
+use crate::known::FileFacts;
 use crate::look::merge;
 use crate::marks::{Marks, mark_all};
-use crate::offer::{Found, Offer};
+use crate::offer::{FoundOffer, Offer};
 use crate::order::rank;
 use crate::under_way::is_under_way;
 use ballots::Number;
-use folders::{Request, Wish};
+use folders::{FileRequest, Wish};
 use pace::{Deeds, Window};
 use std::alloc::{AllocError, Global};
 use std::collections::{BTreeMap, VecDeque};
@@ -43,7 +43,7 @@ pub struct Book {
     pub(crate) alloc: Global,
     pub(crate) offers: Vec<Offer>,
     /// The numbers that are under way, what was released, and the last look.
-    pub(crate) known: Known,
+    pub(crate) known: FileFacts,
     /// From which file on it is left to see whether it leaves the offers.
     pub(crate) moves: usize,
     /// From which place on it is left to see whether its file is read or refused: those that are no searches come first, then the searches.
@@ -100,7 +100,7 @@ impl Book {
         Book {
             alloc,
             offers: Vec::new(alloc),
-            known: Known {
+            known: FileFacts {
                 window: Window::new(),
                 released: BTreeMap::new(alloc),
                 looked: 0,
@@ -118,7 +118,7 @@ impl Book {
     /// Takes in what a look found among the offers, at a moment: in the order of [`rank`](crate::rank), each file once. What stands out of
     /// order is passed over. A file that is no longer found is forgotten, and one that was changed is watched anew. Where searches were
     /// being read, files that are no searches come first again. Where there is no memory, the book stays as it was.
-    pub fn see(&mut self, found: &[Found], now: u64) -> Result<(), AllocError>
+    pub fn see(&mut self, found: &[FoundOffer], now: u64) -> Result<(), AllocError>
         ensures ok { OnOk result (self.new ≡ record self.old { files = looked self.old.files now found.now; looked = now; moves = 0; others = begun_again self.old.others (length self.old.files); asks = true }) }
         ensures err { OnErr result (self.new ≡ self.old) }
     {
@@ -152,7 +152,7 @@ impl Book {
     }
 
     /// What the file that asks for this asks for, where it was read.
-    pub fn wish(&self, request: Request) -> Option<&Wish>
+    pub fn wish(&self, request: FileRequest) -> Option<&Wish>
         ensures { option_copied result ≡ wish_at (file_at self.now.files (rank request)) }
     {
         match index_of(self.offers.as_slice(), rank(request)) {

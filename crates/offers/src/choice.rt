@@ -17,9 +17,9 @@ use crate::marks::remark;
 use crate::offer::Offer;
 use crate::order::{is_search, rank};
 use crate::rules::{leaving, other};
-use crate::stage::News;
+use crate::stage::FileNews;
 use ballots::Number;
-use folders::{Kind, Request};
+use folders::{FileRequest, OfferKind};
 use pace::Window;
 
 /// Where a file is asked for, counts one more that was in a row, as far as that matters.
@@ -32,7 +32,7 @@ fn count_if(row: &mut usize, is_asked: bool)
 }
 
 /// How many that are no searches were asked for since the last that is one, as far as that matters, once one of a kind is asked for.
-fn since_ask(since: usize, kind: Kind) -> usize
+fn since_ask(since: usize, kind: OfferKind) -> usize
     ensures { result ≡ since_ask kind since }
 {
     if is_search(kind) {
@@ -43,7 +43,7 @@ fn since_ask(since: usize, kind: Kind) -> usize
 }
 
 /// Where a file of a kind is asked for, counts how many that are no searches were since the last that is one.
-fn count_kind(since: &mut usize, is_asked: bool, kind: Kind)
+fn count_kind(since: &mut usize, is_asked: bool, kind: OfferKind)
     ensures { since.new ≡ (if is_asked then since_ask kind since.old else since.old) }
 {
     if is_asked {
@@ -52,7 +52,7 @@ fn count_kind(since: &mut usize, is_asked: bool, kind: Kind)
 }
 
 /// Asks for a file, or does nothing.
-fn ask_if(is_asked: bool, request: &Request) -> Option<Deed>
+fn ask_if(is_asked: bool, request: &FileRequest) -> Option<Deed>
     ensures { result ≡ (if is_asked then Some (Deed.Ask request.now) else None) }
 {
     if is_asked {
@@ -64,16 +64,16 @@ fn ask_if(is_asked: bool, request: &Request) -> Option<Deed>
 }
 
 /// What a file asks for is under way from now on, where there is room for its number; whether there is.
-fn take_off(window: &mut Window, offers: &mut Vec<Offer>, request: &Request) -> bool
+fn take_off(window: &mut Window, offers: &mut Vec<Offer>, request: &FileRequest) -> bool
     requires { Rises offers.old.items }
     ensures room { IsTrue result ↔ (length window.old < 16) }
     ensures window { window.new ≡ with_one result request.now.number window.old }
-    ensures files { offers.new.items ≡ (if result then changed (rank request.now) (after News.Asked 0) offers.old.items else offers.old.items) }
+    ensures files { offers.new.items ≡ (if result then changed (rank request.now) (after FileNews.Asked 0) offers.old.items else offers.old.items) }
     ensures rises { Rises offers.new.items }
 {
     let found = window.add(request.number);
     if found {
-        tell(offers, *request, News::Asked, 0);
+        tell(offers, *request, FileNews::Asked, 0);
     }
     found
 }
@@ -270,7 +270,7 @@ impl Book {
     }
 
     /// What the file at an index asks for.
-    fn request_at(&self, index: usize) -> Request
+    fn request_at(&self, index: usize) -> FileRequest
         requires { index < length self.now.files }
         ensures { (d : Offer) → (slice_index_or self.now.files index d).request ≡ result }
     {
@@ -279,7 +279,7 @@ impl Book {
 
     /// Asks for the file at an index, which asks for this, where there is room in the window: it is under way from now on. It is left to see for which others
     /// the station may be asked.
-    fn ask_at(&mut self, index: usize, request: Request) -> Option<Deed>
+    fn ask_at(&mut self, index: usize, request: FileRequest) -> Option<Deed>
         requires within { index < length self.old.files }
         requires request { (d : Offer) → (slice_index_or self.old.files index d).request ≡ request }
         requires first { IsFirstAsk self.old index }
@@ -381,7 +381,7 @@ impl Book {
     }
 
     /// How the file that asks for this leaves the offers that was released under its number, if its moment has come.
-    fn leaving_of(&self, request: Request) -> Option<Deed>
+    fn leaving_of(&self, request: FileRequest) -> Option<Deed>
         ensures rules { IfSome result (MayDo self.now) }
         ensures none { result ≡ None → HasLeft self.now request }
     {
@@ -397,18 +397,18 @@ impl Book {
         ensures rules { IfSome result (MayDo self.now) }
         ensures none { result ≡ None → HasLeft self.now (tape_of number) × HasLeft self.now (text_of number) × HasLeft self.now (withdrawal_of number) × HasLeft self.now (search_of number) }
     {
-        let tape = self.leaving_of(request_of(number, Kind::Tape));
+        let tape = self.leaving_of(request_of(number, OfferKind::Tape));
         if tape.is_some() {
             return tape;
         }
-        let text = self.leaving_of(request_of(number, Kind::Text));
+        let text = self.leaving_of(request_of(number, OfferKind::Text));
         if text.is_some() {
             return text;
         }
-        let withdrawal = self.leaving_of(request_of(number, Kind::Withdraw));
+        let withdrawal = self.leaving_of(request_of(number, OfferKind::Withdraw));
         if withdrawal.is_some() {
             return withdrawal;
         }
-        self.leaving_of(request_of(number, Kind::Seek))
+        self.leaving_of(request_of(number, OfferKind::Seek))
     }
 }

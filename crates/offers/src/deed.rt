@@ -1,32 +1,32 @@
 //! What is done with a file among the offers.
 
-use crate::stage::Reason;
-use folders::{Place, Request, Stamp};
+use crate::stage::OfferFault;
+use folders::{FileRequest, Place, Stamp};
 
 /// What is to be done with a file. What is read or moved has to have the stamp: one with another was changed since, and is left alone.
 #[derive(Clone, Copy)]
 pub enum Deed {
     /// To move it: its number was released, or it is a search that was answered, and goes to those that are done.
     Move {
-        request: Request,
+        request: FileRequest,
         stamp: Stamp,
         to: Place,
     },
     /// To ask the station what it asks for.
     Ask {
-        request: Request,
+        request: FileRequest,
     },
     /// To read it; whether it was replaced while it was under way.
     Read {
-        request: Request,
+        request: FileRequest,
         stamp: Stamp,
         replaced: bool,
     },
     /// To move it to those that are no offers.
     Refuse {
-        request: Request,
+        request: FileRequest,
         stamp: Stamp,
-        reason: Reason,
+        reason: OfferFault,
     },
 }
 

@@ -7,9 +7,9 @@ ghost use Rattle.offers.specs.Stages.{after, changed, all_changed};
 
 use crate::offer::Offer;
 use crate::order::rank;
-use crate::stage::{Landing, News, Stage};
+use crate::stage::{FileNews, Landing, Stage};
 use ballots::Number;
-use folders::{Kind, Request};
+use folders::{FileRequest, OfferKind};
 use std::cmp::Ordering;
 use std::mem;
 
@@ -32,7 +32,7 @@ pub(crate) fn index_of(offers: &[Offer], place: u32) -> Option<usize>
 }
 
 /// Takes in some news of the file at an index.
-fn tell_at(offers: &mut Vec<Offer>, index: usize, news: News, now: u64)
+fn tell_at(offers: &mut Vec<Offer>, index: usize, news: FileNews, now: u64)
     requires rises { Rises offers.old.items }
     requires within { index < length offers.old.items }
     ensures { (place : ℕ) → IsPlaceOf offers.old.items place index → offers.new.items ≡ changed place (after news now) offers.old.items }
@@ -43,7 +43,7 @@ fn tell_at(offers: &mut Vec<Offer>, index: usize, news: News, now: u64)
 }
 
 /// Takes in some news of a file, if it is there.
-pub(crate) fn tell(offers: &mut Vec<Offer>, request: Request, news: News, now: u64)
+pub(crate) fn tell(offers: &mut Vec<Offer>, request: FileRequest, news: FileNews, now: u64)
     requires { Rises offers.old.items }
     ensures news { offers.new.items ≡ changed (rank request) (after news now) offers.old.items }
     ensures rises { Rises offers.new.items }
@@ -56,38 +56,38 @@ pub(crate) fn tell(offers: &mut Vec<Offer>, request: Request, news: News, now: u
 /// Takes in what became of a number, of each file of it that is there.
 pub(crate) fn tell_all(offers: &mut Vec<Offer>, number: Number, landing: Landing, now: u64)
     requires { Rises offers.old.items }
-    ensures news { offers.new.items ≡ all_changed number (after (News.Landed landing) now) offers.old.items }
+    ensures news { offers.new.items ≡ all_changed number (after (FileNews.Landed landing) now) offers.old.items }
     ensures rises { Rises offers.new.items }
 {
     tell(
         offers,
-        request_of(number, Kind::Tape),
-        News::Landed(landing),
+        request_of(number, OfferKind::Tape),
+        FileNews::Landed(landing),
         now,
     );
     tell(
         offers,
-        request_of(number, Kind::Text),
-        News::Landed(landing),
+        request_of(number, OfferKind::Text),
+        FileNews::Landed(landing),
         now,
     );
     tell(
         offers,
-        request_of(number, Kind::Withdraw),
-        News::Landed(landing),
+        request_of(number, OfferKind::Withdraw),
+        FileNews::Landed(landing),
         now,
     );
     tell(
         offers,
-        request_of(number, Kind::Seek),
-        News::Landed(landing),
+        request_of(number, OfferKind::Seek),
+        FileNews::Landed(landing),
         now,
     );
 }
 
 /// What a file of a number and a kind asks for.
-pub(crate) fn request_of(number: Number, kind: Kind) -> Request
+pub(crate) fn request_of(number: Number, kind: OfferKind) -> FileRequest
     ensures { result ≡ record { number = number; kind = kind } }
 {
-    Request { number, kind }
+    FileRequest { number, kind }
 }

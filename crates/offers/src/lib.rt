@@ -20,6 +20,6 @@ mod under_way;
 
 pub use book::Book;
 pub use deed::{Allowed, Deed};
-pub use offer::{Found, Offer};
+pub use offer::{FoundOffer, Offer};
 pub use order::rank;
-pub use stage::{Landing, News, Reason, Stage, Tries};
+pub use stage::{FileNews, Landing, OfferFault, Stage, Tries};

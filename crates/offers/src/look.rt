@@ -4,7 +4,7 @@ ghost use Rattle.std.specs.Prelude.{◌≡◌, ◌≤◌, [], suc, length, vec_c
 ghost use Rattle.offers.specs.Order.{rank, file_at, from, starts_before, Rises, RisesFrom};
 ghost use Rattle.offers.specs.Looks.{seen, seen_as, looked};
 
-use crate::offer::{Found, Offer, is_same_stamp};
+use crate::offer::{FoundOffer, Offer, is_same_stamp};
 use crate::order::rank;
 use crate::stage::Stage;
 use std::collections::VecDeque;
@@ -29,7 +29,7 @@ fn skip_to(rest: &mut VecDeque<Offer>, low: u32)
 }
 
 /// A file as it stands in the book from now on.
-fn offer_of(found: Found, since: u64, stage: Stage) -> Offer
+fn offer_of(found: FoundOffer, since: u64, stage: Stage) -> Offer
     ensures { result ≡ record { request = found.request; stamp = found.stamp; since = since; stage = stage } }
 {
     Offer {
@@ -41,7 +41,7 @@ fn offer_of(found: Found, since: u64, stage: Stage) -> Offer
 }
 
 /// A file that is found now, of which this was known, if anything was.
-fn seen_as(known: Option<Offer>, found: Found, now: u64) -> Offer
+fn seen_as(known: Option<Offer>, found: FoundOffer, now: u64) -> Offer
     ensures { result ≡ seen_as known now found }
 {
     match known {
@@ -71,7 +71,7 @@ fn take_at(rest: &mut VecDeque<Offer>, place: u32) -> Option<Offer>
 }
 
 /// A file that is found now, beside those that were known.
-fn meet(rest: &mut VecDeque<Offer>, found: Found, now: u64) -> Offer
+fn meet(rest: &mut VecDeque<Offer>, found: FoundOffer, now: u64) -> Offer
     requires { Rises rest.old.items }
     ensures file { result ≡ seen rest.old.items now found }
     ensures rest { rest.new.items ≡ from (suc (rank found.request)) rest.old.items }
@@ -85,7 +85,7 @@ fn meet(rest: &mut VecDeque<Offer>, found: Found, now: u64) -> Offer
 /// All that is found now, beside what was known; for which there is room.
 pub(crate) fn merge(
     known: VecDeque<Offer>,
-    found: &[Found],
+    found: &[FoundOffer],
     now: u64,
     room: Vec<Offer>,
 ) -> Vec<Offer>

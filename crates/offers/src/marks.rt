@@ -7,18 +7,18 @@ ghost use Rattle.offers.specs.Order.{rank, Rises};
 ghost use Rattle.offers.specs.Rules.{only_of};
 
 use crate::edits::{index_of, request_of};
-use crate::known::Known;
+use crate::known::FileFacts;
 use crate::moments::Moments;
 use crate::offer::Offer;
 use crate::order::{is_search, rank};
 use crate::rules::{ask_moment, has_other, is_leaving};
 use ballots::Number;
-use folders::Kind;
+use folders::OfferKind;
 use std::alloc::{AllocError, Global};
 
 /// What may be done with a file now: each is a moment where it may, and none where it may not.
 #[derive(Clone, Copy)]
-pub(crate) struct Mark {
+pub(crate) struct FileMark {
     /// It leaves the offers.
     pub(crate) moves: Option<u64>,
     /// It is no search, and is read or refused.
@@ -56,7 +56,7 @@ fn only_of(searches: bool, is_search: bool, moment: Option<u64>) -> Option<u64>
 }
 
 /// What may be done with a file.
-fn mark_of(offer: &Offer, known: &Known) -> Mark
+fn mark_of(offer: &Offer, known: &FileFacts) -> FileMark
     ensures moves { result.moves ≡ move_mark known.now.released.entries known.now.still known.now.looked offer.now }
     ensures others { result.others ≡ other_mark false known.now.window known.now.still known.now.looked offer.now }
     ensures sought { result.sought ≡ other_mark true known.now.window known.now.still known.now.looked offer.now }
@@ -66,7 +66,7 @@ fn mark_of(offer: &Offer, known: &Known) -> Mark
     let other = has_other(offer, known);
     let asks = ask_moment(offer, known);
     let is_search = is_search(offer.request.kind);
-    Mark {
+    FileMark {
         moves: flag(is_leaving(offer, known)),
         others: flag(!is_search && other),
         sought: flag(is_search && other),
@@ -116,7 +116,7 @@ impl Marks {
     }
 
     /// Marks the file at an index so.
-    fn set(&mut self, index: usize, mark: Mark)
+    fn set(&mut self, index: usize, mark: FileMark)
         requires moves { index < length self.old.moves }
         requires others { index < length self.old.others }
         requires sought { index < length self.old.sought }
@@ -136,7 +136,7 @@ impl Marks {
     }
 
     /// The same where nothing is marked from there on.
-    fn put(&mut self, index: usize, mark: Mark)
+    fn put(&mut self, index: usize, mark: FileMark)
         requires moves { index < length self.old.moves }
         requires others { index < length self.old.others }
         requires sought { index < length self.old.sought }
@@ -162,7 +162,7 @@ impl Marks {
 }
 
 /// Marks all files, of which none is marked.
-pub(crate) fn mark_all(marks: &mut Marks, offers: &[Offer], known: &Known)
+pub(crate) fn mark_all(marks: &mut Marks, offers: &[Offer], known: &FileFacts)
     requires room { HasRoom offers.now marks.old }
     requires no_moves { AreNone marks.old.moves }
     requires no_others { AreNone marks.old.others }
@@ -182,7 +182,7 @@ pub(crate) fn mark_all(marks: &mut Marks, offers: &[Offer], known: &Known)
 }
 
 /// Marks the file of a place anew, if it is there.
-fn remark_at(marks: &mut Marks, offers: &[Offer], known: &Known, place: u32)
+fn remark_at(marks: &mut Marks, offers: &[Offer], known: &FileFacts, place: u32)
     requires rises { Rises offers.now }
     requires room { HasRoom offers.now marks.old }
     ensures moves { RemarksPlace (move_mark known.now.released.entries known.now.still known.now.looked) offers.now place marks.old.moves marks.new.moves }
@@ -198,7 +198,7 @@ fn remark_at(marks: &mut Marks, offers: &[Offer], known: &Known, place: u32)
 }
 
 /// Marks the files of a number anew.
-pub(crate) fn remark(marks: &mut Marks, offers: &[Offer], known: &Known, number: Number)
+pub(crate) fn remark(marks: &mut Marks, offers: &[Offer], known: &FileFacts, number: Number)
     requires rises { Rises offers.now }
     requires room { HasRoom offers.now marks.old }
     ensures moves { RemarksNumber (move_mark known.now.released.entries known.now.still known.now.looked) offers.now number marks.old.moves marks.new.moves }
@@ -207,13 +207,28 @@ pub(crate) fn remark(marks: &mut Marks, offers: &[Offer], known: &Known, number:
     ensures entries { RemarksNumber (ask_mark false known.now.released.entries known.now.window known.now.still known.now.looked) offers.now number marks.old.entries marks.new.entries }
     ensures searches { RemarksNumber (ask_mark true known.now.released.entries known.now.window known.now.still known.now.looked) offers.now number marks.old.searches marks.new.searches }
 {
-    remark_at(marks, offers, known, rank(request_of(number, Kind::Tape)));
-    remark_at(marks, offers, known, rank(request_of(number, Kind::Text)));
     remark_at(
         marks,
         offers,
         known,
-        rank(request_of(number, Kind::Withdraw)),
+        rank(request_of(number, OfferKind::Tape)),
     );
-    remark_at(marks, offers, known, rank(request_of(number, Kind::Seek)));
+    remark_at(
+        marks,
+        offers,
+        known,
+        rank(request_of(number, OfferKind::Text)),
+    );
+    remark_at(
+        marks,
+        offers,
+        known,
+        rank(request_of(number, OfferKind::Withdraw)),
+    );
+    remark_at(
+        marks,
+        offers,
+        known,
+        rank(request_of(number, OfferKind::Seek)),
+    );
 }

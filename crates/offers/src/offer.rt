@@ -4,13 +4,13 @@ ghost use Rattle.std.specs.Prelude.{◌≡◌};
 ghost use Rattle.offers.specs.Looks.{is_same_stamp};
 
 use crate::stage::Stage;
-use folders::{Request, Stamp};
+use folders::{FileRequest, Stamp};
 
 /// A file among the offers, as a look found it.
 #[derive(Clone, Copy)]
-pub struct Found {
+pub struct FoundOffer {
     /// What its name asks for.
-    pub request: Request,
+    pub request: FileRequest,
     /// What tells it from what it was and will be.
     pub stamp: Stamp,
 }
@@ -19,7 +19,7 @@ pub struct Found {
 #[derive(Drop)]
 pub struct Offer {
     /// What its name asks for.
-    pub request: Request,
+    pub request: FileRequest,
     /// As it was found last.
     pub stamp: Stamp,
     /// The first look of those that found it so, one after the other up to the last.

@@ -10,7 +10,7 @@ use text_tape::PunchError;
 
 /// Why a file is no offer, though its name asks for something.
 #[derive(Clone, Copy)]
-pub enum Reason {
+pub enum OfferFault {
     /// It holds no tape.
     Tape(TapeFault),
     /// It holds no text that becomes a tape.
@@ -36,15 +36,32 @@ pub struct Tries {
 #[derive(Drop)]
 pub enum Stage {
     /// It was not read yet, and is from this moment on, once it is whole. It may be in place of one that was under way as it was changed.
-    Watched { at: u64, replaced: bool },
+    Watched {
+        at: u64,
+        replaced: bool,
+    },
     /// It was read. From this moment on the station is asked for it, or it leaves the offers, where its number was released.
-    Waiting { wish: Wish, at: u64, tries: Tries },
+    Waiting {
+        wish: Wish,
+        at: u64,
+        tries: Tries,
+    },
     /// The station was asked for it, and it is not known yet what came of that.
-    UnderWay { wish: Wish, tries: Tries },
+    UnderWay {
+        wish: Wish,
+        tries: Tries,
+    },
     /// It is no offer, and leaves the offers from this moment on. Where it can't be moved, it waits this long.
-    Refused { reason: Reason, at: u64, pause: u64 },
+    Refused {
+        reason: OfferFault,
+        at: u64,
+        pause: u64,
+    },
     /// It is a search that found nothing ten times, and leaves the offers from this moment on. Where it can't be moved, it waits this long.
-    Answered { at: u64, pause: u64 },
+    Answered {
+        at: u64,
+        pause: u64,
+    },
     /// It has left the offers.
     Gone,
 }
@@ -59,18 +76,18 @@ pub enum Landing {
     /// The station has it open already, for a file that is not known of here.
     Busy,
     /// The station does not take it, and never will.
-    Barred { reason: Reason },
+    Barred { reason: OfferFault },
     /// It was released.
     Released,
 }
 
 /// What there is to tell of a file.
 #[derive(Drop)]
-pub enum News {
+pub enum FileNews {
     /// It was read, and asks for this.
     Read(Wish),
     /// It was read, and is no offer.
-    NoOffer(Reason),
+    NoOffer(OfferFault),
     /// The station is asked for it.
     Asked,
     /// It could not be read, or moved.
@@ -144,7 +161,7 @@ fn waiting(wish: Wish, from: u64) -> Stage
 }
 
 /// It is no offer, and leaves the offers at once.
-fn refused(reason: Reason) -> Stage
+fn refused(reason: OfferFault) -> Stage
     ensures { result ≡ Stage.Refused reason 0 1000 }
 {
     Stage::Refused {
@@ -245,7 +262,7 @@ impl Stage {
 
     /// The same, once it was read.
     fn read(self, wish: Wish) -> Stage
-        ensures { (now : ℕ) → result ≡ after (News.Read wish) now self }
+        ensures { (now : ℕ) → result ≡ after (FileNews.Read wish) now self }
     {
         match self {
             Stage::Watched { at, .. } => waiting(wish, at),
@@ -254,8 +271,8 @@ impl Stage {
     }
 
     /// The same, once it was read and is no offer.
-    fn no_offer(self, reason: Reason) -> Stage
-        ensures { (now : ℕ) → result ≡ after (News.NoOffer reason) now self }
+    fn no_offer(self, reason: OfferFault) -> Stage
+        ensures { (now : ℕ) → result ≡ after (FileNews.NoOffer reason) now self }
     {
         match self {
             Stage::Watched { .. } => refused(reason),
@@ -265,7 +282,7 @@ impl Stage {
 
     /// The same, once the station is asked for it.
     fn asked(self) -> Stage
-        ensures { (now : ℕ) → result ≡ after News.Asked now self }
+        ensures { (now : ℕ) → result ≡ after FileNews.Asked now self }
     {
         match self {
             Stage::Waiting { wish, tries, .. } => Stage::UnderWay { wish, tries },
@@ -309,7 +326,7 @@ impl Stage {
     }
 
     /// The same, once the station does not take what it asked for, and never will.
-    fn barred(self, reason: Reason) -> Stage
+    fn barred(self, reason: OfferFault) -> Stage
         ensures { (now : ℕ) → result ≡ landed (Landing.Barred reason) now self }
     {
         match self {
@@ -343,16 +360,16 @@ impl Stage {
     }
 
     /// What is known after some news.
-    pub(crate) fn after(self, news: News, now: u64) -> Stage
+    pub(crate) fn after(self, news: FileNews, now: u64) -> Stage
         ensures { result ≡ after news now self }
     {
         match news {
-            News::Read(wish) => self.read(wish),
-            News::NoOffer(reason) => self.no_offer(reason),
-            News::Asked => self.asked(),
-            News::PutOff => self.put_off(now),
-            News::Moved => Stage::Gone,
-            News::Landed(landing) => self.landed(landing, now),
+            FileNews::Read(wish) => self.read(wish),
+            FileNews::NoOffer(reason) => self.no_offer(reason),
+            FileNews::Asked => self.asked(),
+            FileNews::PutOff => self.put_off(now),
+            FileNews::Moved => Stage::Gone,
+            FileNews::Landed(landing) => self.landed(landing, now),
         }
     }
 }

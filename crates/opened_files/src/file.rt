@@ -6,26 +6,26 @@ use std::io::{ErrorKind, Read};
 
 /// A file, or a reader whose first read fails in place of one that can't be opened.
 #[derive(Drop)]
-pub enum Opened {
+pub enum InputFile {
     File(File),
     Failed,
 }
 
-impl Opened {
+impl InputFile {
     /// The file at the path.
-    pub fn at(rt: &HostRuntime, path: &str) -> Opened {
+    pub fn at(rt: &HostRuntime, path: &str) -> InputFile {
         match File::open(rt, path) {
-            Ok(file) => Opened::File(file),
-            Err(_) => Opened::Failed,
+            Ok(file) => InputFile::File(file),
+            Err(_) => InputFile::Failed,
         }
     }
 }
 
-impl Read for Opened {
+impl Read for InputFile {
     fn read(&mut self, buf: &mut [u8]) -> io::Result<usize> {
         match self {
-            Opened::File(file) => file.read(buf),
-            Opened::Failed => Err(io::Error::from(ErrorKind::NotFound)),
+            InputFile::File(file) => file.read(buf),
+            InputFile::Failed => Err(io::Error::from(ErrorKind::NotFound)),
         }
     }
 }

@@ -3,4 +3,4 @@
 
 mod file;
 
-pub use file::Opened;
+pub use file::InputFile;

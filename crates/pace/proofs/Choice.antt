@@ -2,8 +2,8 @@
 use Rattle.std.proofs.Common.{◌≡◌, ◌≤◌, ◌<◌, ◌⊎◌, inl, inr, ℕ, refl, Bool, true, false, not, ◌&&◌, nat_le, cond, arith}
 use Rattle.std.proofs.lemmas.Bool.Decides.{nat_tests}
 use Rattle.pace.specs.declared.turns.Done.TheVariants as dones
-use Rattle.pace.specs.declared.turns.Seen.{Seen}
-use Rattle.pace.specs.declared.turns.Seen.TheVariants as seens
+use Rattle.pace.specs.declared.turns.DueSight.{DueSight}
+use Rattle.pace.specs.declared.turns.DueSight.TheVariants as seens
 use Rattle.pace.specs.declared.turns.Work.{Work}
 use Rattle.pace.specs.declared.turns.Work.TheVariants as works
 use Rattle.pace.specs.Order.{first_of, quiet_work}
@@ -25,22 +25,22 @@ first_fails true b e f = absurd cc
 first_fails false b e f = refl
 
 -- whether what is due was seen last, and whether it was not, as numbers
-abbrev pub seen : Seen → ℕ
+abbrev pub seen : DueSight → ℕ
 seen seens.Unseen = 0
 seen seens.One = 1
 seen seens.Nothing = 1
 
-abbrev pub unseen : Seen → ℕ
+abbrev pub unseen : DueSight → ℕ
 unseen seens.Unseen = 1
 unseen seens.One = 0
 unseen seens.Nothing = 0
 
-pub seen_one : (s : Seen) → seen s ≤ 1
+pub seen_one : (s : DueSight) → seen s ≤ 1
 seen_one seens.Unseen = omega arith
 seen_one seens.One = omega arith
 seen_one seens.Nothing = omega arith
 
-pub unseen_one : (s : Seen) → unseen s ≤ 1
+pub unseen_one : (s : DueSight) → unseen s ≤ 1
 unseen_one seens.Unseen = omega arith
 unseen_one seens.One = omega arith
 unseen_one seens.Nothing = omega arith
@@ -65,10 +65,10 @@ look_left true e = absurd cc
 look_left false e = refl
 
 -- the work that is chosen by these tests
-abbrev pub choice : Bool → Bool → Bool → Bool → Bool → Seen → Bool → Work
+abbrev pub choice : Bool → Bool → Bool → Bool → Bool → DueSight → Bool → Work
 choice look due over waits asks s deed = first_of look due over waits asks (quiet_work s deed asks)
 
-pub for_look : (look due over waits asks : Bool) (s : Seen) (deed : Bool)
+pub for_look : (look due over waits asks : Bool) (s : DueSight) (deed : Bool)
     → carries_out (choice look due over waits asks s deed) dones.Looked ≡ true → look ≡ true
 for_look true due over waits asks s deed h = refl
 for_look false true over waits asks s deed h = absurd cc
@@ -80,7 +80,7 @@ for_look false false false false asks seens.One false h = absurd cc
 for_look false false false false asks seens.Nothing true h = absurd cc
 for_look false false false false asks seens.Nothing false h = absurd cc
 
-pub for_datagram : (look due over waits asks : Bool) (s : Seen) (deed : Bool)
+pub for_datagram : (look due over waits asks : Bool) (s : DueSight) (deed : Bool)
     → carries_out (choice look due over waits asks s deed) dones.TookIn ≡ true → (due ≡ false) × (over ≡ false)
 for_datagram true due over waits asks s deed h = absurd cc
 for_datagram false true over waits asks s deed h = absurd cc
@@ -88,7 +88,7 @@ for_datagram false false true waits asks s deed h = absurd cc
 for_datagram false false false true asks s deed h = (refl, refl)
 for_datagram false false false false asks s deed h = (refl, refl)
 
-pub for_deed : (look due over waits asks : Bool) (s : Seen) (deed : Bool)
+pub for_deed : (look due over waits asks : Bool) (s : DueSight) (deed : Bool)
     → carries_out (choice look due over waits asks s deed) dones.DidDeed ≡ true → (over ≡ true) ⊎ ((waits ≡ false) × (seen s ≡ 1))
 for_deed true due over waits asks s deed h = absurd cc
 for_deed false true over waits asks s deed h = absurd cc
@@ -98,7 +98,7 @@ for_deed false false false false asks seens.Unseen deed h = absurd cc
 for_deed false false false false asks seens.One deed h = inr (refl, refl)
 for_deed false false false false asks seens.Nothing deed h = inr (refl, refl)
 
-pub for_wait : (look due over waits asks : Bool) (s : Seen) (deed : Bool)
+pub for_wait : (look due over waits asks : Bool) (s : DueSight) (deed : Bool)
     → carries_out (choice look due over waits asks s deed) dones.Waited ≡ true → (waits ≡ false) × (seen s ≡ 1) × (deed ≡ false)
 for_wait true due over waits asks s deed h = absurd cc
 for_wait false true over waits asks s deed h = absurd cc
@@ -110,7 +110,7 @@ for_wait false false false false asks seens.One false h = absurd cc
 for_wait false false false false asks seens.Nothing true h = absurd cc
 for_wait false false false false asks seens.Nothing false h = (refl, refl, refl)
 
-pub for_due : (look due over waits asks : Bool) (s : Seen) (deed : Bool)
+pub for_due : (look due over waits asks : Bool) (s : DueSight) (deed : Bool)
     → carries_out (choice look due over waits asks s deed) dones.SawOne ≡ true
     → (due ≡ true) ⊎ ((waits ≡ false) × ((unseen s ≡ 1) ⊎ (deed ≡ false)))
 for_due true due over waits asks s deed h = absurd cc

@@ -1,8 +1,8 @@
 -- What the rule says of each kind of work.
 use Rattle.std.proofs.Common.{◌≡◌, ◌<◌, ◌⊎◌, inl, inr, ℕ, refl, sym, Bool, true, false, not, ◌&&◌, nat_le, nat_lt, arith}
 use Rattle.std.proofs.lemmas.Bool.Decides.{nat_tests}
-use Rattle.pace.specs.declared.turns.Seen.{Seen}
-use Rattle.pace.specs.declared.turns.Seen.TheVariants as seens
+use Rattle.pace.specs.declared.turns.DueSight.{DueSight}
+use Rattle.pace.specs.declared.turns.DueSight.TheVariants as seens
 use Rattle.pace.specs.declared.turns.Sight.{Sight}
 use Rattle.pace.specs.declared.turns.Work.TheVariants as works
 use Rattle.pace.specs.Order.{Counts, has_deed, may_ask, has_rested}
@@ -20,12 +20,12 @@ turned : (b : Bool) → not b ≡ true → b ≡ false
 turned true e = absurd cc
 turned false e = refl
 
-looks_first : (rested just due over waits asks : Bool) (s : Seen) (deed : Bool) → rested ≡ true → just ≡ false → choice (not just && rested) due over waits asks s deed ≡ works.Look
+looks_first : (rested just due over waits asks : Bool) (s : DueSight) (deed : Bool) → rested ≡ true → just ≡ false → choice (not just && rested) due over waits asks s deed ≡ works.Look
 looks_first true false due over waits asks s deed e f = refl
 looks_first true true due over waits asks s deed e f = absurd cc
 looks_first false just due over waits asks s deed e f = absurd cc
 
-takes : (look due over waits asks : Bool) (s : Seen) (deed : Bool) → choice look due over waits asks s deed ≡ works.TakeIn → waits ≡ true
+takes : (look due over waits asks : Bool) (s : DueSight) (deed : Bool) → choice look due over waits asks s deed ≡ works.TakeIn → waits ≡ true
 takes true due over waits asks s deed e = absurd cc
 takes false true over waits asks s deed e = absurd cc
 takes false false true waits asks s deed e = absurd cc
@@ -36,7 +36,7 @@ takes false false false false asks seens.One false e = absurd cc
 takes false false false false asks seens.Nothing true e = absurd cc
 takes false false false false asks seens.Nothing false e = absurd cc
 
-sees : (look due over waits asks : Bool) (s : Seen) (deed : Bool) → choice look due over waits asks s deed ≡ works.Due → (waits ≡ false) ⊎ (due ≡ true)
+sees : (look due over waits asks : Bool) (s : DueSight) (deed : Bool) → choice look due over waits asks s deed ≡ works.Due → (waits ≡ false) ⊎ (due ≡ true)
 sees true due over waits asks s deed e = absurd cc
 sees false true over waits asks s deed e = inr refl
 sees false false true waits asks s deed e = absurd cc
@@ -47,7 +47,7 @@ sees false false false false asks seens.One false e = inl refl
 sees false false false false asks seens.Nothing true e = absurd cc
 sees false false false false asks seens.Nothing false e = absurd cc
 
-waits_for : (look due over waits asks : Bool) (s : Seen) (deed : Bool) → choice look due over waits asks s deed ≡ works.Wait → (waits ≡ false) × (deed ≡ false) × (s ≡ seens.Nothing)
+waits_for : (look due over waits asks : Bool) (s : DueSight) (deed : Bool) → choice look due over waits asks s deed ≡ works.Wait → (waits ≡ false) × (deed ≡ false) × (s ≡ seens.Nothing)
 waits_for true due over waits asks s deed e = absurd cc
 waits_for false true over waits asks s deed e = absurd cc
 waits_for false false true waits asks s deed e = absurd cc
@@ -58,7 +58,7 @@ waits_for false false false false asks seens.One false e = absurd cc
 waits_for false false false false asks seens.Nothing true e = absurd cc
 waits_for false false false false asks seens.Nothing false e = (refl, refl, refl)
 
-does : (look due over waits asks : Bool) (s : Seen) (deed may : Bool) → choice look due over waits asks s deed ≡ works.Deed may
+does : (look due over waits asks : Bool) (s : DueSight) (deed may : Bool) → choice look due over waits asks s deed ≡ works.Deed may
     → (may ≡ asks) × ((over ≡ true) ⊎ ((waits ≡ false) × (deed ≡ true)))
 does true due over waits asks s deed may e = absurd cc
 does false true over waits asks s deed may e = absurd cc

@@ -3,7 +3,7 @@ use Rattle.std.specs.Prelude.{ℕ, ◌+◌, ◌-◌, ◌/◌, ◌^◌, Bool, fal
 use Rattle.std.specs.List.{list_any, fold}
 use Rattle.std.proofs.Common.{replicate}
 use Rattle.protocol.specs.Limits.{most_members}
-use Rattle.pace.specs.declared.members.Known.{Known}
+use Rattle.pace.specs.declared.members.SeenBallot.{SeenBallot}
 use Rattle.pace.specs.declared.members.Follower.{Follower}
 
 -- how many units were asked for, when the newest, and how many by when no datagram waited last; the ballots that came up last, each
@@ -12,7 +12,7 @@ pub record PaceValue : Type 0 where
   pub asked : ℕ
   pub asked_at : ℕ
   pub settled : ℕ
-  pub known : List Known
+  pub known : List SeenBallot
   pub followers : List Follower
 
 -- a member of whom nothing was heard
@@ -28,15 +28,15 @@ abbrev pub units_of : ℕ → ℕ
 units_of length = length / 2048 + 1
 
 -- the serial of a ballot of this number and owner
-abbrev pub serial_for : ℕ → ℕ → Known → ℕ
+abbrev pub serial_for : ℕ → ℕ → SeenBallot → ℕ
 serial_for number owner k = if (k.number == number) && (k.owner == owner) then k.serial else 0
 
 -- the greatest serial of the ballots of this number and owner
-abbrev pub newest_of : ℕ → ℕ → List Known → ℕ
+abbrev pub newest_of : ℕ → ℕ → List SeenBallot → ℕ
 newest_of number owner known = fold (λ newest k. max newest (serial_for number owner k)) 0 known
 
 -- the ballots that are kept in mind with one more: 128 at most, the newest
-abbrev pub with_newest : Known → List Known → List Known
+abbrev pub with_newest : SeenBallot → List SeenBallot → List SeenBallot
 with_newest k known = (if nat_lt (length known) 128 then known else drop 1 known) ++ k ∷ []
 
 -- an own ballot for an entry of so many bytes was begun

@@ -4,8 +4,8 @@ use Rattle.pace.specs.declared.turns.Deeds.{Deeds}
 use Rattle.pace.specs.declared.turns.Deeds.TheVariants as deeds
 use Rattle.pace.specs.declared.turns.Done.{Done}
 use Rattle.pace.specs.declared.turns.Done.TheVariants as dones
-use Rattle.pace.specs.declared.turns.Seen.{Seen}
-use Rattle.pace.specs.declared.turns.Seen.TheVariants as seens
+use Rattle.pace.specs.declared.turns.DueSight.{DueSight}
+use Rattle.pace.specs.declared.turns.DueSight.TheVariants as seens
 use Rattle.pace.specs.declared.turns.Sight.{Sight}
 use Rattle.pace.specs.declared.turns.Work.{Work}
 use Rattle.pace.specs.declared.turns.Work.TheVariants as works
@@ -17,7 +17,7 @@ pub record Counts : Type 0 where
   pub just_looked : Bool
   pub since_due : ℕ
   pub since_deed : ℕ
-  pub seen : Seen
+  pub seen : DueSight
 
 -- before the first work
 abbrev pub first_counts : Counts
@@ -44,7 +44,7 @@ has_deed s = is_allowed s.deeds (may_ask s)
 
 -- where no datagram waits: what is due, until a number was seen to or none was due; then a deed, if there is one; then what is due again,
 -- as long as numbers are
-abbrev pub quiet_work : Seen → Bool → Bool → Work
+abbrev pub quiet_work : DueSight → Bool → Bool → Work
 quiet_work seens.Unseen deed asks = works.Due
 quiet_work seens.One deed asks = if deed then works.Deed asks else works.Due
 quiet_work seens.Nothing deed asks = if deed then works.Deed asks else works.Wait

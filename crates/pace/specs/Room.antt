@@ -1,11 +1,11 @@
 -- The datagrams that wait, which of them find a place, and which is taken next.
 use Rattle.std.specs.Prelude.{◌≡◌, ◌≤◌, ◌<◌, ℕ, ◌+◌, ◌-◌, ◌^◌, ◌/◌, Bool, Option, Some, None, max, min, nat_lt, List, [], ◌∷◌, ◌++◌, length, drop, position, replicate, slice_index_or, slice_set, option_to_list, vec_len, if◌then◌else◌}
 use Rattle.std.specs.List.{sum_by}
-use Rattle.pace.specs.declared.share.Datagram.{Datagram}
+use Rattle.pace.specs.declared.share.Incoming.{Incoming}
 
 -- those of one member that wait, the first of them first, and how many and of how many bytes in all they are at most
 pub record ShareValue : Type 0 where
-  pub datagrams : List Datagram
+  pub datagrams : List Incoming
   pub most : ℕ
   pub most_bytes : ℕ
 
@@ -16,8 +16,8 @@ pub record WaitingValue : Type 0 where
   pub lost : ℕ
 
 -- how many bytes they have in all
-abbrev pub bytes_of : List Datagram → ℕ
-bytes_of datagrams = sum_by (λ (d : Datagram). vec_len d.bytes) datagrams
+abbrev pub bytes_of : List Incoming → ℕ
+bytes_of datagrams = sum_by (λ (d : Incoming). vec_len d.bytes) datagrams
 
 -- a share of so many datagrams, and so many bytes, of which none waits
 abbrev pub nothing_of : ℕ → ℕ → ShareValue
@@ -44,7 +44,7 @@ abbrev pub FitsShare : ℕ → ShareValue → Type 0
 FitsShare bytes s = (length s.datagrams < s.most) × (bytes_of s.datagrams + bytes ≤ s.most_bytes)
 
 -- it stands behind the others where it found a place
-abbrev pub puts_behind : Bool → Datagram → ShareValue → ShareValue
+abbrev pub puts_behind : Bool → Incoming → ShareValue → ShareValue
 puts_behind found d s = if found then record s { datagrams = s.datagrams ++ d ∷ [] } else s
 
 -- the share at a place; behind the last there is room for none
@@ -64,7 +64,7 @@ abbrev pub lost_one : WaitingValue → WaitingValue
 lost_one w = record w { lost = min (w.lost + 1) (2 ^ 64 - 1) }
 
 -- it stands behind the others of its sender where it found a place, and else is lost
-abbrev pub puts : Bool → Datagram → WaitingValue → WaitingValue
+abbrev pub puts : Bool → Incoming → WaitingValue → WaitingValue
 puts found d w =
     if found then with_share (d.sender - 1) (puts_behind found d (share_at (d.sender - 1) w)) w else lost_one w
 
@@ -78,7 +78,7 @@ abbrev pub turn_of : WaitingValue → Option ℕ
 turn_of w = turn_from (position has_one (drop w.next w.shares)) w.next (position has_one w.shares)
 
 -- of the member at a place the first was taken, and the next turn is that of the place behind it
-abbrev pub taken_at : ℕ → Option Datagram → WaitingValue → WaitingValue → Type 0
+abbrev pub taken_at : ℕ → Option Incoming → WaitingValue → WaitingValue → Type 0
 taken_at place taken old new =
     ((share_at place old).datagrams ≡ option_to_list taken ++ (share_at place new).datagrams)
     × (new ≡ with_share place (record (share_at place old) { datagrams = drop 1 (share_at place old).datagrams }) (record old { next = place + 1 }))

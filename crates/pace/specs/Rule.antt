@@ -1,6 +1,6 @@
 -- The rule of the work of a station that stays up, in plain words.
 use Rattle.std.specs.Prelude.{◌≡◌, ◌≤◌, ◌<◌, ◌⊎◌, Bool, true, false}
-use Rattle.pace.specs.declared.turns.Seen.TheVariants as seens
+use Rattle.pace.specs.declared.turns.DueSight.TheVariants as seens
 use Rattle.pace.specs.declared.turns.Sight.{Sight}
 use Rattle.pace.specs.declared.turns.Work.TheVariants as works
 use Rattle.pace.specs.Order.{Counts, has_rested, has_deed, next_work}

@@ -9,7 +9,7 @@ mod waiting;
 mod window;
 
 pub use members::Pace;
-pub use share::Datagram;
+pub use share::Incoming;
 pub use turns::{Deeds, Done, LOOK, Sight, Turns, WAIT, Work};
 pub use waiting::{MOST_AFTER_A_SEND, MOST_RECEIVES, Waiting};
 pub use window::Window;

@@ -26,7 +26,7 @@ const SILENCE: u64 = 500;
 
 /// A ballot, own or of another member, that came up here.
 #[derive(Clone, Copy, PartialEq, Eq, Default)]
-struct Known {
+struct SeenBallot {
     /// Its number.
     number: u32,
     /// The member whose ballot it is.
@@ -53,7 +53,7 @@ pub struct Pace {
     asked_at: u64,
     /// How many units were asked for when no datagram waited last: one that is taken in now came later.
     settled: u64,
-    known: ArrayVec<Known, MOST_KNOWN>,
+    known: ArrayVec<SeenBallot, MOST_KNOWN>,
     followers: [Follower; MOST_MEMBERS],
 }
 
@@ -83,7 +83,7 @@ fn is_within(since: u64, span: u64, now: u64) -> bool
 }
 
 /// The serial of a ballot, if it is that of this number and owner; else 0.
-fn serial_for(known: Known, number: Number, owner: Member) -> u64
+fn serial_for(known: SeenBallot, number: Number, owner: Member) -> u64
     ensures { result ≡ serial_for number owner known }
 {
     if known.number == number.get() && known.owner == owner.get() {
@@ -94,7 +94,7 @@ fn serial_for(known: Known, number: Number, owner: Member) -> u64
 }
 
 /// The greatest serial of the ballots of this number and owner; 0 where none is kept in mind.
-fn newest_of(known: &[Known], number: Number, owner: Member) -> u64
+fn newest_of(known: &[SeenBallot], number: Number, owner: Member) -> u64
     ensures { result ≡ newest_of number owner known.now }
 {
     let mut newest = 0;
@@ -105,7 +105,7 @@ fn newest_of(known: &[Known], number: Number, owner: Member) -> u64
 }
 
 /// Keeps a ballot in mind, and forgets the oldest where there are many.
-fn remember(known: &mut ArrayVec<Known, MOST_KNOWN>, ballot: Known)
+fn remember(known: &mut ArrayVec<SeenBallot, MOST_KNOWN>, ballot: SeenBallot)
     ensures { known.new.items ≡ with_newest ballot known.old.items }
 {
     if known.is_full() {
@@ -150,7 +150,7 @@ impl Pace {
     {
         self.asked = self.asked.saturating_add(units_of(length));
         self.asked_at = now;
-        let ballot = Known {
+        let ballot = SeenBallot {
             number: number.get(),
             owner: own.get(),
             serial: self.asked,
@@ -170,7 +170,7 @@ impl Pace {
         ensures { self.new ≡ came_up number owner self.old }
     {
         if newest_of(self.known.as_slice(), number, owner) == 0 {
-            let ballot = Known {
+            let ballot = SeenBallot {
                 number: number.get(),
                 owner: owner.get(),
                 serial: self.settled,

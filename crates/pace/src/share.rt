@@ -10,7 +10,7 @@ use std::marker::Model;
 
 /// A datagram of a member of the circuit. One of a stranger has no member, and so no place among those that wait.
 #[derive(Drop)]
-pub struct Datagram {
+pub struct Incoming {
     /// Who sent it, by its address.
     pub sender: Member,
     /// Its bytes.
@@ -20,7 +20,7 @@ pub struct Datagram {
 /// The datagrams of one member that wait, first in, first out, within its share of the memory.
 #[derive(Drop)]
 pub(crate) struct Share {
-    datagrams: VecDeque<Datagram>,
+    datagrams: VecDeque<Incoming>,
     /// How many bytes the datagrams have in all.
     held: usize,
     /// How many datagrams wait at most.
@@ -70,7 +70,7 @@ impl Share {
     }
 
     /// Puts a datagram behind those that wait, where it finds a place. Whether it found one.
-    pub(crate) fn put(&mut self, datagram: Datagram) -> bool
+    pub(crate) fn put(&mut self, datagram: Incoming) -> bool
         ensures room { IsTrue result ↔ FitsShare (vec_len datagram.bytes) self.old }
         ensures put { self.new ≡ puts_behind result datagram self.old }
     {
@@ -83,7 +83,7 @@ impl Share {
     }
 
     /// Takes the datagram that waits longest.
-    pub(crate) fn take(&mut self) -> Option<Datagram>
+    pub(crate) fn take(&mut self) -> Option<Incoming>
         ensures first { self.old.datagrams ≡ option_to_list result ++ self.new.datagrams }
         ensures rest { self.new ≡ record self.old { datagrams = drop 1 self.old.datagrams } }
     {

@@ -80,7 +80,7 @@ pub struct Sight {
 
 /// What the last sight of what is due showed, where nothing was taken in, done with a file or waited for since.
 #[derive(Clone, Copy, PartialEq, Eq)]
-pub(crate) enum Seen {
+pub(crate) enum DueSight {
     /// Something was, so a number may be due.
     Unseen,
     /// One number was due, so another may be.
@@ -100,7 +100,7 @@ pub struct Turns {
     since_due: u8,
     /// How many datagrams were taken in since a deed was done with a file, as far as they matter.
     since_deed: u8,
-    seen: Seen,
+    seen: DueSight,
 }
 
 impl Model for Turns {
@@ -152,17 +152,17 @@ fn one_more(count: u8, most: u8) -> u8
 }
 
 /// The work where no datagram waits: what is due and deeds take turns, and it is waited where neither is left.
-fn quiet_work(seen: Seen, has_deed: bool, may_ask: bool) -> Work
+fn quiet_work(seen: DueSight, has_deed: bool, may_ask: bool) -> Work
     ensures { result ≡ quiet_work seen has_deed may_ask }
 {
     match seen {
-        Seen::Unseen => Work::Due,
-        Seen::One => if has_deed {
+        DueSight::Unseen => Work::Due,
+        DueSight::One => if has_deed {
             Work::Deed { may_ask }
         } else {
             Work::Due
         },
-        Seen::Nothing => if has_deed {
+        DueSight::Nothing => if has_deed {
             Work::Deed { may_ask }
         } else {
             Work::Wait
@@ -180,7 +180,7 @@ impl Turns {
             just_looked: false,
             since_due: 0,
             since_deed: 0,
-            seen: Seen::Unseen,
+            seen: DueSight::Unseen,
         }
     }
 
@@ -218,21 +218,21 @@ impl Turns {
             Done::TookIn => {
                 self.since_due = one_more(self.since_due, MOST_BEFORE_DUE);
                 self.since_deed = one_more(self.since_deed, MOST_BEFORE_DEED);
-                self.seen = Seen::Unseen;
+                self.seen = DueSight::Unseen;
             }
             Done::SawOne => {
                 self.since_due = 0;
-                self.seen = Seen::One;
+                self.seen = DueSight::One;
             }
             Done::SawNothing => {
                 self.since_due = 0;
-                self.seen = Seen::Nothing;
+                self.seen = DueSight::Nothing;
             }
             Done::DidDeed => {
                 self.since_deed = 0;
-                self.seen = Seen::Unseen;
+                self.seen = DueSight::Unseen;
             }
-            Done::Waited => self.seen = Seen::Unseen,
+            Done::Waited => self.seen = DueSight::Unseen,
         }
     }
 }

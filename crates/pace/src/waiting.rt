@@ -3,7 +3,7 @@
 ghost use Rattle.std.specs.Prelude.{◌≡◌, ◌≤◌, ◌<◌, ◌+◌, ◌-◌, ◌*◌, ◌/◌, ◌^◌, ◌++◌, ◌↔◌, [], None, IsTrue, IfOk, IfSome, MatchOption, length, min, max, position, option_to_list, vec_len};
 ghost use Rattle.pace.specs.Room.{HasRoom, has_one, lost_one, no_shares, nothing_waits, puts, turn_of, taken_at};
 
-use crate::share::{Datagram, Share};
+use crate::share::{Incoming, Share};
 use std::alloc::{AllocError, Global};
 use std::marker::Model;
 
@@ -103,7 +103,7 @@ impl Waiting {
 
     /// Puts a datagram behind those of its sender that wait, where it finds a place; else it is lost, and counted. Whether it found
     /// one.
-    pub fn put(&mut self, datagram: Datagram) -> bool
+    pub fn put(&mut self, datagram: Incoming) -> bool
         ensures room { IsTrue result ↔ HasRoom datagram.sender (vec_len datagram.bytes) self.old }
         ensures put { self.new ≡ puts result datagram self.old }
     {
@@ -120,7 +120,7 @@ impl Waiting {
     }
 
     /// Takes the datagram that waits longest of the member whose turn it is; the next turn is that of the member behind it.
-    pub fn take(&mut self) -> Option<Datagram>
+    pub fn take(&mut self) -> Option<Incoming>
         ensures { MatchOption (turn_of self.old) ((result ≡ None) × (self.new ≡ self.old)) (λ place. taken_at place result self.old self.new) }
     {
         let place = self.turn()?;

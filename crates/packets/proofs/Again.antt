@@ -14,8 +14,8 @@ use Rattle.protocol.specs.Rows.{Vote}
 use Rattle.protocol.specs.Versions.{Version, One, Two}
 use Rattle.protocol.specs.Packets.{Packet, Body, Prepare, Promise, Accept, Accepted, Nack}
 use Rattle.protocol.specs.Fitting.{Fits, BodyFits}
-use Rattle.messages.specs.declared.body.Kind.{Kind}
-use Rattle.messages.specs.declared.body.Kind.TheVariants as kinds
+use Rattle.messages.specs.declared.body.PacketKind.{PacketKind}
+use Rattle.messages.specs.declared.body.PacketKind.TheVariants as kinds
 use Rattle.messages.specs.Rules.{kind_of, may_send, may_say, keeps_rules}
 use Rattle.packets.specs.Spelling.{kind_byte, ballot_bytes, header_bytes, entry_bytes, body_bytes, spelling}
 use Rattle.packets.specs.Grammar.{IsTapeOne, IsBody, IsPacket, number_of_version}
@@ -36,21 +36,21 @@ ballot_again b rest is =
     let t2 = le-leb _ _ is.owner_high in
     rw (back, t0, t1, t2) refl
 
-kind_back : (kind : Kind) → kind_of_byte (kind_byte kind) ≡ Some kind
+kind_back : (kind : PacketKind) → kind_of_byte (kind_byte kind) ≡ Some kind
 kind_back kinds.Prepare = refl
 kind_back kinds.Promise = refl
 kind_back kinds.Accept = refl
 kind_back kinds.Accepted = refl
 kind_back kinds.Nack = refl
 
-kind_again : (v : Version) (kind : Kind) (rest : List ℕ) → 13 ≤ length rest → kind_at v (84 ∷ 78 ∷ number_of_version v ∷ kind_byte kind ∷ rest) ≡ Ok kind
+kind_again : (v : Version) (kind : PacketKind) (rest : List ℕ) → 13 ≤ length rest → kind_at v (84 ∷ 78 ∷ number_of_version v ∷ kind_byte kind ∷ rest) ≡ Ok kind
 unfolding kind_at
 kind_again v kind rest h =
     let long : ltb (length (84 ∷ 78 ∷ number_of_version v ∷ kind_byte kind ∷ rest)) 17 ≡ false = le-ltb _ _ (omega (arith, h)) in
     let version : eqb (number_of_version v) (number_of_version v) ≡ true = eq-eqb _ _ refl in
     rw (long, version, kind_back kind) refl
 
-header_again : (v : Version) (kind : Kind) (circuit from to number : ℕ) (b : Ballot) (rest : List ℕ) → circuit < 65536 → IsMember 15 from → IsMember 15 to → 1 ≤ number → number ≤ 999999 → IsBallot b → eqb from to ≡ false → may_send kind b.owner from to ≡ true
+header_again : (v : Version) (kind : PacketKind) (circuit from to number : ℕ) (b : Ballot) (rest : List ℕ) → circuit < 65536 → IsMember 15 from → IsMember 15 to → 1 ≤ number → number ≤ 999999 → IsBallot b → eqb from to ≡ false → may_send kind b.owner from to ≡ true
     → header_at v (header_bytes v kind circuit from to number ++ ballot_bytes b ++ rest) ≡ Ok (record { kind = kind; circuit = circuit; from = from; to = to; number = number; ballot = b })
 unfolding header_at members_at member_at number_at ballot_at
 header_again v kind circuit from to number b rest fits is_from is_to low high is differ send =

@@ -11,8 +11,8 @@ use Rattle.protocol.specs.Rows.{Vote, vote_for}
 use Rattle.protocol.specs.Versions.{Version, One, Two}
 use Rattle.protocol.specs.Packets.{Packet, Body, Prepare, Promise, Accept, Accepted, Nack}
 use Rattle.protocol.specs.Fitting.{Fits, BodyFits}
-use Rattle.messages.specs.declared.body.Kind.{Kind}
-use Rattle.messages.specs.declared.body.Kind.TheVariants as kinds
+use Rattle.messages.specs.declared.body.PacketKind.{PacketKind}
+use Rattle.messages.specs.declared.body.PacketKind.TheVariants as kinds
 use Rattle.packets.specs.Grammar.{said_version, number_of_version}
 use Rattle.packets.specs.Laws.{ReadAsSaid, ReadWhatFits, TwoReadsBoth}
 use Rattle.packets.specs.Reading.{wanted, u16_at, kind_at, header_at, frames_at, entry_at, whole_entry_at, ballot_at, vote_at, promise_at, nack_at, body_at, packet_in}
@@ -25,7 +25,7 @@ said_by : (v : Version) (bytes : List ℕ) → slice_index bytes 2 ≡ number_of
 said_by One bytes e = ap (λ (n : ℕ). cond (eqb n 2) Two One) e
 said_by Two bytes e = ap (λ (n : ℕ). cond (eqb n 2) Two One) e
 
-kind_says : (v : Version) (bytes : List ℕ) (kind : Kind) → kind_at v bytes ≡ Ok kind → said_version bytes ≡ v
+kind_says : (v : Version) (bytes : List ℕ) (kind : PacketKind) → kind_at v bytes ≡ Ok kind → said_version bytes ≡ v
 unfolding kind_at
 kind_says v bytes kind e =
     let a = guard (ltb (length bytes) 17) _ _ kind e in
@@ -102,7 +102,7 @@ nack_fits v ballot bytes b e =
     let d = ends_ok (Nack p.0) b (drop 5 bytes) c.1 in
     subst (λ (y : Body). BodyFits v y) d.1 tt
 
-body_fits : (v : Version) (kind : Kind) (ballot : Ballot) (bytes : List ℕ) (b : Body) → body_at v kind ballot bytes ≡ Ok b → BodyFits v b
+body_fits : (v : Version) (kind : PacketKind) (ballot : Ballot) (bytes : List ℕ) (b : Body) → body_at v kind ballot bytes ≡ Ok b → BodyFits v b
 unfolding body_at
 body_fits v kinds.Prepare ballot bytes b e =
     let a = ends_ok Prepare b bytes e in

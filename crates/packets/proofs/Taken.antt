@@ -15,8 +15,8 @@ use Rattle.protocol.specs.Versions.{Version, One, Two}
 use Rattle.protocol.specs.Packets.{Packet, Body, Prepare, Promise, Accept, Accepted, Nack}
 use Rattle.packets.specs.declared.fault.PacketFault.{PacketFault}
 use Rattle.packets.specs.declared.fault.PacketFault.TheVariants.{BadPad}
-use Rattle.messages.specs.declared.body.Kind.{Kind}
-use Rattle.messages.specs.declared.body.Kind.TheVariants as kinds
+use Rattle.messages.specs.declared.body.PacketKind.{PacketKind}
+use Rattle.messages.specs.declared.body.PacketKind.TheVariants as kinds
 use Rattle.packets.specs.declared.header.Header.{Header}
 use Rattle.messages.specs.Rules.{kind_of, may_send, may_say, keeps_rules}
 use Rattle.packets.specs.Spelling.{kind_byte}
@@ -68,16 +68,16 @@ ok_is x y e = cc
 
 -- ---- the header
 
-kind_from : (n : ℕ) (kind : Kind) → kind_of_byte n ≡ Some kind → n ≡ kind_byte kind
+kind_from : (n : ℕ) (kind : PacketKind) → kind_of_byte n ≡ Some kind → n ≡ kind_byte kind
 kind_from n kind e = grind (arith, e)
 
-pub record TakesKind (v : Version) (c0 c1 c2 c3 : ℕ) (kind : Kind) : Type 0 where
+pub record TakesKind (v : Version) (c0 c1 c2 c3 : ℕ) (kind : PacketKind) : Type 0 where
   pub mark_0 : c0 ≡ 84
   pub mark_1 : c1 ≡ 78
   pub version : c2 ≡ number_of_version v
   pub number : c3 ≡ kind_byte kind
 
-kind_takes : (v : Version) (c0 c1 c2 c3 : ℕ) (rest : List ℕ) (kind : Kind) → kind_at v (c0 ∷ c1 ∷ c2 ∷ c3 ∷ rest) ≡ Ok kind → TakesKind v c0 c1 c2 c3 kind
+kind_takes : (v : Version) (c0 c1 c2 c3 : ℕ) (rest : List ℕ) (kind : PacketKind) → kind_at v (c0 ∷ c1 ∷ c2 ∷ c3 ∷ rest) ≡ Ok kind → TakesKind v c0 c1 c2 c3 kind
 unfolding kind_at
 kind_takes v c0 c1 c2 c3 rest kind e =
     let a = guard (ltb (length (c0 ∷ c1 ∷ c2 ∷ c3 ∷ rest)) 17) _ _ kind e in
@@ -235,7 +235,7 @@ pub record TakesVote (v : Version) (ballot : Ballot) (bytes : List ℕ) (x : Vot
   pub below : is_below x.0.ballot ballot ≡ true
 
 -- what a body says that was read
-pub record TakesBody (v : Version) (kind : Kind) (ballot : Ballot) (bytes : List ℕ) (b : Body) : Type 0 where
+pub record TakesBody (v : Version) (kind : PacketKind) (ballot : Ballot) (bytes : List ℕ) (b : Body) : Type 0 where
   pub spells : SpellsBody v bytes b
   pub kind_is : kind_of b ≡ kind
   pub say : may_say b ballot ≡ true
@@ -253,7 +253,7 @@ nack_takes v ballot (b3 ∷ b2 ∷ b1 ∷ b0 ∷ owner ∷ rest) b fits e =
     subst (λ (y : Body). TakesBody v kinds.Nack ballot bytes y) d.1 (record { spells = subst (λ (y : List ℕ). SpellsBallot y p.0) all spells; kind_is = refl; say = not-false _ c.0 })
 nack_takes v ballot bytes b fits e = absurd cc
 
-kind_number : (b : Body) (kind : Kind) → kind_of b ≡ kind → kind_byte kind ≡ number_of_kind b
+kind_number : (b : Body) (kind : PacketKind) → kind_of b ≡ kind → kind_byte kind ≡ number_of_kind b
 kind_number Prepare kind e = ap kind_byte (sym e)
 kind_number (Promise report) kind e = ap kind_byte (sym e)
 kind_number (Accept entry) kind e = ap kind_byte (sym e)
@@ -357,7 +357,7 @@ module _ (k : Packings) where
       })
   promise_takes v ballot (suc (suc n) ∷ rest) b fits e = absurd cc
 
-  body_takes : (v : Version) (kind : Kind) (ballot : Ballot) (bytes : List ℕ) (b : Body) → IsBytes bytes → body_at v kind ballot bytes ≡ Ok b → TakesBody v kind ballot bytes b
+  body_takes : (v : Version) (kind : PacketKind) (ballot : Ballot) (bytes : List ℕ) (b : Body) → IsBytes bytes → body_at v kind ballot bytes ≡ Ok b → TakesBody v kind ballot bytes b
   unfolding body_at
   body_takes v kinds.Prepare ballot bytes b fits e =
       let a = ends_ok Prepare b bytes e in
@@ -383,7 +383,7 @@ module _ (k : Packings) where
       let first = header_takes v bytes h fits a.1 in
       let second = body_takes v h.kind h.ballot (drop 17 bytes) b.0 (IsBytes-drop 17 bytes fits) b.1 in
       let made : Packet = record { circuit = h.circuit; from = h.from; to = h.to; number = h.number; ballot = h.ballot; body = b.0 } in
-      let send : may_send (kind_of b.0) h.ballot.owner h.from h.to ≡ true = ap (λ (j : Kind). may_send j h.ballot.owner h.from h.to) second.kind_is ∙ first.send in
+      let send : may_send (kind_of b.0) h.ballot.owner h.from h.to ≡ true = ap (λ (j : PacketKind). may_send j h.ballot.owner h.from h.to) second.kind_is ∙ first.send in
       let rules : keeps_rules made ≡ true = and_from _ _ (and_from _ _ (not_from_false _ first.differ) send) second.say in
       subst (λ (x : Packet). Spells v bytes x) (ok_is made p b.2) (record {
         circuit = first.circuit;

@@ -13,8 +13,8 @@ use Rattle.messages.specs.Rules.{may_send}
 use Rattle.packets.specs.Grammar.{number_of_version, said_version}
 use Rattle.packets.specs.declared.fault.PacketFault.{PacketFault}
 use Rattle.packets.specs.declared.fault.PacketFault.TheVariants.{Short, BadMark, BadVersion, BadKind, BadMember, BadNumber, BadBallot, BadSender, BadReport, BadFrames, BadPad, Long}
-use Rattle.messages.specs.declared.body.Kind.{Kind}
-use Rattle.messages.specs.declared.body.Kind.TheVariants as kinds
+use Rattle.messages.specs.declared.body.PacketKind.{PacketKind}
+use Rattle.messages.specs.declared.body.PacketKind.TheVariants as kinds
 use Rattle.packets.specs.declared.header.Header.{Header}
 
 -- one step after another, up to the first fault
@@ -42,7 +42,7 @@ abbrev pub u32_at : List ℕ → ℕ → ℕ
 u32_at bytes at = from_be_bytes w32 (take 4 (drop at bytes))
 
 -- the kind of this number
-abbrev pub kind_of_byte : ℕ → Option Kind
+abbrev pub kind_of_byte : ℕ → Option PacketKind
 kind_of_byte n =
     if n == 1 then Some kinds.Prepare else
     if n == 2 then Some kinds.Promise else
@@ -51,7 +51,7 @@ kind_of_byte n =
     if n == 5 then Some kinds.Nack else None
 
 -- the length, the mark, the version and the kind
-unfoldable pub kind_at : Version → List ℕ → Result Kind PacketFault
+unfoldable pub kind_at : Version → List ℕ → Result PacketKind PacketFault
 kind_at v bytes =
     if nat_lt (length bytes) 17 then Err Short else
     if not (slice_index bytes 0 == 84 && slice_index bytes 1 == 78) then Err BadMark else
@@ -156,7 +156,7 @@ nack_at ballot bytes =
     if not (is_below ballot promised) then Err BadReport else ends (Nack promised) (drop 5 bytes)
 
 -- what stands after the header, by the kind
-unfoldable pub body_at : Version → Kind → Ballot → List ℕ → Result Body PacketFault
+unfoldable pub body_at : Version → PacketKind → Ballot → List ℕ → Result Body PacketFault
 body_at v kinds.Prepare ballot bytes = ends Prepare bytes
 body_at v kinds.Promise ballot bytes = promise_at v ballot bytes
 body_at v kinds.Accept ballot bytes = do

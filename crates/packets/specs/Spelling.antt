@@ -10,11 +10,11 @@ use Rattle.protocol.specs.Versions.{Version, One, Two}
 use Rattle.protocol.specs.Packets.{Packet, Body, Prepare, Promise, Accept, Accepted, Nack}
 use Rattle.messages.specs.Rules.{kind_of}
 use Rattle.packets.specs.Grammar.{number_of_version}
-use Rattle.messages.specs.declared.body.Kind.{Kind}
-use Rattle.messages.specs.declared.body.Kind.TheVariants as kinds
+use Rattle.messages.specs.declared.body.PacketKind.{PacketKind}
+use Rattle.messages.specs.declared.body.PacketKind.TheVariants as kinds
 
 -- the number of a kind
-abbrev pub kind_byte : Kind → ℕ
+abbrev pub kind_byte : PacketKind → ℕ
 kind_byte kinds.Prepare = 1
 kind_byte kinds.Promise = 2
 kind_byte kinds.Accept = 3
@@ -26,7 +26,7 @@ abbrev pub ballot_bytes : Ballot → List ℕ
 ballot_bytes b = to_be_bytes w32 b.round ++ b.owner ∷ []
 
 -- the header as far as the ballot
-abbrev pub header_bytes : Version → Kind → ℕ → ℕ → ℕ → ℕ → List ℕ
+abbrev pub header_bytes : Version → PacketKind → ℕ → ℕ → ℕ → ℕ → List ℕ
 header_bytes v kind circuit from to number =
     84 ∷ 78 ∷ number_of_version v ∷ kind_byte kind ∷ [] ++ to_be_bytes w16 circuit ++ from ∷ to ∷ [] ++ to_be_bytes w32 number
 

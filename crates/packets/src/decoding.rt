@@ -11,13 +11,13 @@ ghost use Rattle.messages.specs.Bodies.{said};
 ghost use Rattle.packets.specs.Grammar.{SpellsAt, said_version};
 ghost use Rattle.messages.specs.Rules.{kind_of, may_say};
 ghost use Rattle.packets.specs.Reading.{frames_at, packed_entry, packed_at, entry_at, whole_entry_at, vote_at, promise_at, nack_at, body_at, packet_in, packet_at, Seen};
-ghost use Rattle.messages.specs.declared.body.Kind.TheVariants as kinds;
+ghost use Rattle.messages.specs.declared.body.PacketKind.TheVariants as kinds;
 
 use crate::fault::PacketFault;
 use crate::header::{HEADER_LEN, ballot_of, header_of, u16_of};
 use crate::laws::packings;
 use ballots::{Ballot, VoteRef};
-use messages::{BodyRef, Kind, PacketRef};
+use messages::{BodyRef, PacketKind, PacketRef};
 use tape_frames::{EntryRef, MAX_FRAMES, MAX_FRAMES_ONE, PackedRef, TapeRef, Version, packed_len};
 
 #[tactic(auto, unfolding(crate::specs::Reading::frames_at))]
@@ -167,7 +167,7 @@ fn whole_entry_of(bytes: &[u8], version: Version) -> Result<EntryRef<'_>, Packet
 
 #[tactic(auto, unfolding(crate::specs::Reading::body_at))]
 fn body_of(
-    kind: Kind,
+    kind: PacketKind,
     ballot: Ballot,
     bytes: &[u8],
     version: Version,
@@ -176,22 +176,22 @@ fn body_of(
     ensures rules { IfOk result (λ b. (kind_of (said b) ≡ kind) × (may_say (said b) ballot ≡ true)) }
 {
     match kind {
-        Kind::Prepare => {
+        PacketKind::Prepare => {
             if !bytes.is_empty() {
                 return Err(PacketFault::Long);
             }
             Ok(BodyRef::Prepare)
         }
-        Kind::Promise => promise_of(ballot, bytes, version),
-        Kind::Accept => {
+        PacketKind::Promise => promise_of(ballot, bytes, version),
+        PacketKind::Accept => {
             let entry = whole_entry_of(bytes, version)?;
             Ok(BodyRef::Accept { entry })
         }
-        Kind::Accepted => {
+        PacketKind::Accepted => {
             let entry = whole_entry_of(bytes, version)?;
             Ok(BodyRef::Accepted { entry })
         }
-        Kind::Nack => nack_of(ballot, bytes),
+        PacketKind::Nack => nack_of(ballot, bytes),
     }
 }
 

@@ -16,19 +16,19 @@ ghost use Rattle.packets.specs.Spelling.{kind_byte, ballot_bytes, header_bytes, 
 use crate::header::{HEADER_LEN, version_byte};
 use crate::laws::packings;
 use ballots::{Ballot, VoteRef};
-use messages::{BodyRef, Kind, PacketRef};
+use messages::{BodyRef, PacketKind, PacketRef};
 use std::alloc::{AllocError, Global};
 use tape_frames::{EntryRef, Version, packed_len};
 
-fn kind_byte(kind: Kind) -> u8
+fn kind_byte(kind: PacketKind) -> u8
     ensures { result ≡ kind_byte kind }
 {
     match kind {
-        Kind::Prepare => 1,
-        Kind::Promise => 2,
-        Kind::Accept => 3,
-        Kind::Accepted => 4,
-        Kind::Nack => 5,
+        PacketKind::Prepare => 1,
+        PacketKind::Promise => 2,
+        PacketKind::Accept => 3,
+        PacketKind::Accepted => 4,
+        PacketKind::Nack => 5,
     }
 }
 
@@ -89,7 +89,7 @@ fn put_body(out: &mut Vec<u8>, body: &BodyRef<'_>, version: Version) -> Result<(
 fn put_header(
     out: &mut Vec<u8>,
     version: Version,
-    kind: Kind,
+    kind: PacketKind,
     circuit: u16,
     from: u8,
     to: u8,

@@ -8,7 +8,7 @@ ghost use Rattle.messages.specs.Rules.{may_send};
 
 use crate::fault::PacketFault;
 use ballots::{Ballot, Member, Number};
-use messages::{Kind, may_send};
+use messages::{PacketKind, may_send};
 use tape_frames::Version;
 
 /// The length of a header.
@@ -17,7 +17,7 @@ pub(crate) const HEADER_LEN: usize = 17;
 /// What a header says.
 #[derive(Clone, Copy)]
 pub(crate) struct Header {
-    pub kind: Kind,
+    pub kind: PacketKind,
     pub circuit: u16,
     pub from: Member,
     pub to: Member,
@@ -25,15 +25,15 @@ pub(crate) struct Header {
     pub ballot: Ballot,
 }
 
-fn kind_of_byte(byte: u8) -> Option<Kind>
+fn kind_of_byte(byte: u8) -> Option<PacketKind>
     ensures { result ≡ kind_of_byte byte }
 {
     match byte {
-        1 => Some(Kind::Prepare),
-        2 => Some(Kind::Promise),
-        3 => Some(Kind::Accept),
-        4 => Some(Kind::Accepted),
-        5 => Some(Kind::Nack),
+        1 => Some(PacketKind::Prepare),
+        2 => Some(PacketKind::Promise),
+        3 => Some(PacketKind::Accept),
+        4 => Some(PacketKind::Accepted),
+        5 => Some(PacketKind::Nack),
         _ => None,
     }
 }
@@ -49,7 +49,7 @@ pub(crate) fn version_byte(version: Version) -> u8
 }
 
 #[tactic(auto, unfolding(crate::specs::Reading::kind_at))]
-fn kind_of(bytes: &[u8], version: Version) -> Result<Kind, PacketFault>
+fn kind_of(bytes: &[u8], version: Version) -> Result<PacketKind, PacketFault>
     ensures exact { result ≡ kind_at (version_of version) bytes.now }
     ensures long { OnOk result (17 ≤ length bytes.now) }
 {

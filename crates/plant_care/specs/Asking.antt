@@ -5,7 +5,7 @@ use Rattle.catch_up.specs.Calls.{is_told_in}
 use Rattle.by_hand.specs.Hands.{HandValue, IsNext}
 use Rattle.folders.specs.declared.names.Span.{Span}
 use Rattle.folders.specs.declared.stamp.Stamp.{Stamp}
-use Rattle.plant_care.specs.declared.ask.Ask.{Ask}
+use Rattle.plant_care.specs.declared.ask.RangeAsk.{RangeAsk}
 use Rattle.plant_care.specs.declared.care.Care.{Care}
 
 -- an entry is a tape, and no withdrawal
@@ -19,12 +19,12 @@ abbrev pub knows_circuit : Care → Bool
 knows_circuit c = is_told_in c.catch_up.rolls || (not (is_some c.waiting) && not c.catch_up.asks)
 
 -- there may be a search to begin of a range that is asked for
-abbrev pub is_search_due : Option Ask → Bool
+abbrev pub is_search_due : Option RangeAsk → Bool
 is_search_due None = false
 is_search_due (Some ask) = ask.is_stirred
 
 -- the number of a range that is searched next
-abbrev pub IsSearched : Option Ask → Option Ask → ℕ → Type 0
+abbrev pub IsSearched : Option RangeAsk → Option RangeAsk → ℕ → Type 0
 IsSearched None new number = ⊥
 IsSearched (Some ask) None number = ⊥
 IsSearched (Some ask) (Some after) number = IsNext ask.hand after.hand (Some number)
@@ -37,4 +37,4 @@ IsRange span hand = (hand.first ≡ span.first) × IfSome span.last (λ (last : 
 abbrev pub AsksFor : Span → Stamp → Care → Care → Type 0
 AsksFor span stamp old new =
     (new ≡ record old { ask = new.ask })
-    × ((new.ask ≡ old.ask) ⊎ IsSomeAnd new.ask (λ (ask : Ask). (ask.span ≡ span) × (ask.stamp ≡ stamp) × (ask.is_stirred ≡ true) × IsRange span ask.hand))
+    × ((new.ask ≡ old.ask) ⊎ IsSomeAnd new.ask (λ (ask : RangeAsk). (ask.span ≡ span) × (ask.stamp ≡ stamp) × (ask.is_stirred ≡ true) × IsRange span ask.hand))

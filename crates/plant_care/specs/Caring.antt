@@ -6,9 +6,9 @@ use Rattle.node_core.specs.declared.turn.Note.TheVariants as notes
 use Rattle.exchange.specs.declared.said.Said.{Said}
 use Rattle.station.specs.declared.answer.Answer.{Answer}
 use Rattle.station.specs.declared.answer.Release.{Release}
-use Rattle.driver.specs.declared.sink.Heard.{Heard}
-use Rattle.driver.specs.declared.sink.Heard.TheVariants as heards
-use Rattle.driver.specs.declared.sink.Step.{Step}
+use Rattle.driver.specs.declared.sink.HeardDatagram.{HeardDatagram}
+use Rattle.driver.specs.declared.sink.HeardDatagram.TheVariants as heards
+use Rattle.driver.specs.declared.sink.TakenStep.{TakenStep}
 use Rattle.rolls.specs.declared.aside.Aside.{Aside}
 use Rattle.catch_up.specs.Asked.{told_to}
 use Rattle.catch_up.specs.CatchUp.{CatchUpValue, IsNext, calm}
@@ -46,7 +46,7 @@ IsAsideHeard found now old new =
     × IsHeard old.catch_up new.catch_up found now (heard_by old.catch_up.own found)
 
 -- a datagram was taken in
-abbrev pub IsHeardSo : Heard → ℕ → Care → Care → Type 0
+abbrev pub IsHeardSo : HeardDatagram → ℕ → Care → Care → Type 0
 IsHeardSo (heards.Taken said) now old new = IsPacketHeard said old new
 IsHeardSo (heards.Refused refusal) now old new = new ≡ passed_by old
 IsHeardSo (heards.Aside found) now old new = IsAsideHeard found now old new
@@ -79,7 +79,7 @@ IsAskHeard old new = new ≡ record old { ask = new.ask; waiting = new.waiting }
 
 -- a step was taken: there is news of its number, if it is about one; it may answer what is asked for by hand; what it told again is counted;
 -- and what it released went out
-abbrev pub IsDone : Step → Care → Care → Type 0
+abbrev pub IsDone : TakenStep → Care → Care → Type 0
 IsDone step old new =
     (heard : Care) × (asked : Care) × (told : Care) × KeepsGone old heard × IsAskHeard heard asked
     × (told ≡ record asked { catch_up = told_by step.answer step.moment asked.catch_up })

@@ -4,11 +4,11 @@ use Rattle.node_core.specs.declared.turn.Note.{Note}
 use Rattle.node_core.specs.declared.turn.Note.TheVariants as notes
 use Rattle.folders.specs.declared.fault.FolderFault.{FolderFault}
 use Rattle.plant_care.specs.declared.beginning.Opening.{Opening}
-use Rattle.plant_care.specs.declared.beginning.Start.{Start}
+use Rattle.plant_care.specs.declared.beginning.CareStart.{CareStart}
 use Rattle.plant_care.specs.declared.care.Care.{Care}
 
 -- what waits until it can be read what went out asks for nothing then either
-abbrev pub WaitsOff : Option (Start × FolderFault) → Type 0
+abbrev pub WaitsOff : Option (CareStart × FolderFault) → Type 0
 WaitsOff None = Unit {0}
 WaitsOff (Some w) = w.0.catches_up ≡ false
 
@@ -17,12 +17,12 @@ abbrev pub IsOff : Care → Type 0
 IsOff c = (c.catch_up.asks ≡ false) × WaitsOff c.waiting
 
 -- how a station starts: as its own, and where it is not to catch up, it asks for nothing on its own
-pub record IsOpeningOf (start : Start) (o : Opening) : Type 0 where
+pub record IsOpeningOf (start : CareStart) (o : Opening) : Type 0 where
   pub own : o.catch_up.own ≡ start.own
   pub off : start.catches_up ≡ false → (o.catch_up.asks ≡ false) × WaitsOff o.waiting
 
 -- what is kept in mind at the start: nothing was released, told or asked for by hand yet
-pub record StartsFrom (start : Start) (c : Care) : Type 0 where
+pub record StartsFrom (start : CareStart) (c : Care) : Type 0 where
   pub own : c.catch_up.own ≡ start.own
   pub off : start.catches_up ≡ false → IsOff c
   pub quiet : c.is_quiet ≡ start.is_quiet

@@ -7,7 +7,7 @@ ghost use Rattle.folders.specs.Spans.{span_name};
 ghost use Rattle.folders.specs.declared.leaving.Place.TheVariants.{Done};
 
 use ballots::Number;
-use by_hand::{Answer, Hand};
+use by_hand::{Hand, SearchEnd};
 use catch_up_log::Answered;
 use folders::{FolderFault, Folders, Leaving, Place, Span, Stamp, span_name};
 use node_core::Note;
@@ -18,7 +18,7 @@ const PAUSE: u64 = 1000;
 
 /// A range that is asked for.
 #[derive(Drop)]
-pub struct Ask {
+pub struct RangeAsk {
     pub(crate) span: Span,
     /// Its file, as it was found.
     pub(crate) stamp: Stamp,
@@ -31,24 +31,24 @@ pub struct Ask {
 }
 
 /// So many answers, and one more of this kind.
-fn with_answer(counts: Answered, answer: Answer) -> Answered {
+fn with_answer(counts: Answered, answer: SearchEnd) -> Answered {
     let Answered {
         tapes,
         voids,
         nothing,
     } = counts;
     match answer {
-        Answer::Tape => Answered {
+        SearchEnd::Tape => Answered {
             tapes: tapes.saturating_add(1),
             voids,
             nothing,
         },
-        Answer::Void => Answered {
+        SearchEnd::Void => Answered {
             tapes,
             voids: voids.saturating_add(1),
             nothing,
         },
-        Answer::Nothing => Answered {
+        SearchEnd::Nothing => Answered {
             tapes,
             voids,
             nothing: nothing.saturating_add(1),
@@ -71,7 +71,7 @@ fn counts_of(hand: &Hand, first: Number, last: Number) -> Answered {
     counts
 }
 
-impl Ask {
+impl RangeAsk {
     /// Its next search, at a moment, if there is one; else there may be one at the next look.
     pub(crate) fn next(&mut self, now: u64) -> Option<Number>
         ensures next { IfSome result (λ number. IsNext self.old.hand self.new.hand (Some number)) }

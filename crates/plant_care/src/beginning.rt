@@ -7,7 +7,7 @@ use crate::care::Care;
 use ballots::Number;
 use catch_up::{CatchUp, Start as First};
 use catch_up_log::{tell_missing, tell_set_aside, tell_unread};
-use driver::{Log, Step};
+use driver::{Log, TakenStep};
 use folders::{FolderFault, Folders, WentOut};
 use gone_out::{Known, Numbers, Origin};
 use node_core::Note;
@@ -16,7 +16,7 @@ use std::io::Write;
 
 /// What a station starts from.
 #[derive(Drop)]
-pub struct Start {
+pub struct CareStart {
     pub alloc: Global,
     /// Whose station it is.
     pub own: Origin,
@@ -39,7 +39,7 @@ struct Gone {
 #[derive(Drop)]
 pub(crate) struct Opening {
     catch_up: CatchUp,
-    waiting: Option<(Start, FolderFault)>,
+    waiting: Option<(CareStart, FolderFault)>,
 }
 
 /// What went out; an operator is told of what may be missing from before, and of a file of another station.
@@ -61,7 +61,7 @@ fn told_of<E: Write>(alloc: Global, known: &Known, went: WentOut, err: &mut E) -
 }
 
 /// A station that starts by its rows, and by what went out.
-fn opened(start: Start, gone: Gone, now: u64) -> Result<Opening, AllocError>
+fn opened(start: CareStart, gone: Gone, now: u64) -> Result<Opening, AllocError>
     ensures { IfOk result (IsOpeningOf start) }
 {
     let first = First {
@@ -78,7 +78,7 @@ fn opened(start: Start, gone: Gone, now: u64) -> Result<Opening, AllocError>
 }
 
 /// The same where it can't be read now what went out: until it can be, it answers no roll and asks for nothing.
-fn unread(start: Start, fault: FolderFault, now: u64) -> Result<Opening, AllocError>
+fn unread(start: CareStart, fault: FolderFault, now: u64) -> Result<Opening, AllocError>
     ensures { IfOk result (IsOpeningOf start) }
 {
     let first = First {
@@ -96,7 +96,7 @@ fn unread(start: Start, fault: FolderFault, now: u64) -> Result<Opening, AllocEr
 
 /// A station that starts, at a moment, by its rows and what went out.
 fn begun<F: Folders, E: Write>(
-    start: Start,
+    start: CareStart,
     folders: &mut F,
     now: u64,
     err: &mut E,
@@ -127,7 +127,7 @@ fn begun<F: Folders, E: Write>(
 ///
 /// Out of memory.
 pub fn begin<F: Folders, E: Write>(
-    start: Start,
+    start: CareStart,
     folders: &mut F,
     err: &mut E,
 ) -> Result<Box<Care>, AllocError>
@@ -153,7 +153,7 @@ fn saved_by(note: &Note) -> Option<bool>
     }
 }
 
-impl Start {
+impl CareStart {
     /// A row of a number was saved, which has a vote or has none.
     fn save(&mut self, number: Number, has_vote: bool)
         ensures { self.new ≡ record self.old { known = self.new.known } }
@@ -166,7 +166,7 @@ impl Start {
 
 impl Care {
     /// Before it could be read what went out, a row that a step saved is kept in mind.
-    pub(crate) fn keep_saved(&mut self, number: Number, step: &Step)
+    pub(crate) fn keep_saved(&mut self, number: Number, step: &TakenStep)
         ensures { WaitsOn self.old self.new }
     {
         if let Some((start, _)) = &mut self.waiting

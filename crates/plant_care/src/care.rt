@@ -5,17 +5,17 @@ ghost use Rattle.catch_up.specs.Errands.{IsGoodErrand};
 ghost use Rattle.plant_care.specs.Asking.{is_search_due};
 ghost use Rattle.plant_care.specs.Caring.{ComesNext, Declines, IsAskHeard, IsAsideHeard, IsDone, IsErrand, IsHeardSo, IsNoted, IsPacketHeard, IsSpent, KeepsGone, KeepsMissed, TakesTurns, told_by};
 
-use crate::ask::Ask;
-use crate::beginning::Start;
+use crate::ask::RangeAsk;
+use crate::beginning::CareStart;
 use crate::surveying::add_lacked;
 use ballots::Number;
-use catch_up::{CatchUp, Errand, Packet, Unheard};
+use catch_up::{CatchUp, Errand, PacketHead, Unheard};
 use catch_up_log::{Missed, Spoken, Unheards, Unnoted};
-use driver::{Chance, Declined, Heard, Log, Step};
+use driver::{Chance, Declined, HeardDatagram, Log, TakenStep};
 use exchange::Said;
 use folders::FolderFault;
 use gone_out::Numbers;
-use messages::Kind;
+use messages::PacketKind;
 use node_core::Note;
 use rolls::Aside;
 use std::alloc::Global;
@@ -41,9 +41,9 @@ pub struct Care {
     /// Whether it was told that no majority told its votes.
     pub(crate) told_few: bool,
     /// What the station is to start from, where it can't be read yet what went out, and why it can't.
-    pub(crate) waiting: Option<(Start, FolderFault)>,
+    pub(crate) waiting: Option<(CareStart, FolderFault)>,
     /// The range that an editor asks for.
-    pub(crate) ask: Option<Ask>,
+    pub(crate) ask: Option<RangeAsk>,
     /// The numbers that were asked for since nothing was lacked last.
     pub(crate) lacked: Option<Numbers>,
 }
@@ -53,7 +53,7 @@ impl Care {
     pub(crate) fn new(
         alloc: Global,
         catch_up: CatchUp,
-        waiting: Option<(Start, FolderFault)>,
+        waiting: Option<(CareStart, FolderFault)>,
         is_quiet: bool,
     ) -> Care
         ensures catch_up { result.catch_up ≡ catch_up }
@@ -85,10 +85,10 @@ impl Care {
     {
         match said {
             Some(said) => {
-                let packet = Packet {
+                let packet = PacketHead {
                     number: said.number,
                     sender: said.sender,
-                    is_vote: said.kind == Kind::Accepted,
+                    is_vote: said.kind == PacketKind::Accepted,
                 };
                 let _ = self.catch_up.came(packet, now);
             }
@@ -114,13 +114,13 @@ impl Care {
     }
 
     /// A datagram was taken in, at a moment. A recall or a roll that is passed over is told.
-    pub fn hear<E: Write>(&mut self, heard: &Heard, now: u64, log: &mut Log<'_, E>)
+    pub fn hear<E: Write>(&mut self, heard: &HeardDatagram, now: u64, log: &mut Log<'_, E>)
         ensures { IsHeardSo heard.now now self.old self.new }
     {
         match heard {
-            Heard::Taken(said) => self.hear_packet(*said, now),
-            Heard::Refused(_) => self.catch_up.passed_over(),
-            Heard::Aside(found) => {
+            HeardDatagram::Taken(said) => self.hear_packet(*said, now),
+            HeardDatagram::Refused(_) => self.catch_up.passed_over(),
+            HeardDatagram::Aside(found) => {
                 if let Err(unheard) = self.catch_up.hear(found, now) {
                     self.pass_over(found, unheard, now, log);
                 }
@@ -129,7 +129,7 @@ impl Care {
     }
 
     /// A vote was told again to another member, if this step did that.
-    fn count_told(&mut self, step: &Step)
+    fn count_told(&mut self, step: &TakenStep)
         ensures { self.new ≡ record self.old { catch_up = told_by step.now.answer step.now.moment self.old.catch_up } }
     {
         if let Note::Recalled { .. } = &step.answer.note
@@ -141,7 +141,7 @@ impl Care {
     }
 
     /// A number was released, if this step did that. Where there is no memory to note it, it is released again after the next start.
-    fn note_release(&mut self, step: &Step)
+    fn note_release(&mut self, step: &TakenStep)
         ensures { IsNoted step.now.answer.release self.old self.new }
     {
         if let Some(release) = &step.answer.release {
@@ -151,7 +151,7 @@ impl Care {
     }
 
     /// There is news of the number of a step, if it is about one; whether it opened a ballot for a file.
-    fn hear_step(&mut self, step: &Step, opened: bool)
+    fn hear_step(&mut self, step: &TakenStep, opened: bool)
         ensures { KeepsGone self.old self.new }
     {
         if let Some(number) = step.answer.number {
@@ -163,7 +163,7 @@ impl Care {
 
     /// What came of the number of a step, if it is about one, is an answer where that is asked for; and where it is not known yet what went
     /// out, a row that was saved is kept in mind.
-    fn hear_ask(&mut self, step: &Step)
+    fn hear_ask(&mut self, step: &TakenStep)
         ensures { IsAskHeard self.old self.new }
     {
         if let Some(number) = step.answer.number {
@@ -173,7 +173,7 @@ impl Care {
     }
 
     /// A step was taken; whether it opened a ballot for a file.
-    pub fn did(&mut self, step: &Step, opened: bool)
+    pub fn did(&mut self, step: &TakenStep, opened: bool)
         ensures { IsDone step.now self.old self.new }
     {
         self.hear_step(step, opened);

@@ -10,7 +10,7 @@ mod ranges;
 mod surveying;
 mod telling;
 
-pub use ask::Ask;
-pub use beginning::{Start, begin};
+pub use ask::RangeAsk;
+pub use beginning::{CareStart, begin};
 pub use care::Care;
-pub use surveying::Survey;
+pub use surveying::NumberSurvey;

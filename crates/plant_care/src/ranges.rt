@@ -4,13 +4,13 @@ ghost use Rattle.std.specs.Prelude.{◌≡◌, ◌||◌, IfOk, IfSome, None, fal
 ghost use Rattle.tape_frames.specs.Entries.{lent_entry};
 ghost use Rattle.plant_care.specs.Asking.{is_search_due, is_tape, knows_circuit, AsksFor, IsRange, IsSearched};
 
-use crate::ask::Ask;
+use crate::ask::RangeAsk;
 use crate::care::Care;
 use ballots::Number;
 use by_hand::Hand;
 use catch_up::CatchUp;
 use catch_up_log::tell_answered;
-use driver::{Declined, Log, Step};
+use driver::{Declined, Log, TakenStep};
 use folders::{Span, Stamp};
 use gone_out::Numbers;
 use station::StepRefusal;
@@ -100,7 +100,7 @@ impl Care {
         ensures { AsksFor span stamp self.old self.new }
     {
         if let Ok(hand) = hand_of(self.alloc, &span, &self.catch_up) {
-            self.ask = Some(Ask {
+            self.ask = Some(RangeAsk {
                 span,
                 stamp,
                 hand,
@@ -132,7 +132,7 @@ impl Care {
     }
 
     /// A step about a number was taken: what came of it is an answer, where the number is of the range.
-    pub(crate) fn hear_by_hand(&mut self, number: Number, step: &Step)
+    pub(crate) fn hear_by_hand(&mut self, number: Number, step: &TakenStep)
         ensures { self.new ≡ record self.old { ask = self.new.ask } }
     {
         let Some(ask) = &mut self.ask else {
@@ -162,14 +162,14 @@ impl Care {
     }
 
     /// The range that is asked for.
-    pub fn asked(&self) -> Option<&Ask>
+    pub fn asked(&self) -> Option<&RangeAsk>
         ensures { option_copied result ≡ self.now.ask }
     {
         self.ask.as_ref()
     }
 
     /// No range is asked for any more; the one that was.
-    pub fn end_ask(&mut self) -> Option<Ask>
+    pub fn end_ask(&mut self) -> Option<RangeAsk>
         ensures ask { result ≡ self.old.ask }
         ensures rest { self.new ≡ record self.old { ask = None } }
     {
@@ -177,7 +177,7 @@ impl Care {
     }
 
     /// Tells how many of the numbers of a range that was asked for have each answer, unless faults alone are told.
-    pub fn tell_answers<E: Write>(&self, ask: &Ask, log: &mut Log<'_, E>) {
+    pub fn tell_answers<E: Write>(&self, ask: &RangeAsk, log: &mut Log<'_, E>) {
         if self.is_quiet {
             return;
         }

@@ -16,7 +16,7 @@ const MOST_RANGES: usize = 20;
 
 /// How all numbers stand.
 #[derive(Drop)]
-pub struct Survey {
+pub struct NumberSurvey {
     /// How many went out, and the greatest of them, or 0.
     pub released: u32,
     pub greatest: u32,
@@ -46,10 +46,10 @@ fn is_lacked(lacked: &Option<Numbers>, number: Number) -> bool
     }
 }
 
-impl Survey {
+impl NumberSurvey {
     /// Nothing was looked at yet.
-    fn new(alloc: Global) -> Survey {
-        Survey {
+    fn new(alloc: Global) -> NumberSurvey {
+        NumberSurvey {
             released: 0,
             greatest: 0,
             missing: Vec::new(alloc),
@@ -105,7 +105,7 @@ impl Care {
     }
 
     /// Takes a number into a survey.
-    fn survey_number(&self, survey: &mut Survey, number: Number) -> Result<(), AllocError> {
+    fn survey_number(&self, survey: &mut NumberSurvey, number: Number) -> Result<(), AllocError> {
         if self.catch_up.has_gone_out(number) {
             survey.add_released(number);
             return Ok(());
@@ -121,8 +121,8 @@ impl Care {
     /// # Errors
     ///
     /// Out of memory.
-    pub fn survey(&self) -> Result<Survey, AllocError> {
-        let mut survey = Survey::new(self.alloc);
+    pub fn survey(&self) -> Result<NumberSurvey, AllocError> {
+        let mut survey = NumberSurvey::new(self.alloc);
         for value in 1..Number::LAST + 1 {
             if let Some(number) = Number::new(value) {
                 self.survey_number(&mut survey, number)?;

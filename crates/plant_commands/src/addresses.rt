@@ -1,7 +1,7 @@
 //! The addresses of a circuit, as they are seen from this host.
 
 use command_ends::Fault;
-use config_check::{Oddity, Place, Reach, is_even, oddity_of, place_of, reach_of};
+use config_check::{HostPlace, Oddity, Reach, is_even, oddity_of, place_of, reach_of};
 use configuration::Config;
 use std::io;
 use std::io::Write;
@@ -25,24 +25,24 @@ fn reach_at(address: &Address) -> Reach {
 }
 
 /// Writes where a station is; whether that is no fault.
-fn put_place<W: Write>(place: Place, address: &Address, out: &mut W) -> io::Result<bool> {
+fn put_place<W: Write>(place: HostPlace, address: &Address, out: &mut W) -> io::Result<bool> {
     let member = address.member.get();
     let [a, b, c, d] = address.ip;
     let port = address.port;
     let (mark, what) = match place {
-        Place::Own => ("", "is this one, on this host"),
-        Place::Amiss => (
+        HostPlace::Own => ("", "is this one, on this host"),
+        HostPlace::Amiss => (
             "fault: ",
             "is this one, and that is no address of this host",
         ),
-        Place::Beside => ("", "is on this host too"),
-        Place::Away => ("", "is on another host"),
+        HostPlace::Beside => ("", "is on this host too"),
+        HostPlace::Away => ("", "is on another host"),
     };
     writeln!(
         out,
         "{mark}station {member} at {a}.{b}.{c}.{d}:{port} {what}"
     )?;
-    Ok(place != Place::Amiss)
+    Ok(place != HostPlace::Amiss)
 }
 
 /// Writes what is odd about the address of a station, if anything.

@@ -6,7 +6,7 @@ use crate::folders_check::put_folders;
 use crate::key_check::put_key;
 use command_ends::{End, Fault, read_text};
 use configuration::{Config, ConfigFault, Resolver, faults_of, find_hosts};
-use opened_files::Opened;
+use opened_files::InputFile;
 use std::alloc::Global;
 use std::io::Write;
 use std::str;
@@ -70,7 +70,7 @@ pub fn check_config<W: Write, E: Write>(
     out: &mut W,
     err: &mut E,
 ) -> End {
-    let mut input = Opened::at(rt, config);
+    let mut input = InputFile::at(rt, config);
     let bytes = match read_text(rt.alloc(), &mut input, config) {
         Ok(bytes) => bytes,
         Err(fault) => return fault.tell(err),

@@ -4,7 +4,7 @@ use code_table::CodeTable;
 use command_ends::{Fault, read_table, read_widths};
 use config_check::{elevate_frame, fitting_frame};
 use configuration::Config;
-use opened_files::Opened;
+use opened_files::InputFile;
 use std::io::{ErrorKind, Write};
 use std::{fs, io};
 use widths::Widths;
@@ -48,9 +48,9 @@ pub(crate) fn put_tables<'a, W: Write>(
     config: &'a Config,
     out: &mut W,
 ) -> Result<bool, Fault<'a>> {
-    let mut input = Opened::at(rt, &config.table);
+    let mut input = InputFile::at(rt, &config.table);
     let table = read_or_tell(read_table(rt.alloc(), &mut input, &config.table), out)?;
-    let mut input = Opened::at(rt, &config.widths);
+    let mut input = InputFile::at(rt, &config.widths);
     let widths = read_or_tell(read_widths(rt.alloc(), &mut input, &config.widths), out)?;
     let (Some(table), Some(widths)) = (&table, &widths) else {
         return Ok(false);

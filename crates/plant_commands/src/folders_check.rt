@@ -1,7 +1,7 @@
 //! The folders that a configuration names.
 
 use command_ends::Fault;
-use configuration::{Config, Folders};
+use configuration::{Config, WorkFolders};
 use host_folders::{PlantPaths, why_misplaced, why_no_folder};
 use std::io;
 use std::io::Write;
@@ -41,7 +41,7 @@ fn put_both<W: Write>(rt: &HostRuntime, paths: &PlantPaths<'_>, out: &mut W) -> 
 }
 
 /// Where a plant lies whose configuration at a path names these folders.
-fn paths_of<'a>(path: &'a str, config: &'a Config, folders: &'a Folders) -> PlantPaths<'a> {
+fn paths_of<'a>(path: &'a str, config: &'a Config, folders: &'a WorkFolders) -> PlantPaths<'a> {
     PlantPaths {
         configuration: path,
         table: &config.table,

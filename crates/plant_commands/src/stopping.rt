@@ -6,7 +6,7 @@ use command_ends::{End, Fault};
 use configuration::{Config, ConfigInput, NoLookUp, read_config};
 use folders::FolderFault;
 use host_folders::{await_end, lay_stop};
-use opened_files::Opened;
+use opened_files::InputFile;
 use std::io::Write;
 
 /// How many seconds it is waited for a station to end. It copies its log into its row file, which has a thousand pages at most.
@@ -65,7 +65,7 @@ pub fn stop<E: Write>(rt: &HostRuntime, config: &str, err: &mut E) -> End
 {
     let file = ConfigInput {
         path: config,
-        input: Opened::at(rt, config),
+        input: InputFile::at(rt, config),
     };
     // No station is talked to, so no host is looked up: it ends also where the names are not known any more.
     match read_config(rt.alloc(), &NoLookUp, file, err) {

@@ -7,8 +7,8 @@ use Rattle.tape_frames.specs.Entries.{owned_entry}
 use Rattle.text_tape.specs.Punching.{IsPunched}
 use Rattle.folders.specs.Doings.{Doing, saw_file, read_file}
 use Rattle.folders.specs.Offers.{IsNameOf}
-use Rattle.folders.specs.declared.names.Kind.{Kind}
-use Rattle.folders.specs.declared.names.Kind.TheVariants as kinds
+use Rattle.folders.specs.declared.names.OfferKind.{OfferKind}
+use Rattle.folders.specs.declared.names.OfferKind.TheVariants as kinds
 use Rattle.folders.specs.declared.wishes.Wish.{Wish}
 use Rattle.folders.specs.declared.wishes.Wish.TheVariants.{Offered, Sought}
 
@@ -28,7 +28,7 @@ pub record IsOfText (texts : Texts) (text : List ℕ) (entry : Option Entry) : T
   pub entry_is : entry ≡ Some (Taped tape)
 
 -- a file of this kind that holds this stands for this entry: its frames, the tape of its text, or the withdrawal; a search stands for none
-abbrev pub StandsFor : Texts → Kind → List ℕ → Option Entry → Type 0
+abbrev pub StandsFor : Texts → OfferKind → List ℕ → Option Entry → Type 0
 StandsFor texts kinds.Tape bytes entry = entry ≡ Some (Taped bytes)
 StandsFor texts kinds.Text bytes entry = IsOfText texts bytes entry
 StandsFor texts kinds.Withdraw bytes entry = entry ≡ Some Void
@@ -40,7 +40,7 @@ wished (Offered entry) = Some (owned_entry entry)
 wished Sought = None
 
 -- a file of this kind and name lay among the offers: a tape or a text with these bytes was read, any other was found
-abbrev pub LayThere : List Doing → Kind → List ℕ → List ℕ → Type 0
+abbrev pub LayThere : List Doing → OfferKind → List ℕ → List ℕ → Type 0
 LayThere doings kinds.Tape name bytes = IsAmong doings (read_file (record { name = name; bytes = bytes }))
 LayThere doings kinds.Text name bytes = IsAmong doings (read_file (record { name = name; bytes = bytes }))
 LayThere doings kinds.Withdraw name bytes = IsAmong doings (saw_file name)
@@ -48,7 +48,7 @@ LayThere doings kinds.Seek name bytes = IsAmong doings (saw_file name)
 
 -- a file of this number lay among the offers and stands for this entry, a text by this table
 pub record WasLaid (texts : Texts) (doings : List Doing) (n : ℕ) (entry : Entry) : Type 0 where
-  pub kind : Kind
+  pub kind : OfferKind
   pub name : List ℕ
   pub bytes : List ℕ
   pub named : IsNameOf name n kind

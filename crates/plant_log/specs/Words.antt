@@ -8,19 +8,19 @@ use Rattle.folders.specs.FaultWords.{fault_word}
 use Rattle.folders.specs.declared.fault.FolderFault.{FolderFault}
 use Rattle.folders.specs.declared.folders.News.{News}
 use Rattle.folders.specs.declared.folders.News.TheVariants.{OtherOffers, OtherReleases, WrittenAnew}
-use Rattle.offers.specs.declared.stage.Reason.{Reason}
-use Rattle.offers.specs.declared.stage.Reason.TheVariants as reasons
-use Rattle.plant_log.specs.declared.event.Event.{Event}
-use Rattle.plant_log.specs.declared.event.Event.TheVariants.{Began, GaveUp, Nothing, Released, Sent, Lost, Done, Replaced}
-use Rattle.plant_log.specs.declared.line.Line.{Line}
-use Rattle.plant_log.specs.declared.line.Line.TheVariants as lines
+use Rattle.offers.specs.declared.stage.OfferFault.{OfferFault}
+use Rattle.offers.specs.declared.stage.OfferFault.TheVariants as reasons
+use Rattle.plant_log.specs.declared.event.LogEvent.{LogEvent}
+use Rattle.plant_log.specs.declared.event.LogEvent.TheVariants.{Began, GaveUp, Nothing, Released, Sent, Lost, Done, Replaced}
+use Rattle.plant_log.specs.declared.line.LogLine.{LogLine}
+use Rattle.plant_log.specs.declared.line.LogLine.TheVariants as lines
 
 -- a ballot, as `round.owner`
 abbrev pub ballot_text : Ballot → List ℕ
 ballot_text b = decimal b.round ++ (codes "." ++ decimal b.owner)
 
 -- a number and what befell it, as `12 began 1.2`; of a search that was answered its file
-abbrev pub event_text : Event → List ℕ
+abbrev pub event_text : LogEvent → List ℕ
 event_text (Began n b) = decimal n ++ (codes " began " ++ ballot_text b)
 event_text (GaveUp n b) = decimal n ++ (codes " gave-up " ++ ballot_text b)
 event_text (Nothing n b) = decimal n ++ (codes " nothing " ++ ballot_text b)
@@ -51,7 +51,7 @@ abbrev pub file_text : List ℕ → List ℕ → FolderFault → List ℕ
 file_text what name fault = codes "folders: " ++ (what ++ (codes " " ++ (name ++ (codes ": " ++ fault_word fault))))
 
 -- a line, without its end
-abbrev pub line_text : Line → List ℕ
+abbrev pub line_text : LogLine → List ℕ
 line_text (lines.Event event) = event_text event
 line_text (lines.Refused name why) = refused_text name.now why.now
 line_text (lines.Differs refusal) = differs_text refusal
@@ -66,7 +66,7 @@ news_text OtherReleases = codes "releases is another folder now"
 news_text WrittenAnew = codes "a release was written anew"
 
 -- why a file is no offer: of bytes that are no tape it is left open here
-abbrev pub reason_text : Reason → Option (List ℕ)
+abbrev pub reason_text : OfferFault → Option (List ℕ)
 reason_text (reasons.Tape fault) = None
 reason_text (reasons.Text fault) = Some (error_text fault)
 reason_text reasons.LongText = Some (codes "input too long")

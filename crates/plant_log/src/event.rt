@@ -8,7 +8,7 @@ use std::fmt;
 
 /// Something that an operator may want to know, with its number.
 #[derive(Clone, Copy)]
-pub enum Event {
+pub enum LogEvent {
     /// A ballot was begun.
     Began { number: u32, ballot: Ballot },
     /// The ballots came to no end.
@@ -39,27 +39,31 @@ impl fmt::Display for BallotText {
     }
 }
 
-impl fmt::Display for Event {
+impl fmt::Display for LogEvent {
     ghost output = { λ e. Some (event_text e) };
 
     fn fmt<W: fmt::Write>(&self, f: &mut fmt::Formatter<W>) -> fmt::Result {
         match *self {
-            Event::Began { number, ballot } => write!(f, "{number} began {}", BallotText(ballot)),
-            Event::GaveUp { number, ballot } => write!(
+            LogEvent::Began { number, ballot } => write!(
+                f,
+                "{number} began {}",
+                BallotText(ballot)
+            ),
+            LogEvent::GaveUp { number, ballot } => write!(
                 f,
                 "{number} gave-up {}",
                 BallotText(ballot)
             ),
-            Event::Nothing { number, ballot } => write!(
+            LogEvent::Nothing { number, ballot } => write!(
                 f,
                 "{number} nothing {}",
                 BallotText(ballot)
             ),
-            Event::Released { number } => write!(f, "{number} released"),
-            Event::Sent { number } => write!(f, "{number} sent"),
-            Event::Lost { number } => write!(f, "{number} lost"),
-            Event::Done { number } => write!(f, "done {number}.seek: nothing, ten times"),
-            Event::Replaced { number } => write!(f, "{number} replaced while it was under way"),
+            LogEvent::Released { number } => write!(f, "{number} released"),
+            LogEvent::Sent { number } => write!(f, "{number} sent"),
+            LogEvent::Lost { number } => write!(f, "{number} lost"),
+            LogEvent::Done { number } => write!(f, "done {number}.seek: nothing, ten times"),
+            LogEvent::Replaced { number } => write!(f, "{number} replaced while it was under way"),
         }
     }
 }

@@ -8,7 +8,7 @@ ghost use Rattle.plant_log.specs.Troubles.{is_gone, Notices};
 
 use crate::room::keep;
 use crate::standing::{Standing, is_told_anew};
-use folders::{FolderFault, Request};
+use folders::{FileRequest, FolderFault};
 use offers::rank;
 use std::alloc::Global;
 use std::collections::BTreeMap;
@@ -16,13 +16,13 @@ use std::collections::BTreeMap;
 /// What can't be done with the file that asks for this, and why.
 #[derive(Clone, Copy)]
 pub struct Trouble {
-    pub request: Request,
+    pub request: FileRequest,
     pub fault: FolderFault,
 }
 
 /// Why files were not read or moved, as it was told last, by their places among all files that there can be: of 65,536 at most.
 #[derive(Drop)]
-pub(crate) struct Files {
+pub(crate) struct ToldFaults {
     kept: BTreeMap<u32, Standing>,
 }
 
@@ -33,12 +33,12 @@ fn is_gone(fault: FolderFault) -> bool
     matches!(fault, FolderFault::Missing | FolderFault::Changed)
 }
 
-impl Files {
+impl ToldFaults {
     /// Nothing was told of any.
-    pub(crate) fn new(alloc: Global) -> Files
+    pub(crate) fn new(alloc: Global) -> ToldFaults
         ensures { result.kept.entries ≡ [] }
     {
-        Files {
+        ToldFaults {
             kept: BTreeMap::new(alloc),
         }
     }
@@ -74,7 +74,7 @@ impl Files {
     }
 
     /// The file that asks for this was read, or moved: what was told of it is forgotten.
-    pub(crate) fn done(&mut self, request: Request)
+    pub(crate) fn done(&mut self, request: FileRequest)
         ensures forgets { Updates nat_cmp self.old.kept self.new.kept (rank request) None }
         ensures bound { btree_map_len self.new.kept ≤ btree_map_len self.old.kept }
     {

@@ -16,9 +16,9 @@ mod story;
 mod told;
 mod writing;
 
-pub use event::Event;
+pub use event::LogEvent;
 pub use files::Trouble;
-pub use line::FileFault;
+pub use line::FileTrouble;
 pub use reason::{NO_NUMBER, ReasonText};
 pub use room::MOST_KEPT;
 pub use standing::{HOUR, Standing, is_told_anew, told_after};

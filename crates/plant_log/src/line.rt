@@ -3,7 +3,7 @@
 ghost use Rattle.std.specs.Prelude.{◌≡◌, Some};
 ghost use Rattle.plant_log.specs.Words.{file_text, line_text, news_text};
 
-use crate::event::Event;
+use crate::event::LogEvent;
 use command_ends::RefusalText;
 use folders::{FolderFault, News};
 use refusals::StepRefusal;
@@ -11,7 +11,7 @@ use std::fmt;
 
 /// A folder does not serve for a file.
 #[derive(Clone, Copy)]
-pub struct FileFault<'a> {
+pub struct FileTrouble<'a> {
     /// What can't be done, as `cannot read`.
     pub what: &'a str,
     /// The name of the file.
@@ -22,9 +22,9 @@ pub struct FileFault<'a> {
 
 /// A line of the log. Names in it are as the log shows them.
 #[derive(Clone, Copy)]
-pub(crate) enum Line<'a> {
+pub(crate) enum LogLine<'a> {
     /// What befell a number.
-    Event(Event),
+    Event(LogEvent),
     /// A file is no offer.
     Refused { name: &'a str, why: &'a str },
     /// A datagram shows that its sender has another configuration.
@@ -34,7 +34,7 @@ pub(crate) enum Line<'a> {
     /// A folder does not serve.
     Folder { what: &'a str, fault: FolderFault },
     /// A folder does not serve for a file.
-    File(FileFault<'a>),
+    File(FileTrouble<'a>),
 }
 
 /// What befell a folder.
@@ -48,7 +48,7 @@ pub(crate) fn news_text(news: News) -> &'static str
     }
 }
 
-impl<'a> fmt::Display for FileFault<'a> {
+impl<'a> fmt::Display for FileTrouble<'a> {
     ghost output = { λ l. Some (file_text l.what.now l.name.now l.fault) };
 
     fn fmt<W: fmt::Write>(&self, f: &mut fmt::Formatter<W>) -> fmt::Result {
@@ -56,17 +56,17 @@ impl<'a> fmt::Display for FileFault<'a> {
     }
 }
 
-impl<'a> fmt::Display for Line<'a> {
+impl<'a> fmt::Display for LogLine<'a> {
     ghost output = { λ l. Some (line_text l) };
 
     fn fmt<W: fmt::Write>(&self, f: &mut fmt::Formatter<W>) -> fmt::Result {
         match *self {
-            Line::Event(event) => write!(f, "{event}"),
-            Line::Refused { name, why } => write!(f, "refused {name}: {why}"),
-            Line::Differs(refusal) => write!(f, "refused {}", RefusalText(refusal)),
-            Line::Folders(what) => write!(f, "folders: {what}"),
-            Line::Folder { what, fault } => write!(f, "folders: {what}: {fault}"),
-            Line::File(file) => write!(f, "{file}"),
+            LogLine::Event(event) => write!(f, "{event}"),
+            LogLine::Refused { name, why } => write!(f, "refused {name}: {why}"),
+            LogLine::Differs(refusal) => write!(f, "refused {}", RefusalText(refusal)),
+            LogLine::Folders(what) => write!(f, "folders: {what}"),
+            LogLine::Folder { what, fault } => write!(f, "folders: {what}: {fault}"),
+            LogLine::File(file) => write!(f, "{file}"),
         }
     }
 }

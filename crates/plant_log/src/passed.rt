@@ -5,7 +5,7 @@ ghost use Rattle.std.specs.BTreeMap.{get_by_text};
 ghost use Rattle.plant_log.specs.Telling.{TellsIf};
 ghost use Rattle.plant_log.specs.Passing.{IsPassingTold, KeepsOne, Remembers, TellsPassed, passing_text};
 
-use crate::line::FileFault;
+use crate::line::FileTrouble;
 use crate::standing::{Standing, is_told_anew, told_after};
 use crate::writing::tell_file;
 use folders::{PassedOver, is_left};
@@ -59,7 +59,7 @@ impl Passed {
         ensures { TellsIf (IsPassingTold self.now.kept now each.now) (passing_text each.now) (E.contents err.old) (E.contents err.new) }
     {
         if self.is_told(each, now) {
-            let file = FileFault {
+            let file = FileTrouble {
                 what: "cannot read",
                 name: each.name.as_str(),
                 fault: each.fault,

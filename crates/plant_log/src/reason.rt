@@ -4,7 +4,7 @@ ghost use Rattle.std.specs.Prelude.{◌≡◌};
 ghost use Rattle.plant_log.specs.Words.{reason_text};
 
 use command_ends::{Fault, RefusalText};
-use offers::Reason;
+use offers::OfferFault;
 use std::fmt;
 
 /// Why a file is no offer whose name asks for nothing.
@@ -12,18 +12,18 @@ pub const NO_NUMBER: &str = "no number";
 
 /// Why a file is no offer, though its name asks for something.
 #[derive(Clone, Copy)]
-pub struct ReasonText(pub Reason);
+pub struct ReasonText(pub OfferFault);
 
 impl fmt::Display for ReasonText {
     ghost output = { λ r. reason_text r.0 };
 
     fn fmt<W: fmt::Write>(&self, f: &mut fmt::Formatter<W>) -> fmt::Result {
         match self.0 {
-            Reason::Tape(fault) => write!(f, "{}", Fault::of_tape(fault)),
-            Reason::Text(fault) => write!(f, "{fault}"),
-            Reason::LongText => f.write_str("input too long"),
-            Reason::NoTexts => f.write_str(NO_NUMBER),
-            Reason::Step(refusal) => write!(f, "{}", RefusalText(refusal)),
+            OfferFault::Tape(fault) => write!(f, "{}", Fault::of_tape(fault)),
+            OfferFault::Text(fault) => write!(f, "{fault}"),
+            OfferFault::LongText => f.write_str("input too long"),
+            OfferFault::NoTexts => f.write_str(NO_NUMBER),
+            OfferFault::Step(refusal) => write!(f, "{}", RefusalText(refusal)),
         }
     }
 }

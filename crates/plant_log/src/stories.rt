@@ -5,16 +5,16 @@ ghost use Rattle.std.specs.Ordering.{nat_cmp};
 ghost use Rattle.std.specs.BTreeMap.{btree_map_len, get, Updates};
 ghost use Rattle.plant_log.specs.Stories.{known, Hears, HearsOf};
 
-use crate::event::Event;
+use crate::event::LogEvent;
 use crate::room::keep;
-use crate::story::{Story, Turn};
+use crate::story::{BallotTurn, StoryNote};
 use std::alloc::Global;
 use std::collections::BTreeMap;
 
 /// What is kept in mind of the numbers that are under way: of 65,536 at most.
 #[derive(Drop)]
 pub(crate) struct Stories {
-    kept: BTreeMap<u32, Story>,
+    kept: BTreeMap<u32, StoryNote>,
 }
 
 impl Stories {
@@ -28,17 +28,17 @@ impl Stories {
     }
 
     /// What is kept in mind of a number.
-    fn story(&self, number: u32) -> Story
+    fn story(&self, number: u32) -> StoryNote
         ensures { result ≡ known (get nat_cmp self.now.kept number) }
     {
         match self.kept.get(&number) {
             Some(story) => *story,
-            None => Story::first(),
+            None => StoryNote::first(),
         }
     }
 
     /// Whether this is told of the ballots of a number, at a moment in milliseconds. Where nothing more can be kept in mind, it is.
-    fn hear(&mut self, number: u32, turn: Turn, now: u64) -> bool
+    fn hear(&mut self, number: u32, turn: BallotTurn, now: u64) -> bool
         ensures hears { HearsOf number turn now result self.old.kept self.new.kept }
         ensures bound { btree_map_len self.old.kept ≤ 65_536 → btree_map_len self.new.kept ≤ 65_536 }
     {
@@ -59,21 +59,21 @@ impl Stories {
     }
 
     /// Whether something is told in the usual log, at a moment in milliseconds.
-    pub(crate) fn are_told(&mut self, event: Event, now: u64) -> bool
+    pub(crate) fn are_told(&mut self, event: LogEvent, now: u64) -> bool
         ensures hears { Hears event now result self.old.kept self.new.kept }
         ensures bound { btree_map_len self.old.kept ≤ 65_536 → btree_map_len self.new.kept ≤ 65_536 }
     {
         match event {
-            Event::Began { number, .. } => self.hear(number, Turn::Begins, now),
-            Event::GaveUp { number, .. } | Event::Nothing { number, .. } => {
-                self.hear(number, Turn::Ends, now)
+            LogEvent::Began { number, .. } => self.hear(number, BallotTurn::Begins, now),
+            LogEvent::GaveUp { number, .. } | LogEvent::Nothing { number, .. } => {
+                self.hear(number, BallotTurn::Ends, now)
             }
-            Event::Released { number } => {
+            LogEvent::Released { number } => {
                 self.forget(number);
                 true
             }
-            Event::Sent { .. } | Event::Done { .. } => false,
-            Event::Lost { .. } | Event::Replaced { .. } => true,
+            LogEvent::Sent { .. } | LogEvent::Done { .. } => false,
+            LogEvent::Lost { .. } | LogEvent::Replaced { .. } => true,
         }
     }
 }

@@ -16,7 +16,7 @@ pub(crate) enum Begun {
 
 /// What is kept in mind of a number that is under way.
 #[derive(Clone, Copy)]
-pub(crate) struct Story {
+pub(crate) struct StoryNote {
     begun: Begun,
     /// When it was told last that its ballots came to nothing, in milliseconds.
     ended: Option<u64>,
@@ -24,7 +24,7 @@ pub(crate) struct Story {
 
 /// What befalls the ballots of a number.
 #[derive(Clone, Copy)]
-pub(crate) enum Turn {
+pub(crate) enum BallotTurn {
     /// One is begun.
     Begins,
     /// They come to nothing.
@@ -33,9 +33,9 @@ pub(crate) enum Turn {
 
 /// Whether something is told, and what is kept in mind of the number from then on.
 #[derive(Clone, Copy)]
-pub(crate) struct Heard {
+pub(crate) struct StoryChange {
     pub(crate) is_told: bool,
-    pub(crate) story: Story,
+    pub(crate) story: StoryNote,
 }
 
 /// Whether a ballot is told where so many were begun before it: the second is.
@@ -65,36 +65,36 @@ fn is_due(told: Option<u64>, now: u64) -> bool
     }
 }
 
-impl Story {
+impl StoryNote {
     /// Nothing was told yet.
-    pub(crate) fn first() -> Story
+    pub(crate) fn first() -> StoryNote
         ensures { result ≡ first_story }
     {
-        Story {
+        StoryNote {
             begun: Begun::Never,
             ended: None,
         }
     }
 
     /// What is told of this, at a moment in milliseconds.
-    pub(crate) fn hear(self, turn: Turn, now: u64) -> Heard
+    pub(crate) fn hear(self, turn: BallotTurn, now: u64) -> StoryChange
         ensures { result ≡ heard self turn now }
     {
-        let Story { begun, ended } = self;
+        let StoryNote { begun, ended } = self;
         match turn {
-            Turn::Begins => Heard {
+            BallotTurn::Begins => StoryChange {
                 is_told: is_second(begun),
-                story: Story {
+                story: StoryNote {
                     begun: one_more(begun),
                     ended,
                 },
             },
-            Turn::Ends => {
+            BallotTurn::Ends => {
                 let is_told = is_due(ended, now);
                 let ended = if is_told { Some(now) } else { ended };
-                Heard {
+                StoryChange {
                     is_told,
-                    story: Story { begun, ended },
+                    story: StoryNote { begun, ended },
                 }
             }
         }

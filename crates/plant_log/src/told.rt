@@ -16,9 +16,9 @@ ghost use Rattle.plant_log.specs.Refusing.{TellsNoOffer};
 ghost use Rattle.plant_log.specs.Troubles.{Notices, TellsTrouble, TellsTroubleIf};
 
 use crate::differences::Differences;
-use crate::event::Event;
-use crate::files::{Files, Trouble};
-use crate::line::{FileFault, Line};
+use crate::event::LogEvent;
+use crate::files::{ToldFaults, Trouble};
+use crate::line::{FileTrouble, LogLine};
 use crate::passed::Passed;
 use crate::skipped::Skipped;
 use crate::standing::{Standing, is_told_anew, told_after};
@@ -27,9 +27,9 @@ use crate::writing::{
     tell_event, tell_fault, tell_file, tell_folders, tell_line, tell_no_memory, tell_no_offer,
     tell_refused,
 };
-use folders::{FolderFault, PassedOver, Request, name_of};
+use folders::{FileRequest, FolderFault, PassedOver, name_of};
 use log_terms::Loudness;
-use offers::Reason;
+use offers::OfferFault;
 use refusals::StepRefusal;
 use std::alloc::Global;
 use std::io::Write;
@@ -48,7 +48,7 @@ pub struct Told {
     skipped: Skipped,
     passed: Passed,
     /// Why files were not read or moved.
-    files: Files,
+    files: ToldFaults,
     /// That other stations have other configurations.
     differences: Differences,
 }
@@ -68,13 +68,13 @@ impl Told {
             unwritten: None,
             skipped: Skipped::new(),
             passed: Passed::new(alloc),
-            files: Files::new(alloc),
+            files: ToldFaults::new(alloc),
             differences: Differences::new(),
         }
     }
 
     /// Whether something is told that befell a number, at a moment.
-    fn are_told(&mut self, event: &Event, now: u64) -> bool
+    fn are_told(&mut self, event: &LogEvent, now: u64) -> bool
         ensures hears { IsHeard self.old.loudness event.now now result self.old.stories.kept self.new.stories.kept }
         ensures bound { btree_map_len self.old.stories.kept ≤ 65_536 → btree_map_len self.new.stories.kept ≤ 65_536 }
         ensures rest { self.new ≡ record self.old { stories = self.new.stories } }
@@ -87,7 +87,7 @@ impl Told {
     }
 
     /// Tells what befell a number at a moment, as far as it is told.
-    pub fn tell<E: Write>(&mut self, event: Event, now: u64, err: &mut E)
+    pub fn tell<E: Write>(&mut self, event: LogEvent, now: u64, err: &mut E)
         ensures tells { (told : Bool) × IsHeard self.old.loudness event now told self.old.stories.kept self.new.stories.kept × TellsIf (told ≡ true) (event_text event) (E.contents err.old) (E.contents err.new) }
         ensures bound { btree_map_len self.old.stories.kept ≤ 65_536 → btree_map_len self.new.stories.kept ≤ 65_536 }
         ensures rest { self.new ≡ record self.old { stories = self.new.stories } }
@@ -108,7 +108,7 @@ impl Told {
     }
 
     /// Tells why the file that asks for this is no offer, unless faults alone are told.
-    pub fn no_offer<E: Write>(&self, request: Request, reason: Reason, err: &mut E)
+    pub fn no_offer<E: Write>(&self, request: FileRequest, reason: OfferFault, err: &mut E)
         ensures told { IsTellingRefused self.now.loudness → TellsNoOffer request reason (E.contents err.old) (E.contents err.new) }
         ensures quiet { ¬ IsTellingRefused self.now.loudness → E.contents err.new ≡ E.contents err.old }
     {
@@ -124,7 +124,7 @@ impl Told {
         ensures rest { self.new ≡ record self.old { differences = differ_after self.old.differences refusal now } }
     {
         if self.differences.are_told_by(refusal, now) {
-            tell_line(self.alloc, &Line::Differs(refusal), err);
+            tell_line(self.alloc, &LogLine::Differs(refusal), err);
         }
     }
 
@@ -200,7 +200,7 @@ impl Told {
     {
         match name_of(self.alloc, trouble.request) {
             Ok(name) => {
-                let file = FileFault {
+                let file = FileTrouble {
                     what,
                     name: name.as_str(),
                     fault: trouble.fault,
@@ -235,7 +235,7 @@ impl Told {
     pub fn stuck<E: Write>(&self, name: &str, fault: FolderFault, err: &mut E)
         ensures { WasTold (file_text (codes "cannot move") (shown_name name.now) fault) (E.contents err.old) (E.contents err.new) }
     {
-        let file = FileFault {
+        let file = FileTrouble {
             what: "cannot move",
             name,
             fault,
@@ -244,7 +244,7 @@ impl Told {
     }
 
     /// A file was read, or moved.
-    pub fn is_done(&mut self, request: &Request)
+    pub fn is_done(&mut self, request: &FileRequest)
         ensures forgets { Updates nat_cmp self.old.files.kept self.new.files.kept (rank request.now) None }
         ensures rest { self.new ≡ record self.old { files = self.new.files } }
     {

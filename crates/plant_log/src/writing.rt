@@ -7,11 +7,11 @@ ghost use Rattle.plant_log.specs.Words.{event_text, file_text, folder_text, fold
 ghost use Rattle.plant_log.specs.Telling.{TellsNews, WasTold};
 ghost use Rattle.plant_log.specs.Refusing.{TellsNoOffer};
 
-use crate::event::Event;
-use crate::line::{FileFault, Line, news_text};
+use crate::event::LogEvent;
+use crate::line::{FileTrouble, LogLine, news_text};
 use crate::reason::ReasonText;
-use folders::{FolderFault, News, Request, name_of, shown_name};
-use offers::Reason;
+use folders::{FileRequest, FolderFault, News, name_of, shown_name};
+use offers::OfferFault;
 use std::alloc::Global;
 use std::io::Write;
 use streams::put_all;
@@ -35,7 +35,7 @@ pub(crate) fn tell_no_memory<E: Write>(err: &mut E)
 }
 
 /// Writes a line, at once. That the writer fails is ignored.
-pub(crate) fn tell_line<E: Write>(alloc: Global, line: &Line<'_>, err: &mut E)
+pub(crate) fn tell_line<E: Write>(alloc: Global, line: &LogLine<'_>, err: &mut E)
     ensures { WasTold (line_text line.now) (E.contents err.old) (E.contents err.new) }
 {
     match format!(in alloc; "{line}\n") {
@@ -45,10 +45,10 @@ pub(crate) fn tell_line<E: Write>(alloc: Global, line: &Line<'_>, err: &mut E)
 }
 
 /// Writes what befell a number.
-pub(crate) fn tell_event<E: Write>(alloc: Global, event: &Event, err: &mut E)
+pub(crate) fn tell_event<E: Write>(alloc: Global, event: &LogEvent, err: &mut E)
     ensures { WasTold (event_text event.now) (E.contents err.old) (E.contents err.new) }
 {
-    tell_line(alloc, &Line::Event(*event), err);
+    tell_line(alloc, &LogLine::Event(*event), err);
 }
 
 /// Writes why the file of this name is no offer.
@@ -58,14 +58,19 @@ pub fn tell_refused<E: Write>(alloc: Global, name: &str, why: &str, err: &mut E)
     match shown_name(alloc, name) {
         Ok(shown) => {
             let name = shown.as_str();
-            tell_line(alloc, &Line::Refused { name, why }, err);
+            tell_line(alloc, &LogLine::Refused { name, why }, err);
         }
         Err(_) => tell_no_memory(err),
     }
 }
 
 /// Writes why the file that asks for this is no offer.
-pub(crate) fn tell_no_offer<E: Write>(alloc: Global, request: Request, reason: Reason, err: &mut E)
+pub(crate) fn tell_no_offer<E: Write>(
+    alloc: Global,
+    request: FileRequest,
+    reason: OfferFault,
+    err: &mut E,
+)
     ensures { TellsNoOffer request reason (E.contents err.old) (E.contents err.new) }
 {
     let why = format!(in alloc; "{}", ReasonText(reason));
@@ -79,28 +84,28 @@ pub(crate) fn tell_no_offer<E: Write>(alloc: Global, request: Request, reason: R
 pub fn tell_folders<E: Write>(alloc: Global, what: &str, err: &mut E)
     ensures { WasTold (folders_text what.now) (E.contents err.old) (E.contents err.new) }
 {
-    tell_line(alloc, &Line::Folders(what), err);
+    tell_line(alloc, &LogLine::Folders(what), err);
 }
 
 /// Writes that a folder does not serve.
 pub fn tell_fault<E: Write>(alloc: Global, what: &str, fault: FolderFault, err: &mut E)
     ensures { WasTold (folder_text what.now fault) (E.contents err.old) (E.contents err.new) }
 {
-    tell_line(alloc, &Line::Folder { what, fault }, err);
+    tell_line(alloc, &LogLine::Folder { what, fault }, err);
 }
 
 /// Writes that a folder does not serve for a file, whose name is shown as the log shows names.
-pub fn tell_file<E: Write>(alloc: Global, file: &FileFault<'_>, err: &mut E)
+pub fn tell_file<E: Write>(alloc: Global, file: &FileTrouble<'_>, err: &mut E)
     ensures { WasTold (file_text file.now.what.now (shown_name file.now.name.now) file.now.fault) (E.contents err.old) (E.contents err.new) }
 {
     match shown_name(alloc, file.name) {
         Ok(shown) => {
-            let file = FileFault {
+            let file = FileTrouble {
                 what: file.what,
                 name: shown.as_str(),
                 fault: file.fault,
             };
-            tell_line(alloc, &Line::File(file), err);
+            tell_line(alloc, &LogLine::File(file), err);
         }
         Err(_) => tell_no_memory(err),
     }

@@ -2,14 +2,14 @@
 use Rattle.std.specs.Prelude.{ℕ, ◌/◌, ◌%◌, ◌==◌, ◌&&◌, Bool, List, [], ◌∷◌, ◌++◌, flat_map, Option, Some, None, if◌then◌else◌, codes, decimal}
 use Rattle.plant_status.specs.declared.moment.Moment.{Moment}
 use Rattle.plant_status.specs.declared.status.StationId.{StationId}
-use Rattle.plant_status.specs.declared.status.Heard.{Heard}
+use Rattle.plant_status.specs.declared.status.HeardMember.{HeardMember}
 use Rattle.plant_status.specs.declared.status.Released.{Released}
 use Rattle.plant_status.specs.declared.status.Purpose.{Purpose}
 use Rattle.plant_status.specs.declared.status.Purpose.TheVariants as purposes
 use Rattle.plant_status.specs.declared.status.Busy.{Busy}
-use Rattle.plant_status.specs.declared.status.Span.{Span}
+use Rattle.plant_status.specs.declared.status.NumberSpan.{NumberSpan}
 use Rattle.plant_status.specs.declared.status.Missing.{Missing}
-use Rattle.plant_status.specs.declared.status.Offers.{Offers}
+use Rattle.plant_status.specs.declared.status.OfferCounts.{OfferCounts}
 use Rattle.plant_status.specs.declared.status.Status.{Status}
 
 -- both are on one day
@@ -43,7 +43,7 @@ heard_at_text written None = codes " not heard since the start\n"
 heard_at_text written (Some m) = codes " heard at " ++ (shown_text written m ++ codes "\n")
 
 -- the line of a member
-abbrev pub heard_text : Moment → Heard → List ℕ
+abbrev pub heard_text : Moment → HeardMember → List ℕ
 heard_text written h = codes "member " ++ (decimal h.member ++ heard_at_text written h.at)
 
 -- the line of what was released
@@ -70,7 +70,7 @@ all_busy [] = codes "nothing"
 all_busy (b ∷ bs) = busy_text b ++ flat_map next_busy bs
 
 -- a range, as `44-56`; of one number, as `42`; with a space before it
-abbrev pub span_text : Span → List ℕ
+abbrev pub span_text : NumberSpan → List ℕ
 span_text s = if s.first == s.last then codes " " ++ decimal s.first else codes " " ++ (decimal s.first ++ (codes "-" ++ decimal s.last))
 
 -- that there are more ranges, where there are
@@ -83,7 +83,7 @@ missing_text written None = codes " nothing"
 missing_text written (Some m) = flat_map span_text m.spans.items ++ (more_text m.more ++ (codes " since " ++ shown_text written m.since))
 
 -- the line of files
-abbrev pub offers_text : Offers → ℕ → List ℕ
+abbrev pub offers_text : OfferCounts → ℕ → List ℕ
 offers_text o unwritten =
     codes "offers "
     ++ (decimal o.waiting

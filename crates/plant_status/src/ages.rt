@@ -1,7 +1,7 @@
 //! How long ago things were, of which a status tells.
 
 use crate::moment::Moment;
-use crate::status::{Heard, Missing, Status};
+use crate::status::{HeardMember, Missing, Status};
 use std::alloc::{AllocError, Global};
 
 /// How long ago things were, in seconds.
@@ -23,7 +23,7 @@ fn ago(moment: &Moment, now: u64) -> Option<u64> {
 /// How long ago members were heard, by a station that is up since a moment; nothing where no calendar has a moment of them.
 fn all_heard(
     alloc: Global,
-    members: &[Heard],
+    members: &[HeardMember],
     since: Moment,
     now: u64,
 ) -> Result<Option<Vec<u64>>, AllocError> {

@@ -3,7 +3,9 @@
 
 use crate::moment::Moment;
 use crate::numbers::{numbers_of, short, small};
-use crate::status::{Busy, Heard, Missing, Offers, Purpose, Released, Span, StationId, Status};
+use crate::status::{
+    Busy, HeardMember, Missing, NumberSpan, OfferCounts, Purpose, Released, StationId, Status,
+};
 use std::alloc::{AllocError, Global};
 
 /// What stands behind these words, to the end of their line; nothing where they do not stand there.
@@ -62,9 +64,9 @@ fn released_of(text: &str) -> Released {
 }
 
 /// What stands in the line of files: those among the offers, and how many releases wait to be written.
-fn files_of(text: &str) -> (Offers, u32) {
+fn files_of(text: &str) -> (OfferCounts, u32) {
     let [waiting, lost, refused, unwritten, ..] = numbers_of(behind(text, "\noffers "));
-    let offers = Offers {
+    let offers = OfferCounts {
         waiting,
         lost,
         refused,
@@ -73,20 +75,20 @@ fn files_of(text: &str) -> (Offers, u32) {
 }
 
 /// What the line of a member says.
-fn heard_of(line: &str, written: &Moment) -> Heard {
+fn heard_of(line: &str, written: &Moment) -> HeardMember {
     let [member, ..] = numbers_of(line);
     let at = match line.split_once(" heard at ") {
         Some((_, shown)) => Some(shown_of(shown, written)),
         None => None,
     };
-    Heard {
+    HeardMember {
         member: small(member),
         at,
     }
 }
 
 /// What the lines of members say.
-fn members_of(alloc: Global, text: &str, written: &Moment) -> Result<Vec<Heard>, AllocError> {
+fn members_of(alloc: Global, text: &str, written: &Moment) -> Result<Vec<HeardMember>, AllocError> {
     let mut members = Vec::new(alloc);
     for line in text.split('\n') {
         if line.starts_with("member ") {
@@ -124,14 +126,14 @@ fn all_busy_of(alloc: Global, line: &str) -> Result<Vec<Busy>, AllocError> {
 }
 
 /// A range, as `44-56`; of one number, as `42`.
-fn span_of(word: &str) -> Span {
+fn span_of(word: &str) -> NumberSpan {
     let [first, second, ..] = numbers_of(word);
     let last = if word.contains('-') { second } else { first };
-    Span { first, last }
+    NumberSpan { first, last }
 }
 
 /// Ranges, a space between two.
-fn spans_of(alloc: Global, told: &str) -> Result<Vec<Span>, AllocError> {
+fn spans_of(alloc: Global, told: &str) -> Result<Vec<NumberSpan>, AllocError> {
     let mut spans = Vec::new(alloc);
     for word in told.split(' ') {
         spans.push(span_of(word))?;

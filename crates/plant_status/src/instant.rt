@@ -2,7 +2,7 @@
 
 use crate::last_heard::LastHeard;
 use crate::moment::Moment;
-use crate::status::Heard;
+use crate::status::HeardMember;
 use std::alloc::{AllocError, Global};
 
 /// A moment of the station, in milliseconds, beside how many seconds ago 1970 began.
@@ -20,12 +20,12 @@ impl Instant {
     }
 
     /// When a member was heard.
-    fn heard(&self, heard: &LastHeard) -> Heard {
+    fn heard(&self, heard: &LastHeard) -> HeardMember {
         let at = match heard.at {
             Some(at) => self.moment(at),
             None => None,
         };
-        Heard {
+        HeardMember {
             member: heard.member,
             at,
         }
@@ -36,7 +36,7 @@ impl Instant {
         &self,
         alloc: Global,
         others: &[LastHeard],
-    ) -> Result<Vec<Heard>, AllocError> {
+    ) -> Result<Vec<HeardMember>, AllocError> {
         let mut all = Vec::with_capacity(alloc, others.len())?;
         for heard in others {
             all.push(self.heard(heard))?;

@@ -6,7 +6,9 @@ ghost use Rattle.plant_status.specs.Timing.{is_due, is_past, is_told, span_of};
 use crate::instant::Instant;
 use crate::last_heard::{LastHeard, hear, is_past, others};
 use crate::moment::Moment;
-use crate::status::{Busy, Heard, Missing, Offers, Released, Span, StationId, Status};
+use crate::status::{
+    Busy, HeardMember, Missing, NumberSpan, OfferCounts, Released, StationId, Status,
+};
 use crate::under_way::UnderWay;
 use ballots::{Ballot, Member, Number};
 use std::alloc::{AllocError, Global};
@@ -22,10 +24,10 @@ const HOUR: u64 = 3_600_000;
 
 /// What stands at a plant, as it is counted when its status is written.
 #[derive(Drop)]
-pub struct Counts {
+pub struct PlantCounts {
     pub released: Released,
     /// What is missing, by its first ranges, and whether there are more.
-    pub missing: Vec<Span>,
+    pub missing: Vec<NumberSpan>,
     pub more: bool,
     /// How many files wait to be written among the releases.
     pub unwritten: u32,
@@ -40,7 +42,7 @@ pub struct Keeper {
     since: Option<u64>,
     others: Vec<LastHeard>,
     under_way: UnderWay,
-    offers: Offers,
+    offers: OfferCounts,
     /// A number that is missing, and since when it is so.
     witness: Option<(u32, u64)>,
     /// Whether something changed since the status was written last.
@@ -64,7 +66,7 @@ impl Keeper {
             since: None,
             others: others(alloc, station.member, station.count)?,
             under_way: UnderWay::new(alloc),
-            offers: Offers {
+            offers: OfferCounts {
                 waiting: 0,
                 lost: 0,
                 refused: 0,
@@ -150,7 +152,7 @@ impl Keeper {
     }
 
     /// What is missing of which this is counted, if something is.
-    fn missing(&self, spans: Vec<Span>, more: bool, instant: &Instant) -> Option<Missing> {
+    fn missing(&self, spans: Vec<NumberSpan>, more: bool, instant: &Instant) -> Option<Missing> {
         match self.missing_since(instant) {
             Some(since) if !spans.is_empty() => Some(Missing { spans, more, since }),
             _ => None,
@@ -164,7 +166,7 @@ impl Keeper {
     }
 
     /// When the others were heard, and the numbers under way.
-    fn lists(&self, instant: &Instant) -> Result<(Vec<Heard>, Vec<Busy>), AllocError> {
+    fn lists(&self, instant: &Instant) -> Result<(Vec<HeardMember>, Vec<Busy>), AllocError> {
         let heard = instant.all_heard(self.alloc, self.others.as_slice())?;
         let busy = self.under_way.list(self.alloc)?;
         Ok((heard, busy))
@@ -177,7 +179,7 @@ impl Keeper {
     /// Out of memory.
     pub fn status(
         &mut self,
-        counts: Counts,
+        counts: PlantCounts,
         now: u64,
         seconds: u64,
     ) -> Result<Option<Status>, AllocError> {
@@ -188,7 +190,7 @@ impl Keeper {
             return Ok(None);
         };
         let (members, busy) = self.lists(&instant)?;
-        let Counts {
+        let PlantCounts {
             released,
             missing,
             more,

@@ -22,8 +22,10 @@ pub use ages::{Ages, ages_of};
 pub use clock::seconds_now;
 pub use file::{NoStatus, StatusFile};
 pub use health::{Health, LONG_MISSING, LONG_UNHEARD, OLD, health_of};
-pub use keeper::{Counts, Keeper};
+pub use keeper::{Keeper, PlantCounts};
 pub use moment::Moment;
 pub use reading::{Unread, read};
-pub use status::{Busy, Heard, Missing, Offers, Purpose, Released, Span, StationId, Status};
+pub use status::{
+    Busy, HeardMember, Missing, NumberSpan, OfferCounts, Purpose, Released, StationId, Status,
+};
 pub use writing::text_of;

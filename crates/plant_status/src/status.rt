@@ -15,7 +15,7 @@ pub struct StationId {
 
 /// Another member, and when it was last heard; not since the start where there is no moment.
 #[derive(Clone, Copy)]
-pub struct Heard {
+pub struct HeardMember {
     pub member: u8,
     pub at: Option<Moment>,
 }
@@ -47,7 +47,7 @@ pub struct Busy {
 
 /// The numbers from one to another.
 #[derive(Clone, Copy)]
-pub struct Span {
+pub struct NumberSpan {
     pub first: u32,
     pub last: u32,
 }
@@ -56,7 +56,7 @@ pub struct Span {
 #[derive(Drop)]
 pub struct Missing {
     /// Its first ranges, 20 at most.
-    pub spans: Vec<Span>,
+    pub spans: Vec<NumberSpan>,
     /// Whether there are more.
     pub more: bool,
     /// Since when something of it is missing.
@@ -65,7 +65,7 @@ pub struct Missing {
 
 /// How many files are among the offers, and how many left them since the start without being sent.
 #[derive(Clone, Copy)]
-pub struct Offers {
+pub struct OfferCounts {
     pub waiting: u32,
     pub lost: u32,
     pub refused: u32,
@@ -78,11 +78,11 @@ pub struct Status {
     /// Since when it is up.
     pub since: Moment,
     /// The others of its circuit.
-    pub members: Vec<Heard>,
+    pub members: Vec<HeardMember>,
     pub released: Released,
     pub busy: Vec<Busy>,
     pub missing: Option<Missing>,
-    pub offers: Offers,
+    pub offers: OfferCounts,
     /// How many files wait to be written among the releases.
     pub unwritten: u32,
     /// When this was so.

@@ -4,7 +4,7 @@ ghost use Rattle.std.specs.Prelude.{◌≡◌, ◌++◌, IfOk, OnOk, string_byte
 ghost use Rattle.plant_status.specs.Texts.{busy_line, busy_text, end_text, head_text, heard_text, missing_line, next_busy, offers_text, released_text, span_text, status_text};
 
 use crate::moment::Moment;
-use crate::status::{Busy, Heard, Missing, Released, Span, Status};
+use crate::status::{Busy, HeardMember, Missing, NumberSpan, Released, Status};
 use crate::words::ShownText;
 use std::alloc::{AllocError, Global};
 
@@ -16,7 +16,7 @@ fn push_head(text: &mut String, status: &Status) -> Result<(), AllocError>
 }
 
 /// Puts the line of a member behind a text.
-fn push_heard(text: &mut String, heard: &Heard, written: &Moment) -> Result<(), AllocError>
+fn push_heard(text: &mut String, heard: &HeardMember, written: &Moment) -> Result<(), AllocError>
     ensures { OnOk result (string_bytes text.new ≡ string_bytes text.old ++ heard_text written.now heard.now) }
 {
     let (member, written) = (heard.member, *written);
@@ -31,7 +31,11 @@ fn push_heard(text: &mut String, heard: &Heard, written: &Moment) -> Result<(), 
 }
 
 /// Puts the lines of members behind a text.
-fn push_members(text: &mut String, members: &[Heard], written: &Moment) -> Result<(), AllocError>
+fn push_members(
+    text: &mut String,
+    members: &[HeardMember],
+    written: &Moment,
+) -> Result<(), AllocError>
     ensures { OnOk result (string_bytes text.new ≡ string_bytes text.old ++ flat_map (heard_text written.now) members.now) }
 {
     for heard in members {
@@ -92,7 +96,7 @@ fn push_busy(text: &mut String, busy: &[Busy]) -> Result<(), AllocError>
 }
 
 /// Puts a range behind a text.
-fn push_span(text: &mut String, span: &Span) -> Result<(), AllocError>
+fn push_span(text: &mut String, span: &NumberSpan) -> Result<(), AllocError>
     ensures { OnOk result (string_bytes text.new ≡ string_bytes text.old ++ span_text span.now) }
 {
     if span.first == span.last {
@@ -103,7 +107,7 @@ fn push_span(text: &mut String, span: &Span) -> Result<(), AllocError>
 }
 
 /// Puts ranges behind a text.
-fn push_spans(text: &mut String, spans: &[Span]) -> Result<(), AllocError>
+fn push_spans(text: &mut String, spans: &[NumberSpan]) -> Result<(), AllocError>
     ensures { OnOk result (string_bytes text.new ≡ string_bytes text.old ++ flat_map span_text spans.now) }
 {
     for span in spans {

@@ -6,7 +6,7 @@ ghost use Rattle.protocol.specs.Limits.{most_members};
 ghost use Rattle.proposer.specs.Slots.{nothing_counted, report_at, slots_with, vote_at};
 ghost use Rattle.proposer.specs.Greatest.{IsGreatest};
 
-use crate::slot::Slot;
+use crate::slot::ReportSlot;
 use arrayvec::ArrayVec;
 use ballots::laws::slots_of_members;
 use ballots::{MOST_MEMBERS, Member, Vote, VoteRef, majority};
@@ -14,11 +14,11 @@ use std::alloc::{AllocError, Global};
 use std::marker::Model;
 
 /// Of each member, in rising order: what it reported, where it is counted. As many are used as the circuit has members.
-type Reports = ArrayVec<Slot, MOST_MEMBERS>;
+type Reports = ArrayVec<ReportSlot, MOST_MEMBERS>;
 
 /// Of each member, in rising order: what it reported, where it is counted. Clauses see this list.
 #[derive(Drop)]
-pub(crate) struct Slots {
+pub(crate) struct ReportSlots {
     me: Member,
     members: u8,
     /// What `me` reported, as long as it alone is counted.
@@ -27,7 +27,7 @@ pub(crate) struct Slots {
     slots: Option<Box<Reports>>,
 }
 
-impl Model for Slots {
+impl Model for ReportSlots {
     ghost use Rattle.std.specs.Prelude.{◌≡◌, ◌≤◌, List, Option, length};
     ghost use Rattle.protocol.specs.Rows.{Vote as VoteValue};
     ghost use Rattle.proposer.specs.Slots.{slots_with};
@@ -48,7 +48,7 @@ fn empty_slots(members: u8) -> Reports
 {
     let mut slots = ArrayVec::new();
     for _ in 0..members {
-        slots.push(Slot::default());
+        slots.push(ReportSlot::default());
     }
     slots
 }
@@ -66,7 +66,7 @@ fn set(
     ensures report { OnErr result (report.new ≡ report.old) }
 {
     let place = usize::from(member.get()) - 1;
-    slots[place] = Slot::counted(alloc, report)?;
+    slots[place] = ReportSlot::counted(alloc, report)?;
     Ok(())
 }
 
@@ -88,7 +88,7 @@ fn spread(
     Ok(slots)
 }
 
-impl Slots {
+impl ReportSlots {
     /// How many members there are.
     fn len(&self) -> u8
         ensures value { result ≡ length self.now }
@@ -155,13 +155,13 @@ impl Slots {
 
 /// The slots of so many members, of whom this one alone is counted. It takes no memory.
 #[tactic(auto, using(crate::proofs::Alone::alone_many))]
-pub(crate) fn counted_alone(me: Member, members: u8, report: Option<Vote>) -> Slots
+pub(crate) fn counted_alone(me: Member, members: u8, report: Option<Vote>) -> ReportSlots
     requires few { members ≤ most_members }
     requires member { me ≤ members }
     ensures items { result ≡ slice_set (nothing_counted members) (me - 1) (Some report) }
     ensures many { length result ≡ members }
 {
-    Slots {
+    ReportSlots {
         me,
         members,
         own: report,
@@ -170,7 +170,7 @@ pub(crate) fn counted_alone(me: Member, members: u8, report: Option<Vote>) -> Sl
 }
 
 /// Counts anew: of as many members this one alone is counted. It takes no memory.
-pub(crate) fn count_anew(slots: &mut Slots, me: Member, report: Option<Vote>)
+pub(crate) fn count_anew(slots: &mut ReportSlots, me: Member, report: Option<Vote>)
     requires member { me ≤ length slots.old }
     ensures items { slots.new ≡ slice_set (nothing_counted (length slots.old)) (me - 1) (Some report) }
     ensures many { length slots.new ≡ length slots.old }
@@ -192,7 +192,7 @@ fn copy_of(alloc: Global, vote: Option<VoteRef<'_>>) -> Result<Option<Vote>, All
 /// Only a new one takes memory.
 pub(crate) fn count_once(
     alloc: Global,
-    slots: &mut Slots,
+    slots: &mut ReportSlots,
     member: Member,
     report: Option<VoteRef<'_>>,
 ) -> Result<bool, AllocError>
@@ -211,7 +211,7 @@ pub(crate) fn count_once(
 }
 
 /// Whether the members that are counted are a majority of all.
-pub(crate) fn is_quorum(slots: &Slots) -> bool
+pub(crate) fn is_quorum(slots: &ReportSlots) -> bool
     ensures { result ≡ nat_lt (length slots.now) (2 * count_by is_some slots.now) }
 {
     let mut count = 0;
@@ -235,7 +235,7 @@ fn is_above(report: Option<&Vote>, greatest: Option<&Vote>) -> bool
 }
 
 /// The greatest of the reported votes, that of the least member where equal.
-pub(crate) fn greatest_vote(slots: &Slots) -> Option<&Vote>
+pub(crate) fn greatest_vote(slots: &ReportSlots) -> Option<&Vote>
     ensures { IsGreatest (vote_at slots.now) (length slots.now) (option_copied result) }
 {
     let mut greatest = None;

@@ -12,7 +12,9 @@ ghost use Rattle.proposer.specs.InHand.{StandsFor, IsOfTheSame};
 ghost use Rattle.proposer.specs.Answers.{IsNew, StandsAsBegun, TellsGathering, TellsCounting, StandsAfterPromise, StaysWhereUncounted, TellsProposal, StandsAfterNack, IsPicked, IsDueMoment, TellsWhatIsDue, StandsAfterDue, StaysWhereNotBegun, IsOwnAndAbove};
 
 use crate::answer::{BeginRefusal, Counted, DueAnswer};
-use crate::promises::{Slots, count_anew, count_once, counted_alone, greatest_vote, is_quorum};
+use crate::promises::{
+    ReportSlots, count_anew, count_once, counted_alone, greatest_vote, is_quorum,
+};
 use ballots::laws::slots_of_members;
 use ballots::{Ballot, Member, Vote, VoteRef};
 use std::alloc::{AllocError, Global};
@@ -32,7 +34,7 @@ pub struct Proposal {
     me: Member,
     ballot: Ballot,
     own: Option<Entry>,
-    slots: Slots,
+    slots: ReportSlots,
     gathers: bool,
     denied: Option<Ballot>,
     begun: u8,

@@ -9,11 +9,11 @@ use std::marker::Model;
 
 /// What a member reported, if it is counted. A vote stands in a box, so that a slot is small. Clauses see the report.
 #[derive(Drop)]
-pub(crate) struct Slot {
+pub(crate) struct ReportSlot {
     report: Option<Option<Box<Vote>>>,
 }
 
-impl Model for Slot {
+impl Model for ReportSlot {
     ghost use Rattle.std.specs.Prelude.{Option};
     ghost use Rattle.protocol.specs.Rows.{Vote as VoteValue};
     ghost use Rattle.proposer.specs.Slots.{unboxed};
@@ -23,27 +23,27 @@ impl Model for Slot {
     ghost view = { λ s. unboxed s.report };
 }
 
-impl Default for Slot {
+impl Default for ReportSlot {
     ghost is_default = { λ slot. slot ≡ None };
 
     /// The member is not counted.
-    fn default() -> Slot {
-        Slot { report: None }
+    fn default() -> ReportSlot {
+        ReportSlot { report: None }
     }
 }
 
-impl Slot {
+impl ReportSlot {
     /// The member is counted, with what it reported. The report is taken out of where it stands.
     /// Only a vote takes memory; where that is refused, it is back where it stood.
-    pub fn counted(alloc: Global, report: &mut Option<Vote>) -> Result<Slot, AllocError>
+    pub fn counted(alloc: Global, report: &mut Option<Vote>) -> Result<ReportSlot, AllocError>
         ensures counted { IfOk result (λ slot. slot ≡ Some report.old) }
         ensures err { OnErr result (report.new ≡ report.old) }
     {
         let Some(vote) = report.take() else {
-            return Ok(Slot { report: Some(None) });
+            return Ok(ReportSlot { report: Some(None) });
         };
         match Box::new(alloc, vote) {
-            Ok(vote) => Ok(Slot {
+            Ok(vote) => Ok(ReportSlot {
                 report: Some(Some(vote)),
             }),
             Err(refused) => {

@@ -6,7 +6,7 @@ ghost use Rattle.recalls.specs.Grammar.{Spells};
 ghost use Rattle.recalls.specs.Reading.{u16_at, u32_at, member_at, members_at, mark_at, count_at, number_at, numbers_at, recall_at, Seen};
 
 use crate::fault::RecallFault;
-use crate::recall::{MOST_RECALLED, Numbers, Recall};
+use crate::recall::{MOST_RECALLED, Recall, RisingNumbers};
 use arrayvec::ArrayVec;
 use ballots::Member;
 
@@ -112,7 +112,7 @@ fn number_of(above: u32, bytes: &[u8]) -> Result<u32, RecallFault>
 }
 
 /// So many numbers that rise, and what follows them.
-fn numbers_of(count: u8, bytes: &[u8]) -> Result<(Numbers, &[u8]), RecallFault>
+fn numbers_of(count: u8, bytes: &[u8]) -> Result<(RisingNumbers, &[u8]), RecallFault>
     requires { count ≤ most_recalled }
     ensures exact { Seen (λ x. (x.0.items, x.1.now)) result (numbers_at count 0 bytes.now) }
     ensures many { IfOk result (λ x. length x.0.items ≡ count) }

@@ -11,7 +11,7 @@ use std::marker::Model;
 pub const MOST_RECALLED: usize = 64;
 
 /// Numbers that rise.
-pub(crate) type Numbers = ArrayVec<u32, MOST_RECALLED>;
+pub(crate) type RisingNumbers = ArrayVec<u32, MOST_RECALLED>;
 
 /// What a member asks another one to tell again: its votes for 1 to 64 numbers, each 1 to 999,999 and above the one before it. It has
 /// a number of the asker's, by which the asker knows what it asked for. Clauses see the fields.
@@ -21,7 +21,7 @@ pub struct Recall {
     pub(crate) from: Member,
     pub(crate) to: Member,
     pub(crate) asked: u32,
-    pub(crate) numbers: Numbers,
+    pub(crate) numbers: RisingNumbers,
 }
 
 impl Model for Recall {
@@ -50,7 +50,7 @@ fn do_rise(numbers: &[u32]) -> bool
 }
 
 /// A copy of up to 64 numbers.
-fn copied(numbers: &[u32]) -> Numbers
+fn copied(numbers: &[u32]) -> RisingNumbers
     requires { length numbers.now ≤ most_recalled }
     ensures { result.items ≡ numbers.now }
 {

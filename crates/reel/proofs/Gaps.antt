@@ -1,16 +1,16 @@
 -- A roll that is cut as far as a place.
 use Rattle.std.proofs.Common.{◌≡◌, ℕ, ◌+◌, ◌-◌, ◌<◌, ◌≤◌, ◌⊎◌, List, [], ◌∷◌, ◌++◌, length, get_or, refl, inl, inr, arith}
 use Rattle.std.proofs.lemmas.Bool.{cases_lt}
-use Rattle.reel.specs.declared.piece.Piece.{Piece}
+use Rattle.reel.specs.declared.piece.RollPiece.{RollPiece}
 use Rattle.reel.specs.Pieces.{IsGap, InGap, InPiece, AreApart, IsCut}
 
 -- the place behind pieces at which the next may begin
-abbrev pub end_of : ℕ → List Piece → ℕ
+abbrev pub end_of : ℕ → List RollPiece → ℕ
 end_of from [] = from
 end_of from (piece ∷ pieces) = end_of (piece.to + 1) pieces
 
 -- the frames before a place are cut into pieces, and no gap lies on both sides of it
-pub record CutBefore (least : ℕ) (frames : List ℕ) (pieces : List Piece) (place : ℕ) : Type 0 where
+pub record CutBefore (least : ℕ) (frames : List ℕ) (pieces : List RollPiece) (place : ℕ) : Type 0 where
   pub high : place ≤ length frames
   pub start : (place ≡ 0) ⊎ (place < length frames → ¬ (get_or frames place 0 ≡ 0))
   pub apart : AreApart 0 pieces
@@ -19,28 +19,28 @@ pub record CutBefore (least : ℕ) (frames : List ℕ) (pieces : List Piece) (pl
   pub kept : (at : ℕ) → at < place → InPiece pieces at ⊎ InGap least frames at
   pub clean : (at : ℕ) → InPiece pieces at → InGap least frames at → ⊥
 
-apart_push : (from : ℕ) (pieces : List Piece) (piece : Piece) → AreApart from pieces → end_of from pieces ≤ piece.from → piece.from < piece.to
+apart_push : (from : ℕ) (pieces : List RollPiece) (piece : RollPiece) → AreApart from pieces → end_of from pieces ≤ piece.from → piece.from < piece.to
     → AreApart from (pieces ++ piece ∷ [])
 apart_push from [] piece apart le lt = (le, lt, tt)
 apart_push from (p ∷ pieces) piece apart le lt = (apart.0, apart.1, apart_push (p.to + 1) pieces piece apart.2 le lt)
 
-end_push : (from : ℕ) (pieces : List Piece) (piece : Piece) → end_of from (pieces ++ piece ∷ []) ≡ piece.to + 1
+end_push : (from : ℕ) (pieces : List RollPiece) (piece : RollPiece) → end_of from (pieces ++ piece ∷ []) ≡ piece.to + 1
 end_push from [] piece = refl
 end_push from (p ∷ pieces) piece = end_push (p.to + 1) pieces piece
 
 -- where a frame lies once a piece is added
-in_push : (pieces : List Piece) (piece : Piece) (at : ℕ) → InPiece (pieces ++ piece ∷ []) at → InPiece pieces at ⊎ ((piece.from ≤ at) × (at < piece.to))
+in_push : (pieces : List RollPiece) (piece : RollPiece) (at : ℕ) → InPiece (pieces ++ piece ∷ []) at → InPiece pieces at ⊎ ((piece.from ≤ at) × (at < piece.to))
 in_push [] piece at (inl h) = inr h
 in_push [] piece at (inr h) = absurd h
 in_push (p ∷ pieces) piece at (inl h) = inl (inl h)
 in_push (p ∷ pieces) piece at (inr h) = elim (in_push pieces piece at h) [ inl a ↦ inl (inr a) | inr b ↦ inr b ]
 
-push_old : (pieces : List Piece) (piece : Piece) (at : ℕ) → InPiece pieces at → InPiece (pieces ++ piece ∷ []) at
+push_old : (pieces : List RollPiece) (piece : RollPiece) (at : ℕ) → InPiece pieces at → InPiece (pieces ++ piece ∷ []) at
 push_old [] piece at h = absurd h
 push_old (p ∷ pieces) piece at (inl h) = inl h
 push_old (p ∷ pieces) piece at (inr h) = inr (push_old pieces piece at h)
 
-push_new : (pieces : List Piece) (piece : Piece) (at : ℕ) → piece.from ≤ at → at < piece.to → InPiece (pieces ++ piece ∷ []) at
+push_new : (pieces : List RollPiece) (piece : RollPiece) (at : ℕ) → piece.from ≤ at → at < piece.to → InPiece (pieces ++ piece ∷ []) at
 push_new [] piece at low high = inl (low, high)
 push_new (p ∷ pieces) piece at low high = inr (push_new pieces piece at low high)
 
@@ -116,7 +116,7 @@ end_is_behind least frames place to end f lt =
     ]
 
 -- a piece was added
-pub cut_more : (least : ℕ) (frames : List ℕ) (pieces : List Piece) (place to end : ℕ) (piece : Piece) → CutBefore least frames pieces place
+pub cut_more : (least : ℕ) (frames : List ℕ) (pieces : List RollPiece) (place to end : ℕ) (piece : RollPiece) → CutBefore least frames pieces place
     → place < length frames → Found least frames place to end → piece.from ≡ place → piece.to ≡ to → place < to → CutBefore least frames (pieces ++ piece ∷ []) end
 cut_more least frames pieces place to end piece c inside f from_is to_is lt = record {
   high = f.high;
@@ -147,7 +147,7 @@ cut_more least frames pieces place to end piece c inside f from_is to_is lt = re
 }
 
 -- none was
-pub cut_same : (least : ℕ) (frames : List ℕ) (pieces : List Piece) (place to end : ℕ) → CutBefore least frames pieces place → place < length frames
+pub cut_same : (least : ℕ) (frames : List ℕ) (pieces : List RollPiece) (place to end : ℕ) → CutBefore least frames pieces place → place < length frames
     → Found least frames place to end → to ≤ place → CutBefore least frames pieces end
 cut_same least frames pieces place to end c inside f le = record {
   high = f.high;
@@ -176,7 +176,7 @@ cut_none least frames = record {
 }
 
 -- all is cut before the end
-pub cut_all : (least : ℕ) (frames : List ℕ) (pieces : List Piece) (place : ℕ) → CutBefore least frames pieces place → length frames ≤ place → IsCut least frames pieces
+pub cut_all : (least : ℕ) (frames : List ℕ) (pieces : List RollPiece) (place : ℕ) → CutBefore least frames pieces place → length frames ≤ place → IsCut least frames pieces
 cut_all least frames pieces place c le =
     let same : place ≡ length frames = omega (arith, c.high, le) in
     record {
@@ -187,7 +187,7 @@ cut_all least frames pieces place c le =
     }
 
 -- a roll without gaps is one piece
-pub one_piece : (frames : List ℕ) (piece : Piece) → piece.from ≡ 0 → piece.to ≡ length frames → 0 < length frames → IsCut 0 frames (piece ∷ [])
+pub one_piece : (frames : List ℕ) (piece : RollPiece) → piece.from ≡ 0 → piece.to ≡ length frames → 0 < length frames → IsCut 0 frames (piece ∷ [])
 one_piece frames piece from_is to_is some = record {
   apart = (omega arith, omega (arith, from_is, to_is, some), tt);
   within = λ at h. elim h [ inl in_it ↦ omega (arith, in_it.1, to_is) | inr none ↦ absurd none ];

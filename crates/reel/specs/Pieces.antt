@@ -1,6 +1,6 @@
 -- Where a roll is cut: at its gaps, blanks of which so many stand one behind the other.
 use Rattle.std.specs.Prelude.{◌≡◌, ◌<◌, ◌≤◌, ◌⊎◌, ◌+◌, ℕ, List, [], ◌∷◌, length, slice_index}
-use Rattle.reel.specs.declared.piece.Piece.{Piece}
+use Rattle.reel.specs.declared.piece.RollPiece.{RollPiece}
 
 -- so many blanks, frames without a hole, stand from a place on
 pub record IsGap (least : ℕ) (frames : List ℕ) (from : ℕ) : Type 0 where
@@ -15,17 +15,17 @@ pub record InGap (least : ℕ) (frames : List ℕ) (at : ℕ) : Type 0 where
   pub behind : at < from + least
 
 -- a frame lies in one of some pieces
-abbrev pub InPiece : List Piece → ℕ → Type 0
+abbrev pub InPiece : List RollPiece → ℕ → Type 0
 InPiece [] at = ⊥
 InPiece (piece ∷ pieces) at = ((piece.from ≤ at) × (at < piece.to)) ⊎ InPiece pieces at
 
 -- pieces from a place on, in order: none is empty, and between two lies a frame at least
-abbrev pub AreApart : ℕ → List Piece → Type 0
+abbrev pub AreApart : ℕ → List RollPiece → Type 0
 AreApart from [] = Unit {0}
 AreApart from (piece ∷ pieces) = (from ≤ piece.from) × (piece.from < piece.to) × AreApart (piece.to + 1) pieces
 
 -- a roll is cut into these pieces: they stand apart, and each frame lies in a piece, or in a gap of which no piece has a frame
-pub record IsCut (least : ℕ) (frames : List ℕ) (pieces : List Piece) : Type 0 where
+pub record IsCut (least : ℕ) (frames : List ℕ) (pieces : List RollPiece) : Type 0 where
   pub apart : AreApart 0 pieces
   pub within : (at : ℕ) → InPiece pieces at → at < length frames
   pub kept : (at : ℕ) → at < length frames → InPiece pieces at ⊎ InGap least frames at

@@ -3,7 +3,7 @@
 ghost use Rattle.std.specs.Prelude.{◌≡◌, ◌<◌, ◌≤◌, ℕ, length, slice_index, IfOk};
 ghost use Rattle.reel.specs.Pieces.{IsGap, IsCut};
 
-use crate::piece::Piece;
+use crate::piece::RollPiece;
 use std::alloc::{AllocError, Global};
 
 /// The first place from one on at which no blank stands, or the end of the frames.
@@ -39,7 +39,7 @@ fn next_gap(frames: &[u8], least: usize, from: usize) -> usize
 }
 
 /// The pieces of a roll that is cut at each gap.
-fn cut_at_gaps(alloc: Global, frames: &[u8], least: usize) -> Result<Vec<Piece>, AllocError>
+fn cut_at_gaps(alloc: Global, frames: &[u8], least: usize) -> Result<Vec<RollPiece>, AllocError>
     requires { 1 ≤ least }
     ensures { IfOk result (λ pieces. IsCut least frames.now pieces.items) }
 {
@@ -48,7 +48,7 @@ fn cut_at_gaps(alloc: Global, frames: &[u8], least: usize) -> Result<Vec<Piece>,
     while from < frames.len() {
         let to = next_gap(frames, least, from);
         if from < to {
-            pieces.push(Piece { from, to })?;
+            pieces.push(RollPiece { from, to })?;
         }
         from = blanks_end(frames, to);
     }
@@ -56,12 +56,12 @@ fn cut_at_gaps(alloc: Global, frames: &[u8], least: usize) -> Result<Vec<Piece>,
 }
 
 /// A roll that is not cut.
-fn whole(alloc: Global, frames: &[u8]) -> Result<Vec<Piece>, AllocError>
+fn whole(alloc: Global, frames: &[u8]) -> Result<Vec<RollPiece>, AllocError>
     ensures { IfOk result (λ pieces. IsCut 0 frames.now pieces.items) }
 {
     let mut pieces = Vec::new(alloc);
     if !frames.is_empty() {
-        pieces.push(Piece {
+        pieces.push(RollPiece {
             from: 0,
             to: frames.len(),
         })?;
@@ -71,7 +71,7 @@ fn whole(alloc: Global, frames: &[u8]) -> Result<Vec<Piece>, AllocError>
 
 /// The pieces of a roll that is cut where so many blanks or more stand one behind the other. All that is in no such gap is in a piece.
 /// With 0 there is no gap, and one piece.
-pub(crate) fn cut(alloc: Global, frames: &[u8], least: usize) -> Result<Vec<Piece>, AllocError>
+pub(crate) fn cut(alloc: Global, frames: &[u8], least: usize) -> Result<Vec<RollPiece>, AllocError>
     ensures { IfOk result (λ pieces. IsCut least frames.now pieces.items) }
 {
     if least == 0 {

@@ -16,5 +16,5 @@ pub use frames::frames_of;
 pub use levels::{Levels, LevelsFault, levels_of};
 pub use masks::mask_of;
 pub use names::{MOST_TAPES, tape_name};
-pub use piece::Piece;
+pub use piece::RollPiece;
 pub use tapes::{Cutting, frames_in, tapes_of};

@@ -2,7 +2,7 @@
 
 /// A piece of a roll: its frames from a place on, and before another.
 #[derive(Clone, Copy, PartialEq, Eq)]
-pub struct Piece {
+pub struct RollPiece {
     pub from: usize,
     pub to: usize,
 }

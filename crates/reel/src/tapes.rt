@@ -4,7 +4,7 @@ ghost use Rattle.std.specs.Prelude.{◌≡◌, IfOk};
 ghost use Rattle.reel.specs.Tapes.{AreTapes, frames_in};
 
 use crate::cutting::cut;
-use crate::piece::Piece;
+use crate::piece::RollPiece;
 use crate::trimming::trim_all;
 use std::alloc::{AllocError, Global};
 
@@ -18,7 +18,11 @@ pub struct Cutting {
 }
 
 /// The tapes of a roll, in order: it is cut at its gaps, and then each piece is trimmed where that is asked for.
-pub fn tapes_of(alloc: Global, frames: &[u8], cutting: Cutting) -> Result<Vec<Piece>, AllocError>
+pub fn tapes_of(
+    alloc: Global,
+    frames: &[u8],
+    cutting: Cutting,
+) -> Result<Vec<RollPiece>, AllocError>
     ensures { IfOk result (λ tapes. AreTapes cutting.least cutting.trims frames.now tapes.items) }
 {
     let pieces = cut(alloc, frames, cutting.least)?;
@@ -30,7 +34,7 @@ pub fn tapes_of(alloc: Global, frames: &[u8], cutting: Cutting) -> Result<Vec<Pi
 }
 
 /// The frames of a piece.
-pub fn frames_in(frames: &[u8], piece: Piece) -> &[u8]
+pub fn frames_in(frames: &[u8], piece: RollPiece) -> &[u8]
     ensures { result.now ≡ frames_in frames.now piece }
 {
     let (_, rest) = frames.split_at(piece.from.min(frames.len()));

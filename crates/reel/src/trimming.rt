@@ -3,7 +3,7 @@
 ghost use Rattle.std.specs.Prelude.{◌≡◌, ◌<◌, ◌≤◌, ◌-◌, ℕ, true, false, slice_index, IfOk, MatchOption};
 ghost use Rattle.reel.specs.Trimming.{is_leader, AllLeader, IsTrimmed, Trims};
 
-use crate::piece::Piece;
+use crate::piece::RollPiece;
 use std::alloc::{AllocError, Global};
 
 /// Whether a frame is one of a leader: a blank, or a rub-out.
@@ -24,7 +24,7 @@ fn is_leader_at(frames: &[u8], at: usize) -> bool
 }
 
 /// The first place of a piece at which no leader stands, or its end.
-fn leader_end(frames: &[u8], piece: Piece) -> usize
+fn leader_end(frames: &[u8], piece: RollPiece) -> usize
     requires { piece.from ≤ piece.to }
     ensures within { (piece.from ≤ result) × (result ≤ piece.to) }
     ensures leader { AllLeader frames.now piece.from result }
@@ -38,7 +38,7 @@ fn leader_end(frames: &[u8], piece: Piece) -> usize
 }
 
 /// The place behind the last of a piece at which no trailer stands, where none stands at its first.
-fn trailer_start(frames: &[u8], piece: Piece) -> usize
+fn trailer_start(frames: &[u8], piece: RollPiece) -> usize
     requires some { piece.from < piece.to }
     requires filled { is_leader (slice_index frames.now piece.from) ≡ false }
     ensures within { (piece.from < result) × (result ≤ piece.to) }
@@ -53,7 +53,7 @@ fn trailer_start(frames: &[u8], piece: Piece) -> usize
 }
 
 /// A piece without its leader and its trailer, where something is left of it.
-fn trim(frames: &[u8], piece: Piece) -> Option<Piece>
+fn trim(frames: &[u8], piece: RollPiece) -> Option<RollPiece>
     ensures { MatchOption result (AllLeader frames.now piece.from piece.to) (λ left. IsTrimmed frames.now piece left) }
 {
     if piece.from >= piece.to {
@@ -64,16 +64,16 @@ fn trim(frames: &[u8], piece: Piece) -> Option<Piece>
         return None;
     }
     let to = piece.to;
-    let to = trailer_start(frames, Piece { from, to });
-    Some(Piece { from, to })
+    let to = trailer_start(frames, RollPiece { from, to });
+    Some(RollPiece { from, to })
 }
 
 /// Pieces without their leaders and trailers; those of which nothing is left are left out.
 pub(crate) fn trim_all(
     alloc: Global,
     frames: &[u8],
-    pieces: &[Piece],
-) -> Result<Vec<Piece>, AllocError>
+    pieces: &[RollPiece],
+) -> Result<Vec<RollPiece>, AllocError>
     ensures { IfOk result (λ trimmed. Trims frames.now pieces.now trimmed.items) }
 {
     let mut trimmed = Vec::new(alloc);

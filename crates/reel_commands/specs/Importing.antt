@@ -1,6 +1,6 @@
 -- What `import` makes of a reel.
 use Rattle.std.specs.Prelude.{◌≡◌, ◌⊎◌, ℕ, List, length, map, Option}
-use Rattle.reel.specs.declared.piece.Piece.{Piece}
+use Rattle.reel.specs.declared.piece.RollPiece.{RollPiece}
 use Rattle.reel.specs.Levels.{frame_of}
 use Rattle.reel.specs.Tapes.{AreTapes}
 use Rattle.reel_commands.specs.declared.importing.Reel.{Reel}
@@ -12,7 +12,7 @@ abbrev pub frames_by : Reel → List ℕ → List ℕ
 frames_by reel bytes = map (frame_of reel.levels) bytes
 
 -- these are the tapes of a reel
-abbrev pub AreTapesOf : Reel → List ℕ → List Piece → Type 0
+abbrev pub AreTapesOf : Reel → List ℕ → List RollPiece → Type 0
 AreTapesOf reel bytes tapes = AreTapes reel.cutting.least reel.cutting.trims (frames_by reel bytes) tapes
 
 -- the reel became these tapes, and a file was made of each
@@ -23,7 +23,7 @@ pub record WasImported (reel : Reel) (bytes : List ℕ) (done : Imported) (old n
 
 -- of the tapes of a reel the first so many were made, and no other file was
 pub record WasFrontMade (reel : Reel) (bytes : List ℕ) (old new : Option (List TapeFile)) : Type 0 where
-  pub tapes : List Piece
+  pub tapes : List RollPiece
   pub are : AreTapesOf reel bytes tapes
   pub front : FrontMade (frames_by reel bytes) tapes old new
 

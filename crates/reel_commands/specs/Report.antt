@@ -3,29 +3,29 @@ use Rattle.std.specs.Prelude.{ℕ, ◌+◌, ◌-◌, List, [], ◌∷◌, ◌++�
 use Rattle.tape_frames.specs.Frames.{most_frames}
 use Rattle.command_ends.specs.declared.end.End.{End}
 use Rattle.command_ends.specs.declared.end.End.TheVariants.{Done, Input}
-use Rattle.reel.specs.declared.piece.Piece.{Piece}
+use Rattle.reel.specs.declared.piece.RollPiece.{RollPiece}
 use Rattle.reel.specs.Names.{tape_name}
 use Rattle.reel_commands.specs.declared.importing.Imported.{Imported}
 
 -- how many frames a piece has
-abbrev pub len_of : Piece → ℕ
+abbrev pub len_of : RollPiece → ℕ
 len_of piece = piece.to - piece.from
 
 -- a piece is longer than a tape may be
-abbrev pub is_long : Piece → Bool
+abbrev pub is_long : RollPiece → Bool
 is_long piece = nat_lt most_frames (len_of piece)
 
 -- what is told of a piece that is too long
-unfoldable pub warning : Piece → List ℕ
+unfoldable pub warning : RollPiece → List ℕ
 warning piece = if is_long piece then codes ", too long: a tape has at most 16384" else []
 
 -- the line of a tape: its file, how many frames it has, and where in the reel the first of them is
-abbrev pub tape_line : ℕ → Piece → List ℕ
+abbrev pub tape_line : ℕ → RollPiece → List ℕ
 tape_line number piece =
     tape_name number ++ codes " frames " ++ decimal (len_of piece) ++ codes " from " ++ decimal piece.from ++ warning piece ++ codes "\n"
 
 -- the lines of tapes, numbered from this number on
-abbrev pub lines_from : ℕ → List Piece → List ℕ
+abbrev pub lines_from : ℕ → List RollPiece → List ℕ
 lines_from number [] = []
 lines_from number (piece ∷ pieces) = tape_line number piece ++ lines_from (number + 1) pieces
 
@@ -38,6 +38,6 @@ abbrev pub import_text : Imported → List ℕ
 import_text done = lines_from 1 done.tapes.items ++ foot_text (length done.tapes.items) done.frames
 
 -- the end of an import: a tape that is too long is a fault of the input
-abbrev pub end_by : List Piece → End
+abbrev pub end_by : List RollPiece → End
 end_by [] = Done
 end_by (piece ∷ pieces) = if is_long piece then Input else end_by pieces

@@ -11,7 +11,7 @@ ghost use Rattle.reel_commands.specs.Importing.{frames_by, WasImported, BreaksOf
 use crate::cause::ReelFault;
 use crate::files::{TakenName, TapeFolder};
 use command_ends::{Fault, read_text};
-use reel::{Cutting, Levels, MOST_TAPES, Piece, frames_in, frames_of, tape_name, tapes_of};
+use reel::{Cutting, Levels, MOST_TAPES, RollPiece, frames_in, frames_of, tape_name, tapes_of};
 use std::alloc::Global;
 use std::io::Read;
 
@@ -30,7 +30,7 @@ pub struct Imported {
     /// How many frames it has.
     pub frames: usize,
     /// Its tapes, each a file by now.
-    pub tapes: Vec<Piece>,
+    pub tapes: Vec<RollPiece>,
 }
 
 /// Reads the frames of a reel from the input at its path.
@@ -56,7 +56,11 @@ fn read_frames<'a, R: Read>(
 }
 
 /// The tapes of frames, of which there is one at least, and no more than have names.
-fn tapes_in<'a>(alloc: Global, frames: &[u8], cutting: Cutting) -> Result<Vec<Piece>, ReelFault<'a>>
+fn tapes_in<'a>(
+    alloc: Global,
+    frames: &[u8],
+    cutting: Cutting,
+) -> Result<Vec<RollPiece>, ReelFault<'a>>
     ensures ok { IfOk result (λ tapes. AreTapes cutting.least cutting.trims frames.now tapes.items) }
     ensures few { IfOk result (λ tapes. length tapes.items ≤ 999) }
     ensures err { IfErr result (λ e. IsOfInput (end_in e)) }
@@ -140,16 +144,16 @@ fn make_one<'a, F: TapeFolder>(
 
 /// A roll, and the tapes that it becomes.
 #[derive(Drop)]
-struct Roll {
+struct TapeRoll {
     frames: Vec<u8>,
-    tapes: Vec<Piece>,
+    tapes: Vec<RollPiece>,
 }
 
 /// Makes the files of tapes, in order, up to the first that can't be made.
 fn make_all<'a, F: TapeFolder>(
     alloc: Global,
     path: &'a str,
-    roll: &Roll,
+    roll: &TapeRoll,
     folder: &mut F,
 ) -> Result<(), ReelFault<'a>>
     requires { length roll.now.tapes.items ≤ 999 }
@@ -181,7 +185,7 @@ pub fn import<'a, R: Read, F: TapeFolder>(
     let frames = read_frames(alloc, reel, input)?;
     let tapes = tapes_in(alloc, &frames, reel.cutting)?;
     look_for_all(alloc, reel.folder, tapes.len(), folder)?;
-    let roll = Roll { frames, tapes };
+    let roll = TapeRoll { frames, tapes };
     make_all(alloc, reel.folder, &roll, folder)?;
     let frames = roll.frames.len();
     Ok(Imported {

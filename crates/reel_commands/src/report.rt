@@ -11,20 +11,20 @@ use crate::columns::put_digits;
 use crate::importing::Imported;
 use crate::outputs::put_whole;
 use command_ends::{End, Fault};
-use reel::{Piece, tape_name};
+use reel::{RollPiece, tape_name};
 use std::alloc::{AllocError, Global};
 use std::io::Write;
 use tape_frames::MAX_FRAMES;
 
 /// How many frames a piece has.
-fn len_of(piece: Piece) -> usize
+fn len_of(piece: RollPiece) -> usize
     ensures { result ≡ len_of piece }
 {
     piece.to.saturating_sub(piece.from)
 }
 
 /// Whether a piece is longer than a tape may be.
-fn is_long(piece: Piece) -> bool
+fn is_long(piece: RollPiece) -> bool
     ensures { result ≡ is_long piece }
 {
     len_of(piece) > MAX_FRAMES
@@ -32,7 +32,7 @@ fn is_long(piece: Piece) -> bool
 
 /// What is told of a piece that is too long.
 #[tactic(auto, unfolding(crate::specs::Report::warning))]
-fn warning(piece: Piece) -> &'static str
+fn warning(piece: RollPiece) -> &'static str
     ensures { result.now ≡ warning piece }
 {
     if is_long(piece) {
@@ -47,7 +47,7 @@ fn put_line(
     alloc: Global,
     text: &mut Vec<u8>,
     number: usize,
-    piece: Piece,
+    piece: RollPiece,
 ) -> Result<(), AllocError>
     ensures { OnOk result (text.new.items ≡ text.old.items ++ tape_line number piece) }
 {
@@ -61,7 +61,7 @@ fn put_line(
 }
 
 /// Writes the lines of tapes.
-fn put_lines(alloc: Global, text: &mut Vec<u8>, tapes: &[Piece]) -> Result<(), AllocError>
+fn put_lines(alloc: Global, text: &mut Vec<u8>, tapes: &[RollPiece]) -> Result<(), AllocError>
     ensures { OnOk result (text.new.items ≡ text.old.items ++ lines_from 1 tapes.now) }
 {
     for (before, tape) in tapes.iter().enumerate() {
@@ -115,7 +115,7 @@ pub fn put_import<'a, W: Write>(
 }
 
 /// How `import` ends once all tapes are made: by a fault of the input where one of them is longer than a tape may be.
-pub fn end_by(tapes: &[Piece]) -> End
+pub fn end_by(tapes: &[RollPiece]) -> End
     ensures { result ≡ end_by tapes.now }
 {
     match tapes {

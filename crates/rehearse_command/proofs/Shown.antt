@@ -28,7 +28,7 @@ use Rattle.world.specs.Worlds.{GoesOn}
 use Rattle.world.proofs.Asking.{ends_more}
 use Rattle.rehearse_command.specs.Scenes.{Scene, ArePlayed, TakesAs, Takes, scene_text, scenes_text}
 use Rattle.rehearse_command.specs.Rehearsals.{Inputs, IsSetUpBy, Shows, Stands, StandsFront, IsOn, IsStaged, Rehearses}
-use Rattle.rehearse_command.specs.declared.rehearsal.Stage.{Stage}
+use Rattle.rehearse_command.specs.declared.rehearsal.Rehearsal.{Rehearsal}
 use Rattle.rehearse_command.proofs.Listing.{sent_in, scenes_more}
 
 -- what is behind the old list is what it goes on by
@@ -160,11 +160,11 @@ module _ (by : Inputs) where
   front_rehearsed start now r = rehearsed_as (Appends start now) (AppendsFront start now) (λ text h. front_of_all start now text h) r
 
   -- what stands on a stage that is no more new is on it
-  pub played_on : (start now : Option (List ℕ)) (stage : Stage) → stage.is_new ≡ false → Stands by start now stage.world → IsOn by start now stage
+  pub played_on : (start now : Option (List ℕ)) (stage : Rehearsal) → stage.is_new ≡ false → Stands by start now stage.world → IsOn by start now stage
   played_on start now stage played s = (s, λ new. absurd (true≢false (sym new ∙ played)))
 
   -- what stands on the stage, and nothing where there is none, was rehearsed
-  pub staged_rehearsed : (start now : Option (List ℕ)) (stage : Option Stage) → IsStaged by start now stage → Rehearses by (Appends start now)
+  pub staged_rehearsed : (start now : Option (List ℕ)) (stage : Option Rehearsal) → IsStaged by start now stage → Rehearses by (Appends start now)
   staged_rehearsed start now None h = inl h
   staged_rehearsed start now (Some stage) h = inr (stage.world, h.0)
 

@@ -14,7 +14,7 @@ use Rattle.world.specs.Founding.{Given}
 use Rattle.world.specs.Playing.{IsFresh}
 use Rattle.world.specs.Reach.{Agreed, IsReached}
 use Rattle.rehearse_command.specs.Scenes.{Scene, AreOf, ArePlayed, scenes_text}
-use Rattle.rehearse_command.specs.declared.rehearsal.Stage.{Stage}
+use Rattle.rehearse_command.specs.declared.rehearsal.Rehearsal.{Rehearsal}
 
 -- what is known of the texts that the members are set up from: a code table's, and a width file's
 pub record Inputs : Type 0 where
@@ -65,11 +65,11 @@ abbrev pub BeginsIn : Version → World MemoryOf → Type 0
 BeginsIn version v = (k : ℕ) × (members : List Given) × IsFresh ghosts k members (λ m. version) v
 
 -- on a stage that is new nothing was written
-abbrev pub IsOn : Inputs → Option (List ℕ) → Option (List ℕ) → Stage → Type 0
+abbrev pub IsOn : Inputs → Option (List ℕ) → Option (List ℕ) → Rehearsal → Type 0
 IsOn by start now stage = Stands by start now stage.world × (stage.is_new ≡ true → Appends start now [])
 
 -- before there is a circuit nothing was written
-abbrev pub IsStaged : Inputs → Option (List ℕ) → Option (List ℕ) → Option Stage → Type 0
+abbrev pub IsStaged : Inputs → Option (List ℕ) → Option (List ℕ) → Option Rehearsal → Type 0
 IsStaged by start now None = Appends start now []
 IsStaged by start now (Some stage) = IsOn by start now stage
 

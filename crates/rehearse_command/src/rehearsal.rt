@@ -15,7 +15,7 @@ use crate::scene_lines::put_scene;
 use code_table::CodeTable;
 use command_ends::{End, Fault, ScriptPaths, read_table, read_text, read_widths};
 use saved_rows::MemoryRows;
-use script_lines::{LineFault, Order, is_ignored, order_of};
+use script_lines::{Order, ScriptFault, is_ignored, order_of};
 use std::alloc::{AllocError, Global};
 use std::io::{Read, Write};
 use std::mem::ManuallyDrop;
@@ -29,7 +29,7 @@ const CIRCUIT: u16 = 7;
 /// A circuit of so many members that is rehearsed, the moment that it has reached, in milliseconds, and room for the lines
 /// that are shown. It is new until a line is played that does more than set it.
 #[derive(Drop)]
-struct Stage {
+struct Rehearsal {
     world: World<MemoryRows>,
     now: u64,
     text: String,
@@ -68,7 +68,7 @@ fn stage_of<'a>(
     line: usize,
     count: u8,
     version: Version,
-) -> Result<Stage, Fault<'a>>
+) -> Result<Rehearsal, Fault<'a>>
     ensures begins { IfOk result (λ stage. BeginsIn (version_of version) stage.world) }
     ensures stands { IfOk result (λ stage. (by : Inputs) (start now : Option (List ℕ)) → IsSetUpBy by (setting.entry.table.now, setting.entry.widths.now)
         → Appends start now [] → Stands by start now stage.world) }
@@ -78,7 +78,7 @@ fn stage_of<'a>(
         return Err(Fault::OutOfMemory);
     };
     match circuit_in_memory(alloc, CIRCUIT, version, members) {
-        Ok(world) => Ok(Stage {
+        Ok(world) => Ok(Rehearsal {
             world,
             now: 0,
             text: String::new(alloc),
@@ -162,7 +162,7 @@ fn show_step<'a, W: Write>(
     }
 }
 
-impl Stage {
+impl Rehearsal {
     /// Sets the stage anew with its members in this version, as long as it is new.
     fn turn_to<'a>(
         &mut self,
@@ -218,8 +218,8 @@ fn set_stage<'a>(
     alloc: Global,
     setting: Setting<'_>,
     line: usize,
-    order: Result<Order, LineFault>,
-) -> Result<Stage, Fault<'a>>
+    order: Result<Order, ScriptFault>,
+) -> Result<Rehearsal, Fault<'a>>
     ensures begins { IfOk result (λ stage. BeginsIn One stage.world) }
     ensures stands { IfOk result (λ stage. (by : Inputs) (start now : Option (List ℕ)) → IsSetUpBy by (setting.entry.table.now, setting.entry.widths.now)
         → Appends start now [] → IsOn by start now stage) }
@@ -227,7 +227,7 @@ fn set_stage<'a>(
 {
     match order {
         Ok(Order::Members(count)) => stage_of(alloc, setting, line, count, Version::One),
-        Err(LineFault::OutOfMemory) => Err(Fault::OutOfMemory),
+        Err(ScriptFault::OutOfMemory) => Err(Fault::OutOfMemory),
         _ => Err(Fault::script(line, "bad line")),
     }
 }
@@ -236,9 +236,9 @@ fn set_stage<'a>(
 fn play_order<'a, W: Write>(
     alloc: Global,
     setting: Setting<'_>,
-    stage: &mut Stage,
+    stage: &mut Rehearsal,
     line: usize,
-    order: Result<Order, LineFault>,
+    order: Result<Order, ScriptFault>,
     out: &mut W,
 ) -> Result<(), Fault<'a>>
     ensures goes_on { (by : Inputs) (start : Option (List ℕ)) → IsSetUpBy by (setting.entry.table.now, setting.entry.widths.now)
@@ -250,9 +250,9 @@ fn play_order<'a, W: Write>(
     match order {
         Ok(Order::Wire(version)) => stage.turn_to(alloc, setting, line, version),
         Ok(order) => stage.play(alloc, order, line, out),
-        Err(LineFault::OutOfMemory) => Err(Fault::OutOfMemory),
-        Err(LineFault::BadTape) => Err(Fault::script(line, "bad tape")),
-        Err(LineFault::BadLine) => Err(Fault::script(line, "bad line")),
+        Err(ScriptFault::OutOfMemory) => Err(Fault::OutOfMemory),
+        Err(ScriptFault::BadTape) => Err(Fault::script(line, "bad tape")),
+        Err(ScriptFault::BadLine) => Err(Fault::script(line, "bad line")),
     }
 }
 
@@ -260,7 +260,7 @@ fn play_order<'a, W: Write>(
 fn play_line<'a, W: Write>(
     alloc: Global,
     setting: Setting<'_>,
-    stage: &mut Option<Stage>,
+    stage: &mut Option<Rehearsal>,
     line: usize,
     words: &[u8],
     out: &mut W,

@@ -1,7 +1,7 @@
 -- Whom the station asks for what.
 use Rattle.std.specs.Prelude.{◌≡◌, ◌<◌, ◌≤◌, ◌⊎◌, ℕ, ◌+◌, ◌-◌, ◌^◌, ◌%◌, Bool, true, false, not, ◌&&◌, ◌==◌, nat_lt, nat_le, min, List, replicate, Option, Some, None, IfSome, slice_index_or, slice_set, if◌then◌else◌, count_by}
 use Rattle.gone_out.specs.declared.origin.Origin.{Origin}
-use Rattle.roll_call.specs.declared.look.Look.{Look}
+use Rattle.roll_call.specs.declared.look.RollLook.{RollLook}
 use Rattle.roll_call.specs.declared.asks.Question.{Question}
 use Rattle.roll_call.specs.Topics.{Topic}
 use Rattle.roll_call.specs.Tellers.{TellerValue, silent, is_counts_due, page_due, asked_for, called, is_pending, told_counts, told_page}
@@ -49,7 +49,7 @@ abbrev pub came_at : ℕ → AsksValue → AsksValue
 came_at now a = record a { news = (a.news + 1) % 2 ^ 64; last = now }
 
 -- what a look goes by at a moment: it is quiet where nothing came for 1,000 ms
-abbrev pub look_at : ℕ → AsksValue → Look
+abbrev pub look_at : ℕ → AsksValue → RollLook
 look_at now a = record { moment = now; news = a.news; is_quiet = nat_le 1000 (now - a.last) }
 
 -- the member at a place is another one of the circuit
@@ -57,7 +57,7 @@ abbrev pub is_other : Origin → ℕ → Bool
 is_other own place = nat_lt place own.count && not (place + 1 == own.member)
 
 -- the member at a place is asked for its counts now
-abbrev pub counts_due_at : Origin → Look → List TellerValue → ℕ → Bool
+abbrev pub counts_due_at : Origin → RollLook → List TellerValue → ℕ → Bool
 counts_due_at own l tellers place = is_other own place && is_counts_due l (teller_at place tellers)
 
 -- the page that the member at a place is asked for now, where nobody is asked for counts
@@ -65,11 +65,11 @@ abbrev pub page_due_at : Origin → ℕ → List TellerValue → ℕ → Option 
 page_due_at own now tellers place = if is_other own place then page_due now (teller_at place tellers) else None
 
 -- none of the first members is asked for its counts
-abbrev pub NoCountsDue : Origin → Look → List TellerValue → ℕ → Type 0
+abbrev pub NoCountsDue : Origin → RollLook → List TellerValue → ℕ → Type 0
 NoCountsDue own l tellers many = (place : ℕ) → place < many → counts_due_at own l tellers place ≡ false
 
 -- the first member that is asked for its counts, if one is
-abbrev pub IsFirstDue : Origin → Look → List TellerValue → Option ℕ → Type 0
+abbrev pub IsFirstDue : Origin → RollLook → List TellerValue → Option ℕ → Type 0
 IsFirstDue own l tellers None = NoCountsDue own l tellers 15
 IsFirstDue own l tellers (Some place) = (place < 15) × (counts_due_at own l tellers place ≡ true) × NoCountsDue own l tellers place
 
@@ -86,14 +86,14 @@ is_lower page None = true
 is_lower page (Some (place, low)) = nat_lt page low
 
 -- who is asked for what, if anybody is: for its counts first; else, where pages may be asked for, the lowest page
-abbrev pub IsChoice : Origin → Look → Bool → List TellerValue → Option (ℕ × Topic) → Type 0
+abbrev pub IsChoice : Origin → RollLook → Bool → List TellerValue → Option (ℕ × Topic) → Type 0
 IsChoice own l may tellers (Some (place, None)) = IsFirstDue own l tellers (Some place)
 IsChoice own l may tellers (Some (place, Some page)) =
     IsFirstDue own l tellers None × (may ≡ true) × IsLowestDue own l.moment tellers 15 (Some (place, page))
 IsChoice own l may tellers None = IsFirstDue own l tellers None × ((may ≡ false) ⊎ IsLowestDue own l.moment tellers 15 None)
 
 -- a member is asked for something, by the next number
-abbrev pub with_question : Look → Question → AsksValue → AsksValue
+abbrev pub with_question : RollLook → Question → AsksValue → AsksValue
 with_question l q a =
     with_teller (q.to - 1) (asked_for l q.asked q.page (teller_at (q.to - 1) a.tellers)) (record a { asked = q.asked })
 

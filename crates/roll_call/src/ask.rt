@@ -4,7 +4,7 @@ ghost use Rattle.std.specs.Prelude.{◌≡◌};
 ghost use Rattle.rolls.specs.Bodies.{said};
 ghost use Rattle.roll_call.specs.Topics.{is_same, question_of};
 
-use rolls::{Body, Page};
+use rolls::{Page, RollBody};
 
 /// An ask of a member that waits to be answered.
 #[derive(Clone, Copy, Default)]
@@ -29,11 +29,11 @@ pub(crate) fn is_same(page: &Option<Page>, other: &Option<Page>) -> bool
 }
 
 /// What is said to ask for a page, or for the counts.
-pub(crate) fn question_of(page: &Option<Page>) -> Body
+pub(crate) fn question_of(page: &Option<Page>) -> RollBody
     ensures { said result ≡ question_of page.now }
 {
     match page {
-        Some(page) => Body::PageAsked(*page),
-        None => Body::CountsAsked,
+        Some(page) => RollBody::PageAsked(*page),
+        None => RollBody::CountsAsked,
     }
 }

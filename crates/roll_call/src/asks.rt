@@ -7,7 +7,7 @@ ghost use Rattle.roll_call.specs.Tellers.{silent};
 ghost use Rattle.roll_call.specs.Asks.{asks_from, came_at, counts_told, is_asked_for, is_other, look_at, page_told, turned, whole_many, with_question, with_turn, IsAsked};
 
 use crate::choice::{choice, turn_after};
-use crate::look::Look;
+use crate::look::RollLook;
 use crate::teller::Teller;
 use ballots::{MOST_MEMBERS, Member};
 use gone_out::Origin;
@@ -95,10 +95,10 @@ impl Asks {
     }
 
     /// What a look goes by at a moment.
-    fn look(&self, now: u64) -> Look
+    fn look(&self, now: u64) -> RollLook
         ensures { result ≡ look_at now self.now }
     {
-        Look {
+        RollLook {
             moment: now,
             news: self.news,
             is_quiet: now.saturating_sub(self.last) >= QUIET,
@@ -117,7 +117,7 @@ impl Asks {
     }
 
     /// A member is asked for something, by the next number.
-    fn question(&mut self, look: &Look, place: usize, page: Option<Page>) -> Question
+    fn question(&mut self, look: &RollLook, place: usize, page: Option<Page>) -> Question
         requires { place < 15 }
         ensures place { result.to ≡ place + 1 }
         ensures page { result.page ≡ page }

@@ -3,7 +3,7 @@
 ghost use Rattle.std.specs.Prelude.{◌≡◌, ◌<◌, length, IfSome};
 ghost use Rattle.roll_call.specs.Asks.{behind, counts_due_at, is_other, page_due_at, turn_after, is_lower, IsChoice, IsFirstDue, IsLowestDue};
 
-use crate::look::Look;
+use crate::look::RollLook;
 use crate::teller::Teller;
 use ballots::MOST_MEMBERS;
 use gone_out::Origin;
@@ -48,7 +48,7 @@ fn is_other(own: &Origin, place: usize) -> bool
 }
 
 /// Whether the member at a place is asked for its counts now.
-fn is_counts_due(own: &Origin, look: &Look, tellers: &[Teller], place: usize) -> bool
+fn is_counts_due(own: &Origin, look: &RollLook, tellers: &[Teller], place: usize) -> bool
     requires many { length tellers.now ≡ 15 }
     requires within { place < 15 }
     ensures { result ≡ counts_due_at own.now look.now tellers.now place }
@@ -57,7 +57,7 @@ fn is_counts_due(own: &Origin, look: &Look, tellers: &[Teller], place: usize) ->
 }
 
 /// The first member that is asked for its counts now.
-fn first_due(own: &Origin, look: &Look, tellers: &[Teller]) -> Option<usize>
+fn first_due(own: &Origin, look: &RollLook, tellers: &[Teller]) -> Option<usize>
     requires { length tellers.now ≡ 15 }
     ensures { IsFirstDue own.now look.now tellers.now result }
 {
@@ -112,7 +112,7 @@ fn lowest_due(own: &Origin, now: u64, tellers: &[Teller]) -> Lowest
 /// Who is asked for what now: the place of the member. Pages only where they may be asked for.
 pub(crate) fn choice(
     own: &Origin,
-    look: &Look,
+    look: &RollLook,
     tellers: &[Teller],
     may_ask_pages: bool,
 ) -> Option<(usize, Option<Page>)>

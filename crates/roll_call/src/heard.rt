@@ -9,22 +9,22 @@ use rolls::{PAGES, Page};
 use std::marker::Model;
 
 /// A count for each page.
-type Tally = ArrayVec<u16, PAGES>;
+type PageTally = ArrayVec<u16, PAGES>;
 
 /// How many numbers of each page have a vote at a member, as far as it told.
 #[derive(Drop)]
-pub(crate) struct Heard {
+pub(crate) struct HeardCounts {
     /// The counts that it told last.
-    told: Tally,
+    told: PageTally,
     /// How many votes of a page it had when it told which.
-    known: Tally,
+    known: PageTally,
     /// The first page of which these differ.
     lowest: Option<Page>,
     /// Whether there was a time since the start when none did.
     is_whole: bool,
 }
 
-impl Model for Heard {
+impl Model for HeardCounts {
     ghost use Rattle.std.specs.Prelude.{◌≡◌, ◌≤◌, length};
     ghost use Rattle.rolls.specs.Pages.{pages};
     ghost use Rattle.roll_call.specs.Heard.{HeardValue};
@@ -37,7 +37,7 @@ impl Model for Heard {
 }
 
 /// A copy of counts.
-fn copied(counts: &[u16]) -> Tally
+fn copied(counts: &[u16]) -> PageTally
     requires { length counts.now ≡ pages }
     ensures { result.items ≡ counts.now }
 {
@@ -71,12 +71,12 @@ fn lowest_of(told: &[u16], known: &[u16]) -> Option<Page>
     Page::new(first_other(told, known) as u8)
 }
 
-impl Heard {
+impl HeardCounts {
     /// It told nothing yet.
-    pub(crate) fn new() -> Heard
+    pub(crate) fn new() -> HeardCounts
         ensures { result ≡ nothing_heard }
     {
-        Heard {
+        HeardCounts {
             told: ArrayVec::from([0; PAGES]),
             known: ArrayVec::from([0; PAGES]),
             lowest: None,

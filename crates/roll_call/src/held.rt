@@ -15,12 +15,12 @@ use std::marker::Model;
 
 /// Which numbers have a vote at the station, and how many of each page.
 #[derive(Drop)]
-pub(crate) struct Held {
+pub(crate) struct HeldVotes {
     votes: Numbers,
     counts: Counts,
 }
 
-impl Model for Held {
+impl Model for HeldVotes {
     ghost use Rattle.roll_call.specs.Held.{HeldValue, AreCounted};
 
     ghost Value = { HeldValue };
@@ -77,14 +77,14 @@ fn counts_of(votes: &Numbers) -> Counts
     counts
 }
 
-impl Held {
+impl HeldVotes {
     /// These numbers have a vote.
-    pub(crate) fn new(votes: Numbers) -> Held
+    pub(crate) fn new(votes: Numbers) -> HeldVotes
         ensures votes { result.votes ≡ votes }
         ensures counts { AreCounted result.votes result.counts }
     {
         let counts = counts_of(&votes);
-        Held { votes, counts }
+        HeldVotes { votes, counts }
     }
 
     /// A number has a vote.

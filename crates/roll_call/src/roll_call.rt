@@ -12,10 +12,10 @@ ghost use Rattle.roll_call.specs.RollCall.{AsksNext, IsAnswer, IsHeard, IsNext, 
 use crate::answers::Answers;
 use crate::ask::{Ask, question_of};
 use crate::asks::Asks;
-use crate::held::Held;
+use crate::held::HeldVotes;
 use ballots::{Member, Number};
 use gone_out::{Numbers, Origin};
-use rolls::{Body, Page, Roll};
+use rolls::{Page, Roll, RollBody};
 use std::alloc::{AllocError, Global};
 use std::marker::Model;
 
@@ -24,7 +24,7 @@ use std::marker::Model;
 #[derive(Drop)]
 pub struct RollCall {
     own: Origin,
-    held: Held,
+    held: HeldVotes,
     answers: Answers,
     asks: Asks,
 }
@@ -55,7 +55,7 @@ impl RollCall {
         let asks = Asks::new(alloc, &own, now)?;
         Ok(RollCall {
             own,
-            held: Held::new(votes),
+            held: HeldVotes::new(votes),
             answers,
             asks,
         })
@@ -84,9 +84,9 @@ impl RollCall {
     {
         let (from, asked) = (roll.from(), roll.asked());
         match roll.body() {
-            Body::CountsAsked | Body::PageAsked(_) => false,
-            Body::Counts(_) => self.asks.is_asked_for(from, asked, &None),
-            Body::Page(votes) => self.asks.is_asked_for(from, asked, &Some(votes.page())),
+            RollBody::CountsAsked | RollBody::PageAsked(_) => false,
+            RollBody::Counts(_) => self.asks.is_asked_for(from, asked, &None),
+            RollBody::Page(votes) => self.asks.is_asked_for(from, asked, &Some(votes.page())),
         }
     }
 
@@ -100,10 +100,10 @@ impl RollCall {
     {
         let (from, asked) = (roll.from(), roll.asked());
         match roll.body() {
-            Body::CountsAsked => self.ask(from, asked, None),
-            Body::PageAsked(page) => self.ask(from, asked, Some(*page)),
-            Body::Counts(counts) => self.asks.tell_counts(from, asked, counts.as_slice()),
-            Body::Page(votes) => self
+            RollBody::CountsAsked => self.ask(from, asked, None),
+            RollBody::PageAsked(page) => self.ask(from, asked, Some(*page)),
+            RollBody::Counts(counts) => self.asks.tell_counts(from, asked, counts.as_slice()),
+            RollBody::Page(votes) => self
                 .asks
                 .tell_page(from, asked, votes.page(), votes.count()),
         }
@@ -129,17 +129,17 @@ impl RollCall {
     }
 
     /// What is told of the station's votes.
-    fn told(&self, page: Option<Page>) -> Body
+    fn told(&self, page: Option<Page>) -> RollBody
         ensures { IsTold self.now.held page (said result) }
     {
         match page {
-            Some(page) => Body::Page(self.held.page(page)),
-            None => Body::Counts(self.held.counts()),
+            Some(page) => RollBody::Page(self.held.page(page)),
+            None => RollBody::Counts(self.held.counts()),
         }
     }
 
     /// A roll to another member.
-    fn roll_to(&self, to: Member, asked: u32, body: Body) -> Roll
+    fn roll_to(&self, to: Member, asked: u32, body: RollBody) -> Roll
         requires { ¬ (to ≡ self.now.own.member) }
         ensures { result ≡ record { circuit = self.now.own.circuit; from = self.now.own.member; to = to; asked = asked; body = said body } }
     {

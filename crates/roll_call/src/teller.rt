@@ -6,8 +6,8 @@ ghost use Rattle.roll_call.specs.Topics.{the_counts};
 ghost use Rattle.roll_call.specs.Tellers.{asked_for, called, is_anew, is_counts_due, is_pending, is_waiting, pending_after, page_due, silent, told_counts, told_page, tries_after, tries_of};
 
 use crate::ask::is_same;
-use crate::heard::Heard;
-use crate::look::Look;
+use crate::heard::HeardCounts;
+use crate::look::RollLook;
 use rolls::Page;
 use std::marker::Model;
 
@@ -19,7 +19,7 @@ const MOST_TRIES: u8 = 6;
 
 /// What a member was asked for last and did not tell yet.
 #[derive(Clone, Copy)]
-pub struct Pending {
+pub struct PendingAsk {
     /// The station's number of the ask.
     pub asked: u32,
     /// The page, or none where its counts were asked for.
@@ -33,8 +33,8 @@ pub struct Pending {
 /// A member that is asked for its counts and its pages.
 #[derive(Drop)]
 pub(crate) struct Teller {
-    heard: Heard,
-    pending: Option<Pending>,
+    heard: HeardCounts,
+    pending: Option<PendingAsk>,
     /// Whether its counts are to be asked for.
     is_due: bool,
     /// How many packets had come when they were asked for last.
@@ -55,7 +55,7 @@ impl Teller {
         ensures { result ≡ silent }
     {
         Teller {
-            heard: Heard::new(),
+            heard: HeardCounts::new(),
             pending: None,
             is_due: true,
             seen: 0,
@@ -83,14 +83,14 @@ impl Teller {
     }
 
     /// Whether what it told may be old, now that it is quiet.
-    fn is_anew(&self, look: &Look) -> bool
+    fn is_anew(&self, look: &RollLook) -> bool
         ensures { result ≡ is_anew look.now self.now }
     {
         look.is_quiet && self.seen != look.news
     }
 
     /// Whether its counts are asked for now.
-    pub(crate) fn is_counts_due(&self, look: &Look) -> bool
+    pub(crate) fn is_counts_due(&self, look: &RollLook) -> bool
         ensures { result ≡ is_counts_due look.now self.now }
     {
         !self.is_waiting(look.moment)
@@ -109,7 +109,7 @@ impl Teller {
     }
 
     /// How often in a row it was asked without an answer after it is asked now.
-    fn tries_after(&self, look: &Look) -> u8
+    fn tries_after(&self, look: &RollLook) -> u8
         ensures { result ≡ tries_after look.now self.now }
     {
         if self.is_anew(look) {
@@ -120,10 +120,10 @@ impl Teller {
     }
 
     /// Its counts are asked for.
-    pub(crate) fn ask_counts(&mut self, look: &Look, asked: u32)
+    pub(crate) fn ask_counts(&mut self, look: &RollLook, asked: u32)
         ensures { self.new ≡ asked_for look.now asked the_counts self.old }
     {
-        self.pending = Some(Pending {
+        self.pending = Some(PendingAsk {
             asked,
             page: None,
             since: look.moment,
@@ -134,10 +134,10 @@ impl Teller {
     }
 
     /// A page of it is asked for.
-    pub(crate) fn ask_page(&mut self, look: &Look, asked: u32, page: Page)
+    pub(crate) fn ask_page(&mut self, look: &RollLook, asked: u32, page: Page)
         ensures { self.new ≡ asked_for look.now asked (Some page) self.old }
     {
-        self.pending = Some(Pending {
+        self.pending = Some(PendingAsk {
             asked,
             page: Some(page),
             since: look.moment,

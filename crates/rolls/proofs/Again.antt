@@ -15,8 +15,8 @@ use Rattle.rolls.specs.Asides.{is_aside_of_rolls, aside_in}
 use Rattle.rolls.proofs.Numbers.{two_are, four_are}
 use Rattle.std.specs.Int.{w16, w32, to_be_bytes}
 use Rattle.rolls.specs.Kinds.{number_of_kind, kind_of_byte, body_len}
-use Rattle.rolls.specs.declared.body.Kind.{Kind}
-use Rattle.rolls.specs.declared.body.Kind.TheVariants as kinds
+use Rattle.rolls.specs.declared.body.RollKind.{RollKind}
+use Rattle.rolls.specs.declared.body.RollKind.TheVariants as kinds
 use Rattle.rolls.specs.Rolls.{Body, CountsAsked, Counts, PageAsked, Page, Roll, IsBody, IsRoll}
 use Rattle.rolls.specs.Bodies.{kind_of}
 use Rattle.rolls.specs.Grammar.{Spells}
@@ -57,13 +57,13 @@ body_again : (b : Body) → IsBody b → body_at (kind_of b) (body_bytes b) ≡ 
 unfolding body_at
 body_again b is = rw (body_length b is, not_below (body_len (kind_of b)), told_again b is) refl
 
-byte_again : (k : Kind) → kind_of_byte (number_of_kind k) ≡ Some k
+byte_again : (k : RollKind) → kind_of_byte (number_of_kind k) ≡ Some k
 byte_again kinds.CountsAsked = refl
 byte_again kinds.Counts = refl
 byte_again kinds.PageAsked = refl
 byte_again kinds.Page = refl
 
-not_one : (k : Kind) → eqb (number_of_kind k) 1 ≡ false
+not_one : (k : RollKind) → eqb (number_of_kind k) 1 ≡ false
 not_one kinds.CountsAsked = refl
 not_one kinds.Counts = refl
 not_one kinds.PageAsked = refl
@@ -79,7 +79,7 @@ module _ (r : Roll) (is : IsRoll r) where
 
   kind_again : kind_at (spelling r) ≡ Ok (kind_of r.body)
   unfolding kind_at
-  kind_again = ap (λ (o : Option Kind). wanted BadKind o) (byte_again (kind_of r.body))
+  kind_again = ap (λ (o : Option RollKind). wanted BadKind o) (byte_again (kind_of r.body))
 
   members_again : members_at (spelling r) ≡ Ok (r.from, r.to)
   unfolding members_at member_at
@@ -111,7 +111,7 @@ pub is_again : (result : Result (Vec ℕ) AllocError) (r : Roll) → IfOk result
 is_again (Ok v) r s = reads_it_again v.items r s
 is_again (Err refused) r s = tt
 
-one_kind : (k l : Kind) → Some k ≡ Some l → k ≡ l
+one_kind : (k l : RollKind) → Some k ≡ Some l → k ≡ l
 one_kind k l e = cc
 
 -- two spellings of which one begins with the other have one kind, so one length

@@ -8,8 +8,8 @@ use Rattle.protocol.specs.Ballots.{IsMember}
 use Rattle.packets.specs.Grammar.{IsBytes}
 use Rattle.rolls.specs.Pages.{pages}
 use Rattle.rolls.specs.Kinds.{number_of_kind, kind_of_byte, body_len}
-use Rattle.rolls.specs.declared.body.Kind.{Kind}
-use Rattle.rolls.specs.declared.body.Kind.TheVariants as kinds
+use Rattle.rolls.specs.declared.body.RollKind.{RollKind}
+use Rattle.rolls.specs.declared.body.RollKind.TheVariants as kinds
 use Rattle.rolls.specs.Counts.{counts_fit}
 use Rattle.rolls.specs.Votes.{Votes, AreVotes, are_zero, only_numbers}
 use Rattle.rolls.specs.Rolls.{Body, Counts, Roll, IsBody}
@@ -59,7 +59,7 @@ marked bytes e =
     (eqb-true _ _ both.0, eqb-true _ _ both.1, eqb-true _ _ (unnot _ version))
 
 -- one kind after another
-tried : (n m : ℕ) (k l : Kind) (rest : Option Kind) → number_of_kind k ≡ m → wanted BadKind (if eqb n m then Some k else rest) ≡ Ok l
+tried : (n m : ℕ) (k l : RollKind) (rest : Option RollKind) → number_of_kind k ≡ m → wanted BadKind (if eqb n m then Some k else rest) ≡ Ok l
     → (n ≡ number_of_kind l) ⊎ (wanted BadKind rest ≡ Ok l)
 tried n m k l rest is e = go (eqb n m) refl e
   where
@@ -67,7 +67,7 @@ tried n m k l rest is e = go (eqb n m) refl e
     go true t e = inl (eqb-true n m t ∙ sym is ∙ ap number_of_kind (ok_same (Ok k) refl e))
     go false t e = inr e
 
-kind_found : (n : ℕ) (l : Kind) → wanted BadKind (kind_of_byte n) ≡ Ok l → n ≡ number_of_kind l
+kind_found : (n : ℕ) (l : RollKind) → wanted BadKind (kind_of_byte n) ≡ Ok l → n ≡ number_of_kind l
 kind_found n l e = elim (tried n 2 kinds.CountsAsked l _ refl e) [
   | inl is ↦ is
   | inr e3 ↦ elim (tried n 3 kinds.Counts l _ refl e3) [
@@ -163,7 +163,7 @@ fit_behind [] fit i = fit i
 fit_behind (b ∷ bytes) fit i = fit (suc i)
 
 -- what a body was read from
-record Told (k : Kind) (bytes : List ℕ) (b : Body) : Type 0 where
+record Told (k : RollKind) (bytes : List ℕ) (b : Body) : Type 0 where
   kind : kind_of b ≡ k
   spells : SpellsBody bytes b
   is_body : IsBody b
@@ -181,7 +181,7 @@ votes_found bytes v fit len e =
     subst (λ (x : Votes). (bytes ≡ x.page ∷ x.bytes) × AreVotes x) same
     (all ∙ ap (λ (p : ℕ). p ∷ bits) first.0, votes_are page bits first.1 many small is)
 
-told_found : (k : Kind) (bytes : List ℕ) (b : Body) → IsBytes bytes → length bytes ≡ body_len k → told_at k bytes ≡ Ok b → Told k bytes b
+told_found : (k : RollKind) (bytes : List ℕ) (b : Body) → IsBytes bytes → length bytes ≡ body_len k → told_at k bytes ≡ Ok b → Told k bytes b
 unfolding counts_at
 told_found kinds.CountsAsked bytes b fit len e =
     let (padded, e1, e2) = bound (pad_at 5 bytes) _ b e in
@@ -204,7 +204,7 @@ told_found kinds.Page bytes b fit len e =
     subst (λ (x : Body). Told kinds.Page bytes x) (ok_same _ refl e2)
     (record { kind = refl; spells = all.0; is_body = all.1 })
 
-body_found : (k : Kind) (bytes : List ℕ) (b : Body) → IsBytes bytes → body_at k bytes ≡ Ok b → Told k bytes b
+body_found : (k : RollKind) (bytes : List ℕ) (b : Body) → IsBytes bytes → body_at k bytes ≡ Ok b → Told k bytes b
 unfolding body_at
 body_found k bytes b fit e =
     let (long, e1) = passed (ltb (length bytes) (body_len k)) Short _ b e in

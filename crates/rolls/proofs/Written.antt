@@ -7,8 +7,8 @@ use Rattle.std.specs.Int.{w16, w32, to_be_bytes}
 use Rattle.std.proofs.lemmas.Bool.{cases_eq, ne_eqb}
 use Rattle.rolls.specs.Pages.{numbers_on}
 use Rattle.rolls.specs.Kinds.{number_of_kind, body_len}
-use Rattle.rolls.specs.declared.body.Kind.{Kind}
-use Rattle.rolls.specs.declared.body.Kind.TheVariants as kinds
+use Rattle.rolls.specs.declared.body.RollKind.{RollKind}
+use Rattle.rolls.specs.declared.body.RollKind.TheVariants as kinds
 use Rattle.rolls.specs.Counts.{AreCounts}
 use Rattle.rolls.specs.Rolls.{Body, CountsAsked, Counts, PageAsked, Page, Roll, IsBody, IsRoll}
 use Rattle.rolls.specs.Bodies.{kind_of}
@@ -102,7 +102,7 @@ pub lengths_are_given : LengthsAreGiven
 lengths_are_given bytes r s = ap (λ (l : List ℕ). length l) (spelled_is bytes r s) ∙ spelling_length r (only_rolls bytes r s)
 
 -- none is short
-body_least : (k : Kind) → 5 ≤ body_len k
+body_least : (k : RollKind) → 5 ≤ body_len k
 body_least kinds.CountsAsked = omega arith
 body_least kinds.Counts = omega arith
 body_least kinds.PageAsked = omega arith

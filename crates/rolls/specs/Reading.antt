@@ -7,8 +7,8 @@ use Rattle.rolls.specs.Counts.{counts_fit}
 use Rattle.rolls.specs.Votes.{Votes, are_zero, only_numbers}
 use Rattle.rolls.specs.Kinds.{kind_of_byte, body_len}
 use Rattle.rolls.specs.Rolls.{Body, CountsAsked, Counts, PageAsked, Page, Roll}
-use Rattle.rolls.specs.declared.body.Kind.{Kind}
-use Rattle.rolls.specs.declared.body.Kind.TheVariants as kinds
+use Rattle.rolls.specs.declared.body.RollKind.{RollKind}
+use Rattle.rolls.specs.declared.body.RollKind.TheVariants as kinds
 use Rattle.rolls.specs.declared.fault.RollFault.{RollFault}
 use Rattle.rolls.specs.declared.fault.RollFault.TheVariants.{Short, BadMark, BadVersion, BadKind, BadMember, BadPage, BadPad, BadCount, BadBits, Long}
 
@@ -36,7 +36,7 @@ mark_at bytes =
     if not (slice_index bytes 2 == 1) then Err BadVersion else Ok tt
 
 -- the kind
-unfoldable pub kind_at : List ℕ → Result Kind RollFault
+unfoldable pub kind_at : List ℕ → Result RollKind RollFault
 kind_at bytes = wanted BadKind (kind_of_byte (slice_index bytes 3))
 
 -- the member at this place
@@ -81,14 +81,14 @@ votes_at bytes = do
   if only_numbers page (take page_bytes (drop 1 bytes)) then Ok (record { page = page; bytes = take page_bytes (drop 1 bytes) }) else Err BadBits
 
 -- what is told in a body of this kind
-abbrev pub told_at : Kind → List ℕ → Result Body RollFault
+abbrev pub told_at : RollKind → List ℕ → Result Body RollFault
 told_at kinds.CountsAsked bytes = pad_at 5 bytes >>= λ padded. Ok CountsAsked
 told_at kinds.Counts bytes = counts_at bytes >>= λ counts. Ok (Counts counts)
 told_at kinds.PageAsked bytes = asked_page_at bytes >>= λ page. Ok (PageAsked page)
 told_at kinds.Page bytes = votes_at bytes >>= λ votes. Ok (Page votes.page votes.bytes)
 
 -- the body of this kind that the bytes are
-unfoldable pub body_at : Kind → List ℕ → Result Body RollFault
+unfoldable pub body_at : RollKind → List ℕ → Result Body RollFault
 body_at kind bytes =
     if nat_lt (length bytes) (body_len kind) then Err Short else
     told_at kind bytes >>= λ body. if nat_lt (body_len kind) (length bytes) then Err Long else Ok body

@@ -3,7 +3,7 @@
 ghost use Rattle.std.specs.Prelude.{◌≡◌};
 ghost use Rattle.rolls.specs.Asides.{is_aside_of_rolls, aside_in};
 
-use crate::body::Kind;
+use crate::body::RollKind;
 use crate::fault::RollFault;
 use crate::reading;
 use crate::roll::Roll;
@@ -23,7 +23,7 @@ pub enum Aside {
 fn is_of_rolls(bytes: &[u8]) -> bool
     ensures { result ≡ is_aside_of_rolls bytes.now }
 {
-    bytes.len() > 3 && Kind::of_byte(bytes[3]).is_some()
+    bytes.len() > 3 && RollKind::of_byte(bytes[3]).is_some()
 }
 
 /// The recall or the roll that the bytes spell, or their first fault. It takes no memory.

@@ -13,7 +13,7 @@ pub(crate) const ASK_LEN: usize = 5;
 
 /// The kind of a roll.
 #[derive(Clone, Copy)]
-pub(crate) enum Kind {
+pub(crate) enum RollKind {
     /// How many numbers of each page have a vote is asked.
     CountsAsked,
     /// How many they are.
@@ -24,16 +24,16 @@ pub(crate) enum Kind {
     Page,
 }
 
-impl Kind {
+impl RollKind {
     /// The kind of this number.
-    pub(crate) fn of_byte(byte: u8) -> Option<Kind>
+    pub(crate) fn of_byte(byte: u8) -> Option<RollKind>
         ensures { result ≡ kind_of_byte byte }
     {
         match byte {
-            2 => Some(Kind::CountsAsked),
-            3 => Some(Kind::Counts),
-            4 => Some(Kind::PageAsked),
-            5 => Some(Kind::Page),
+            2 => Some(RollKind::CountsAsked),
+            3 => Some(RollKind::Counts),
+            4 => Some(RollKind::PageAsked),
+            5 => Some(RollKind::Page),
             _ => None,
         }
     }
@@ -43,10 +43,10 @@ impl Kind {
         ensures { result ≡ number_of_kind self }
     {
         match self {
-            Kind::CountsAsked => 2,
-            Kind::Counts => 3,
-            Kind::PageAsked => 4,
-            Kind::Page => 5,
+            RollKind::CountsAsked => 2,
+            RollKind::Counts => 3,
+            RollKind::PageAsked => 4,
+            RollKind::Page => 5,
         }
     }
 
@@ -55,16 +55,16 @@ impl Kind {
         ensures { result ≡ body_len self }
     {
         match self {
-            Kind::CountsAsked | Kind::PageAsked => ASK_LEN,
-            Kind::Counts => 2 * PAGES,
-            Kind::Page => 1 + PAGE_BYTES,
+            RollKind::CountsAsked | RollKind::PageAsked => ASK_LEN,
+            RollKind::Counts => 2 * PAGES,
+            RollKind::Page => 1 + PAGE_BYTES,
         }
     }
 }
 
 /// What a roll says.
 #[derive(Drop)]
-pub enum Body {
+pub enum RollBody {
     /// How many numbers of each page have a vote is asked.
     CountsAsked,
     /// How many numbers of each page have a vote.
@@ -75,16 +75,16 @@ pub enum Body {
     Page(Votes),
 }
 
-impl Body {
+impl RollBody {
     /// The kind of roll that says this.
-    pub(crate) fn kind(&self) -> Kind
+    pub(crate) fn kind(&self) -> RollKind
         ensures { result ≡ kind_of (said self.now) }
     {
         match self {
-            Body::CountsAsked => Kind::CountsAsked,
-            Body::Counts(_) => Kind::Counts,
-            Body::PageAsked(_) => Kind::PageAsked,
-            Body::Page(_) => Kind::Page,
+            RollBody::CountsAsked => RollKind::CountsAsked,
+            RollBody::Counts(_) => RollKind::Counts,
+            RollBody::PageAsked(_) => RollKind::PageAsked,
+            RollBody::Page(_) => RollKind::Page,
         }
     }
 }

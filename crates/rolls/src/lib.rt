@@ -14,7 +14,7 @@ mod votes;
 mod writing;
 
 pub use aside::{Aside, hear};
-pub use body::Body;
+pub use body::RollBody;
 pub use counts::Counts;
 pub use fault::RollFault;
 pub use page::{PAGE_BYTES, PAGE_NUMBERS, PAGES, Page};

@@ -13,7 +13,7 @@ ghost use Rattle.rolls.specs.Grammar.{Spells};
 ghost use Rattle.rolls.specs.Reading.{Seen, mark_at, kind_at, member_at, members_at, counts_in, counts_at, page_at, pad_at, asked_page_at, votes_at, told_at, body_at, roll_at};
 
 use crate::bits::has_bit;
-use crate::body::{ASK_LEN, Body, Kind};
+use crate::body::{ASK_LEN, RollBody, RollKind};
 use crate::counts::Counts;
 use crate::fault::RollFault;
 use crate::page::{PAGE_BYTES, PAGES, Page, numbers_on};
@@ -60,11 +60,11 @@ fn check_mark(bytes: &[u8]) -> Result<(), RollFault>
 }
 
 #[tactic(auto, unfolding(crate::specs::Reading::kind_at))]
-fn kind_of(bytes: &[u8]) -> Result<Kind, RollFault>
+fn kind_of(bytes: &[u8]) -> Result<RollKind, RollFault>
     requires { 12 ≤ length bytes.now }
     ensures { result ≡ kind_at bytes.now }
 {
-    match Kind::of_byte(bytes[3]) {
+    match RollKind::of_byte(bytes[3]) {
         Some(kind) => Ok(kind),
         None => Err(RollFault::BadKind),
     }
@@ -232,24 +232,24 @@ fn votes_of(bytes: &[u8]) -> Result<Votes, RollFault>
 }
 
 /// What is told in bytes that are long enough for it.
-fn told_of(kind: Kind, bytes: &[u8]) -> Result<Body, RollFault>
+fn told_of(kind: RollKind, bytes: &[u8]) -> Result<RollBody, RollFault>
     requires { body_len kind ≤ length bytes.now }
     ensures { Seen said result (told_at kind bytes.now) }
 {
     match kind {
-        Kind::CountsAsked => {
+        RollKind::CountsAsked => {
             check_pad(bytes, ASK_LEN)?;
-            Ok(Body::CountsAsked)
+            Ok(RollBody::CountsAsked)
         }
-        Kind::Counts => Ok(Body::Counts(counts_of(bytes)?)),
-        Kind::PageAsked => Ok(Body::PageAsked(asked_page_of(bytes)?)),
-        Kind::Page => Ok(Body::Page(votes_of(bytes)?)),
+        RollKind::Counts => Ok(RollBody::Counts(counts_of(bytes)?)),
+        RollKind::PageAsked => Ok(RollBody::PageAsked(asked_page_of(bytes)?)),
+        RollKind::Page => Ok(RollBody::Page(votes_of(bytes)?)),
     }
 }
 
 /// The body of this kind that the bytes are, and no more.
 #[tactic(auto, unfolding(crate::specs::Reading::body_at))]
-fn body_of(kind: Kind, bytes: &[u8]) -> Result<Body, RollFault>
+fn body_of(kind: RollKind, bytes: &[u8]) -> Result<RollBody, RollFault>
     ensures { Seen said result (body_at kind bytes.now) }
 {
     let len = kind.body_len();

@@ -3,7 +3,7 @@
 ghost use Rattle.std.specs.Prelude.{◌≡◌, ◌↔◌, IsSome, IfSome};
 ghost use Rattle.rolls.specs.Bodies.{said};
 
-use crate::body::Body;
+use crate::body::RollBody;
 use ballots::Member;
 use std::marker::Model;
 
@@ -15,7 +15,7 @@ pub struct Roll {
     pub(crate) from: Member,
     pub(crate) to: Member,
     pub(crate) asked: u32,
-    pub(crate) body: Body,
+    pub(crate) body: RollBody,
 }
 
 impl Model for Roll {
@@ -32,7 +32,7 @@ impl Model for Roll {
 
 impl Roll {
     /// A roll that says this; `None` where the two are one member.
-    pub fn new(circuit: u16, from: Member, to: Member, asked: u32, body: Body) -> Option<Roll>
+    pub fn new(circuit: u16, from: Member, to: Member, asked: u32, body: RollBody) -> Option<Roll>
         ensures some { IsSome result ↔ (¬ (from ≡ to)) }
         ensures value { IfSome result (λ r. r ≡ record { circuit = circuit; from = from; to = to; asked = asked; body = said body }) }
     {
@@ -78,7 +78,7 @@ impl Roll {
     }
 
     /// What it says.
-    pub fn body(&self) -> &Body
+    pub fn body(&self) -> &RollBody
         ensures { said result.now ≡ self.now.body }
     {
         &self.body

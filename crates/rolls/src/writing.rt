@@ -9,7 +9,7 @@ ghost use Rattle.rolls.specs.Grammar.{Spells};
 ghost use Rattle.rolls.specs.Reading.{roll_at};
 ghost use Rattle.rolls.specs.Spelling.{front_bytes, count_bytes, body_bytes, spelling};
 
-use crate::body::{ASK_LEN, Body};
+use crate::body::{ASK_LEN, RollBody};
 use crate::reading::HEADER_LEN;
 use crate::roll::Roll;
 use std::alloc::{AllocError, Global};
@@ -37,15 +37,15 @@ fn put_counts(out: &mut Vec<u8>, counts: &[u16]) -> Result<(), AllocError>
     Ok(())
 }
 
-fn put_body(out: &mut Vec<u8>, body: &Body) -> Result<(), AllocError>
+fn put_body(out: &mut Vec<u8>, body: &RollBody) -> Result<(), AllocError>
     ensures exact { OnOk result (out.new.items ≡ out.old.items ++ body_bytes (said body.now)) }
     ensures range { OnOk result (IsBody (said body.now)) }
 {
     match body {
-        Body::CountsAsked => out.extend_from_slice(&[0; ASK_LEN])?,
-        Body::Counts(counts) => put_counts(out, counts.as_slice())?,
-        Body::PageAsked(page) => out.extend_from_slice(&[page.get(), 0, 0, 0, 0])?,
-        Body::Page(votes) => {
+        RollBody::CountsAsked => out.extend_from_slice(&[0; ASK_LEN])?,
+        RollBody::Counts(counts) => put_counts(out, counts.as_slice())?,
+        RollBody::PageAsked(page) => out.extend_from_slice(&[page.get(), 0, 0, 0, 0])?,
+        RollBody::Page(votes) => {
             out.push(votes.page().get())?;
             out.extend_from_slice(votes.as_bytes())?;
         }

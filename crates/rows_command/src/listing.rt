@@ -9,7 +9,7 @@ ghost use Rattle.rows_command.specs.RowsText.{PrintsWhereDone, PrintsNoneOrFront
 ghost use Rattle.rows_command.specs.Printing.{head_text, PrintsAllWhereOk};
 ghost use Rattle.command_ends.specs.Ends.{end_of, IsOfWriting, IsOfRows};
 
-use crate::printing::{LineFault, Printer, put_head};
+use crate::printing::{RowLineFault, RowPrinter, put_head};
 use acceptor_store::SqliteRows;
 use command_ends::{End, Fault};
 use saved_rows::{Identity, RowsFault};
@@ -18,17 +18,17 @@ use std::alloc::Global;
 use std::io::Write;
 
 /// What a command tells of it.
-fn told(fault: LineFault) -> Fault<'static>
+fn told(fault: RowLineFault) -> Fault<'static>
     ensures { IsOfWriting result }
 {
     match fault {
-        LineFault::Memory => Fault::OutOfMemory,
-        LineFault::Output => Fault::CannotWrite,
+        RowLineFault::Memory => Fault::OutOfMemory,
+        RowLineFault::Output => Fault::CannotWrite,
     }
 }
 
 /// Why it did not come to the last row: a fault of the rows, or one of a line.
-fn ended(seen: Result<bool, RowsFault>, fault: Option<LineFault>) -> Result<(), Fault<'static>>
+fn ended(seen: Result<bool, RowsFault>, fault: Option<RowLineFault>) -> Result<(), Fault<'static>>
     ensures whole { OnOk result ((fault ≡ None) × IsOk seen) }
     ensures ends { IfErr result (λ fault. IsOfRows (end_of fault)) }
 {
@@ -57,7 +57,7 @@ fn print_seen<S: Alter + Drop, W: Write>(
     ensures stays { (rows.new.stopped ≡ rows.old.stopped) × (rows.new.identity ≡ rows.old.identity) }
     ensures stopped { IsTrue rows.old.stopped → (W.contents out.new ≡ W.contents out.old) × IsErr result.1 }
 {
-    let mut printer = Printer {
+    let mut printer = RowPrinter {
         alloc,
         station: rows.identity(),
         out,

@@ -17,20 +17,20 @@ use streams::put_all;
 
 /// Why a line was not written.
 #[derive(Clone, Copy)]
-pub(crate) enum LineFault {
+pub(crate) enum RowLineFault {
     /// Memory for it was refused.
     Memory,
     /// The output did not take all of it.
     Output,
 }
 
-fn put_text<W: Write>(text: &str, out: &mut W) -> Result<(), LineFault>
+fn put_text<W: Write>(text: &str, out: &mut W) -> Result<(), RowLineFault>
     ensures ok { OnOk result (Appends (W.contents out.old) (W.contents out.new) text.now) }
     ensures err { OnErr result (AppendsFront (W.contents out.old) (W.contents out.new) text.now) }
 {
     match put_all(out, text.as_bytes()) {
         Ok(()) => Ok(()),
-        Err(_) => Err(LineFault::Output),
+        Err(_) => Err(RowLineFault::Output),
     }
 }
 
@@ -40,7 +40,7 @@ pub(crate) fn put_head<W: Write>(
     station: Identity,
     begun: bool,
     out: &mut W,
-) -> Result<(), LineFault>
+) -> Result<(), RowLineFault>
     ensures ok { OnOk result (Appends (W.contents out.old) (W.contents out.new) (head_text station begun)) }
     ensures err { OnErr result (AppendsFront (W.contents out.old) (W.contents out.new) (head_text station begun)) }
 {
@@ -49,17 +49,22 @@ pub(crate) fn put_head<W: Write>(
     }
     match station_line(alloc, station) {
         Ok(line) => put_text(&line, out),
-        Err(_) => Err(LineFault::Memory),
+        Err(_) => Err(RowLineFault::Memory),
     }
 }
 
-fn put_row<W: Write>(alloc: Global, number: Number, row: &Row, out: &mut W) -> Result<(), LineFault>
+fn put_row<W: Write>(
+    alloc: Global,
+    number: Number,
+    row: &Row,
+    out: &mut W,
+) -> Result<(), RowLineFault>
     ensures ok { OnOk result (Appends (W.contents out.old) (W.contents out.new) (row_line (number, row.now))) }
     ensures err { OnErr result (AppendsFront (W.contents out.old) (W.contents out.new) (row_line (number, row.now))) }
 {
     match row_line(alloc, number, row) {
         Ok(line) => put_text(&line, out),
-        Err(_) => Err(LineFault::Memory),
+        Err(_) => Err(RowLineFault::Memory),
     }
 }
 
@@ -71,7 +76,7 @@ fn put_next<W: Write>(
     number: Number,
     row: &Row,
     out: &mut W,
-) -> Result<(), LineFault>
+) -> Result<(), RowLineFault>
     ensures ok { OnOk result (Appends (W.contents out.old) (W.contents out.new) (head_text station begun ++ row_line (number, row.now))) }
     ensures err { OnErr result (AppendsFront (W.contents out.old) (W.contents out.new) (head_text station begun ++ row_line (number, row.now))) }
 {
@@ -81,17 +86,17 @@ fn put_next<W: Write>(
 
 /// Writes the rows that it sees, as they come.
 #[derive(Drop)]
-pub(crate) struct Printer<'a, W: Write> {
+pub(crate) struct RowPrinter<'a, W: Write> {
     pub(crate) alloc: Global,
     pub(crate) station: Identity,
     pub(crate) out: &'a mut W,
     /// Whether a row has come: whose rows they are stands before the first.
     pub(crate) begun: bool,
     /// Why no more is written.
-    pub(crate) fault: Option<LineFault>,
+    pub(crate) fault: Option<RowLineFault>,
 }
 
-impl<W: Write> RowVisitor for Printer<'_, W> {
+impl<W: Write> RowVisitor for RowPrinter<'_, W> {
     ghost saw = { λ old new rows. PrintsOn W.contents old new rows };
 
     ghost has_enough = { λ it. IsSome it.fault };

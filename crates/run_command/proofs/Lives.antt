@@ -14,7 +14,7 @@ use Rattle.command_ends.specs.declared.end.End.{End}
 use Rattle.exchange.specs.Events.{Event, took, HasCause}
 use Rattle.wire.proofs.Passing.{Passes-nil}
 use Rattle.driver.specs.Driving.{known, post, Drove, Anyhow}
-use Rattle.folders.specs.declared.names.Request.{Request}
+use Rattle.folders.specs.declared.names.FileRequest.{FileRequest}
 use Rattle.folders.specs.declared.wishes.Wish.{Wish}
 use Rattle.folders.specs.declared.wishes.Wish.TheVariants.{Offered, Sought}
 use Rattle.plant_files.specs.Standing.{Texts}
@@ -33,7 +33,7 @@ use Rattle.run_command.proofs.Story.{onto_then, events_none, doings_all, files_a
 use Rattle.run_command.proofs.Minds.{holds_first, holds_follows, holds_noted, holds_out, out_released, deals_in_order, holds_deals}
 
 -- what is asked for a file that was read may be asked
-pub may_be_called : (t : Texts) (past : List Happened) (r : Request) (now : ℕ) (wish : Wish) → WasRead t (doings_of past) r wish → MayBeCalled t past (call_of wish r.number now)
+pub may_be_called : (t : Texts) (past : List Happened) (r : FileRequest) (now : ℕ) (wish : Wish) → WasRead t (doings_of past) r wish → MayBeCalled t past (call_of wish r.number now)
 may_be_called t past r now (Offered entry) w =
     record { kind = r.kind; name = _; bytes = w.bytes; named = refl; lay_there = w.lay_there; stands = w.stands }
 may_be_called t past r now Sought w = tt

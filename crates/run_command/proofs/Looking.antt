@@ -12,7 +12,7 @@ use Rattle.folders.specs.Offers.{IsNameOf}
 use Rattle.folders.specs.Written.{File}
 use Rattle.folders.specs.declared.leaving.Place.{Place}
 use Rattle.folders.specs.declared.leaving.Place.TheVariants as places
-use Rattle.folders.specs.declared.names.Request.{Request}
+use Rattle.folders.specs.declared.names.FileRequest.{FileRequest}
 use Rattle.folders.specs.declared.wishes.Wish.{Wish}
 use Rattle.folders.proofs.Doings.{does_nothing, does_then}
 use Rattle.offers.specs.Answers.{landed_in, Releases as IsReleasing}
@@ -23,8 +23,8 @@ use Rattle.offers.specs.declared.deed.Deed.TheVariants as deeds
 use Rattle.offers.specs.declared.offer.Offer.{Offer}
 use Rattle.offers.specs.declared.stage.Landing.{Landing}
 use Rattle.offers.specs.declared.stage.Landing.TheVariants as landings
-use Rattle.offers.specs.declared.stage.Reason.{Reason}
-use Rattle.offers.specs.declared.stage.Reason.TheVariants as reasons
+use Rattle.offers.specs.declared.stage.OfferFault.{OfferFault}
+use Rattle.offers.specs.declared.stage.OfferFault.TheVariants as reasons
 use Rattle.offers.specs.declared.stage.Stage.{Stage}
 use Rattle.offers.specs.declared.stage.Stage.TheVariants as stages
 use Rattle.offers.specs.Order.{rank}
@@ -37,8 +37,8 @@ use Rattle.run_command.specs.Minding.{name_of, WasRead, WereRead, HasRelease, Ha
 use Rattle.run_command.specs.Story.{IsReleasedIn}
 use Rattle.run_command.specs.Working.{Follows, Looks, IfRead, IsTapeOrFault, BecameTape, By, DealsBy, Deals, Always, Keeps, Releases}
 use Rattle.run_command.specs.declared.departures.Departure.{Departure}
-use Rattle.run_command.specs.declared.departures.Way.{Way}
-use Rattle.run_command.specs.declared.departures.Way.TheVariants.{Released, NoOffer, Answered}
+use Rattle.run_command.specs.declared.departures.LeavingCause.{LeavingCause}
+use Rattle.run_command.specs.declared.departures.LeavingCause.TheVariants.{Released, NoOffer, Answered}
 use Rattle.run_command.proofs.Story.{onto_then, read_here, taken_more, looks_then, settlings_then, silent_looks, settlings_look}
 use Rattle.run_command.proofs.Wishes.{landed_still, read_now, IfOffer}
 
@@ -141,7 +141,7 @@ failed_read (Err d) P failed = tt
 -- what a text became, where it was read or not
 
 pub became :
-    {D : Type 0} (table : Places) (doings : List Doing) (name text : List ℕ) (r : Result (Result (List ℕ) Reason) D)
+    {D : Type 0} (table : Places) (doings : List Doing) (name text : List ℕ) (r : Result (Result (List ℕ) OfferFault) D)
     → IsAmong doings (read_file (record { name = name; bytes = text })) → IsTapeOrFault table text r → BecameTape table doings name r
 became table doings name text (Ok (Ok tape)) there h = record { text = text; lay_there = there; holds = h }
 became table doings name text (Ok (Err (reasons.Tape fault))) there h = absurd h
@@ -152,7 +152,7 @@ became table doings name text (Ok (Err (reasons.Step refusal))) there h = absurd
 became table doings name text (Err d) there h = tt
 
 pub failed_became :
-    {D : Type 0} (table : Places) (doings : List Doing) (name : List ℕ) (r : Result (Result (List ℕ) Reason) D) → IsErr r → BecameTape table doings name r
+    {D : Type 0} (table : Places) (doings : List Doing) (name : List ℕ) (r : Result (Result (List ℕ) OfferFault) D) → IsErr r → BecameTape table doings name r
 failed_became table doings name (Ok x) failed = cc
 failed_became table doings name (Err d) failed = tt
 
@@ -226,16 +226,16 @@ deals_looked G a b w P m n l f =
     deals_look G a b w P m n l (λ t by shown h. taken_more t l.doings shown n.files (f.taken t shown h)) f.released
 
 -- a file was read, and what it asks for is told
-read_of : (t : Texts) (D : Type 0) (doings : List Doing) (r : Request) (wish : Result Wish Reason) → IfRead {D = D} (Ok wish) (λ w. WasRead t doings r w) → IfOffer wish (WasRead t doings r)
+read_of : (t : Texts) (D : Type 0) (doings : List Doing) (r : FileRequest) (wish : Result Wish OfferFault) → IfRead {D = D} (Ok wish) (λ w. WasRead t doings r w) → IfOffer wish (WasRead t doings r)
 read_of t D doings r (Ok wish) h = h
 read_of t D doings r (Err why) h = tt
 
-read_onto : (t : Texts) (ds shown : List Doing) (r : Request) (wish : Result Wish Reason) → IfOffer wish (WasRead t ds r) → IfOffer wish (WasRead t (onto ds shown) r)
+read_onto : (t : Texts) (ds shown : List Doing) (r : FileRequest) (wish : Result Wish OfferFault) → IfOffer wish (WasRead t ds r) → IfOffer wish (WasRead t (onto ds shown) r)
 read_onto t ds shown r (Ok wish) h = read_here t ds shown r wish h
 read_onto t ds shown r (Err why) h = tt
 
 read_by :
-    (own : Texts) (D : Type 0) (a b : Option (List Doing)) (r : Request) (result : Result (Result Wish Reason) D) (wish : Result Wish Reason) (m n : Standing) → result ≡ Ok wish
+    (own : Texts) (D : Type 0) (a b : Option (List Doing)) (r : FileRequest) (result : Result (Result Wish OfferFault) D) (wish : Result Wish OfferFault) (m n : Standing) → result ≡ Ok wish
     → (l : Looks a b (λ doings. IfRead result (λ x. WasRead own doings r x))) → n.files ≡ changed (rank r) (after (news_of wish) 0) m.files
     → (t : Texts) → own ≡ t → (shown : List Doing) → WereRead t shown m.files → WereRead t (onto l.doings shown) n.files
 read_by own D a b r result wish m n is l files t by shown h =
@@ -246,7 +246,7 @@ read_by own D a b r result wish m n is l files t by shown h =
     (read_now t (onto l.doings shown) r wish 0 m.files here (taken_more t l.doings shown m.files h))
 
 pub deals_read :
-    (own : Texts) (D : Type 0) (a b : Option (List Doing)) (w : List File) (r : Request) (result : Result (Result Wish Reason) D) (wish : Result Wish Reason) (m n : Standing) → result ≡ Ok wish
+    (own : Texts) (D : Type 0) (a b : Option (List Doing)) (w : List File) (r : FileRequest) (result : Result (Result Wish OfferFault) D) (wish : Result Wish OfferFault) (m n : Standing) → result ≡ Ok wish
     → Looks a b (λ doings. IfRead result (λ x. WasRead own doings r x)) → n.files ≡ changed (rank r) (after (news_of wish) 0) m.files → n.released ≡ m.released
     → DealsBy (By own) Always a b w m n
 deals_read own D a b w r result wish m n is l files released =
@@ -310,7 +310,7 @@ settling_place P name places.Refused p = tt
 settling_place P name places.Done p = tt
 
 way_settles :
-    (b : Standing) (waits : List File) (r : Request) (way : Way) (log : List Event) → IsFreeWay b waits r.number way → HaveReleases log b
+    (b : Standing) (waits : List File) (r : FileRequest) (way : LeavingCause) (log : List Event) → IsFreeWay b waits r.number way → HaveReleases log b
     → IsSettling (IsOfRelease log) (moved_file (name_of r) (place_of way))
 way_settles b waits r (Released to) log free known =
     let it : HasRelease log r.number = known r.number free.0.0 free.0.1 in
@@ -323,7 +323,7 @@ way_settles b waits r (Released to) log free known =
 way_settles b waits r (NoOffer why) log free known = tt
 way_settles b waits r Answered log free known = tt
 
-way_looks : (b : Standing) (waits : List File) (r : Request) (way : Way) → IsFreeWay b waits r.number way → (waits ≡ [] → ⊥) → IsLook (moved_file (name_of r) (place_of way))
+way_looks : (b : Standing) (waits : List File) (r : FileRequest) (way : LeavingCause) → IsFreeWay b waits r.number way → (waits ≡ [] → ⊥) → IsLook (moved_file (name_of r) (place_of way))
 way_looks b waits r (Released to) free full = absurd (full free.1)
 way_looks b waits r (NoOffer why) free full = tt
 way_looks b waits r Answered free full = tt

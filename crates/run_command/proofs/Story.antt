@@ -9,9 +9,9 @@ use Rattle.station.specs.declared.answer.Release.{Release}
 use Rattle.folders.specs.Doings.{Doing, saw_file, read_file, wrote_file, moved_file, removed_file, writing}
 use Rattle.folders.specs.Written.{File}
 use Rattle.folders.specs.declared.leaving.Place.TheVariants as places
-use Rattle.folders.specs.declared.names.Kind.{Kind}
-use Rattle.folders.specs.declared.names.Kind.TheVariants as kinds
-use Rattle.folders.specs.declared.names.Request.{Request}
+use Rattle.folders.specs.declared.names.OfferKind.{OfferKind}
+use Rattle.folders.specs.declared.names.OfferKind.TheVariants as kinds
+use Rattle.folders.specs.declared.names.FileRequest.{FileRequest}
 use Rattle.folders.specs.declared.wishes.Wish.{Wish}
 use Rattle.offers.specs.Rules.{Standing}
 use Rattle.offers.specs.Stages.{wish_of}
@@ -92,24 +92,24 @@ files_written (f ∷ fs) = ap (λ (l : List File). f ∷ l) (files_written fs)
 
 -- what was read and what was released stays so
 
-lay_more : (ds shown : List Doing) (kind : Kind) (name bytes : List ℕ) → LayThere shown kind name bytes → LayThere (onto ds shown) kind name bytes
+lay_more : (ds shown : List Doing) (kind : OfferKind) (name bytes : List ℕ) → LayThere shown kind name bytes → LayThere (onto ds shown) kind name bytes
 lay_more ds shown kinds.Tape name bytes i = among_onto ds shown (read_file (record { name = name; bytes = bytes })) i
 lay_more ds shown kinds.Text name bytes i = among_onto ds shown (read_file (record { name = name; bytes = bytes })) i
 lay_more ds shown kinds.Withdraw name bytes i = among_onto ds shown (saw_file name) i
 lay_more ds shown kinds.Seek name bytes i = among_onto ds shown (saw_file name) i
 
 -- so does what was read now
-lay_here : (ds shown : List Doing) (kind : Kind) (name bytes : List ℕ) → LayThere ds kind name bytes → LayThere (onto ds shown) kind name bytes
+lay_here : (ds shown : List Doing) (kind : OfferKind) (name bytes : List ℕ) → LayThere ds kind name bytes → LayThere (onto ds shown) kind name bytes
 lay_here ds shown kinds.Tape name bytes i = among_here ds shown (read_file (record { name = name; bytes = bytes })) i
 lay_here ds shown kinds.Text name bytes i = among_here ds shown (read_file (record { name = name; bytes = bytes })) i
 lay_here ds shown kinds.Withdraw name bytes i = among_here ds shown (saw_file name) i
 lay_here ds shown kinds.Seek name bytes i = among_here ds shown (saw_file name) i
 
 module _ (t : Texts) where
-  pub read_here : (ds shown : List Doing) (r : Request) (wish : Wish) → WasRead t ds r wish → WasRead t (onto ds shown) r wish
+  pub read_here : (ds shown : List Doing) (r : FileRequest) (wish : Wish) → WasRead t ds r wish → WasRead t (onto ds shown) r wish
   read_here ds shown r wish w = record { bytes = w.bytes; lay_there = lay_here ds shown r.kind _ w.bytes w.lay_there; stands = w.stands }
 
-  read_more : (ds shown : List Doing) (r : Request) (wish : Option Wish) → IsRead t shown r wish → IsRead t (onto ds shown) r wish
+  read_more : (ds shown : List Doing) (r : FileRequest) (wish : Option Wish) → IsRead t shown r wish → IsRead t (onto ds shown) r wish
   read_more ds shown r None w = tt
   read_more ds shown r (Some wish) w =
       record { bytes = w.bytes; lay_there = lay_more ds shown r.kind _ w.bytes w.lay_there; stands = w.stands }

@@ -3,9 +3,9 @@ use Rattle.std.proofs.Common.{◌≡◌, ◌==◌, ◌∙◌, ◌⊎◌, inl, in
 use Rattle.std.proofs.lemmas.Bool.Decides.{nat_tests}
 use Rattle.std.proofs.lemmas.List.Elements.{All-nil, All-cons, All-head, All-tail}
 use Rattle.folders.specs.Doings.{Doing}
-use Rattle.folders.specs.declared.names.Kind.{Kind}
-use Rattle.folders.specs.declared.names.Kind.TheVariants.{Tape, Text, Withdraw, Seek}
-use Rattle.folders.specs.declared.names.Request.{Request}
+use Rattle.folders.specs.declared.names.OfferKind.{OfferKind}
+use Rattle.folders.specs.declared.names.OfferKind.TheVariants.{Tape, Text, Withdraw, Seek}
+use Rattle.folders.specs.declared.names.FileRequest.{FileRequest}
 use Rattle.folders.specs.declared.wishes.Wish.{Wish}
 use Rattle.folders.specs.declared.wishes.Wish.TheVariants.{Offered, Sought}
 use Rattle.offers.specs.Looks.{seen, stage_after, is_same_stamp, looked}
@@ -14,12 +14,12 @@ use Rattle.offers.specs.Stages.{after, anew, found_nothing, put_off, landed, cha
 use Rattle.offers.specs.Turns.{files_after}
 use Rattle.offers.specs.declared.deed.Deed.{Deed}
 use Rattle.offers.specs.declared.deed.Deed.TheVariants as deeds
-use Rattle.offers.specs.declared.offer.Found.{Found}
+use Rattle.offers.specs.declared.offer.FoundOffer.{FoundOffer}
 use Rattle.offers.specs.declared.offer.Offer.{Offer}
 use Rattle.offers.specs.declared.stage.Landing.{Landing}
 use Rattle.offers.specs.declared.stage.Landing.TheVariants.{Ended, Nothing, Busy, Barred, Released}
-use Rattle.offers.specs.declared.stage.News.TheVariants as news
-use Rattle.offers.specs.declared.stage.Reason.{Reason}
+use Rattle.offers.specs.declared.stage.FileNews.TheVariants as news
+use Rattle.offers.specs.declared.stage.OfferFault.{OfferFault}
 use Rattle.offers.specs.declared.stage.Stage.{Stage}
 use Rattle.offers.specs.declared.stage.Stage.TheVariants.{Watched, Waiting, UnderWay, Refused, Answered, Gone}
 use Rattle.offers.specs.declared.stage.Tries.{Tries}
@@ -32,7 +32,7 @@ Keeps was None = Unit {0}
 Keeps was (Some wish) = was ≡ Some wish
 
 module _ (t : Texts) where
-  read_still : (shown : List Doing) (r : Request) (was is : Option Wish) → Keeps was is → IsRead t shown r was → IsRead t shown r is
+  read_still : (shown : List Doing) (r : FileRequest) (was is : Option Wish) → Keeps was is → IsRead t shown r was → IsRead t shown r is
   read_still shown r was None k h = tt
   read_still shown r was (Some wish) k h = subst (λ (o : Option Wish). IsRead t shown r o) k h
 
@@ -104,7 +104,7 @@ asked_keeps now (Refused reason at pause) = tt
 asked_keeps now (Answered at pause) = tt
 asked_keeps now Gone = tt
 
-no_offer_keeps : (why : Reason) (now : ℕ) (s : Stage) → Keeps (wish_of s) (wish_of (after (news.NoOffer why) now s))
+no_offer_keeps : (why : OfferFault) (now : ℕ) (s : Stage) → Keeps (wish_of s) (wish_of (after (news.NoOffer why) now s))
 no_offer_keeps why now (Watched at replaced) = tt
 no_offer_keeps why now (Waiting own at tries) = refl
 no_offer_keeps why now (UnderWay own tries) = refl
@@ -158,7 +158,7 @@ module _ (t : Texts) where
 
 -- a place is that of one request
 
-same_rank : (n m : ℕ) (j k : Kind) → 4 * n + kind_rank j ≡ 4 * m + kind_rank k → (n ≡ m) × (j ≡ k)
+same_rank : (n m : ℕ) (j k : OfferKind) → 4 * n + kind_rank j ≡ 4 * m + kind_rank k → (n ≡ m) × (j ≡ k)
 same_rank n m Tape Tape e = (omega arith, refl)
 same_rank n m Tape Text e = absurd (omega arith)
 same_rank n m Tape Withdraw e = absurd (omega arith)
@@ -176,17 +176,17 @@ same_rank n m Seek Text e = absurd (omega arith)
 same_rank n m Seek Withdraw e = absurd (omega arith)
 same_rank n m Seek Seek e = (omega arith, refl)
 
-same_request : (a b : Request) → rank a ≡ rank b → a ≡ b
+same_request : (a b : FileRequest) → rank a ≡ rank b → a ≡ b
 same_request a b e =
     let same = same_rank a.number b.number a.kind b.kind e in
     let one : record { number = a.number; kind = a.kind } ≡ record { number = b.number; kind = a.kind } = ap (λ (n : ℕ). record { number = n; kind = a.kind }) same.0 in
-    let two : record { number = b.number; kind = a.kind } ≡ record { number = b.number; kind = b.kind } = ap (λ (k : Kind). record { number = b.number; kind = k }) same.1 in
+    let two : record { number = b.number; kind = a.kind } ≡ record { number = b.number; kind = b.kind } = ap (λ (k : OfferKind). record { number = b.number; kind = k }) same.1 in
     one ∙ two
 
 -- one file was read
 
 module _ (t : Texts) where
-  took_wish : (shown : List Doing) (r : Request) (wish : Wish) (now : ℕ) (s : Stage) → IsRead t shown r (wish_of s) → WasRead t shown r wish → IsRead t shown r (wish_of (after (news.Read wish) now s))
+  took_wish : (shown : List Doing) (r : FileRequest) (wish : Wish) (now : ℕ) (s : Stage) → IsRead t shown r (wish_of s) → WasRead t shown r wish → IsRead t shown r (wish_of (after (news.Read wish) now s))
   took_wish shown r wish now (Watched at replaced) h w = w
   took_wish shown r wish now (Waiting own at tries) h w = h
   took_wish shown r wish now (UnderWay own tries) h w = h
@@ -194,28 +194,28 @@ module _ (t : Texts) where
   took_wish shown r wish now (Answered at pause) h w = h
   took_wish shown r wish now Gone h w = h
 
-  read_one : (shown : List Doing) (r : Request) (wish : Wish) (now : ℕ) (o : Offer) → WasRead t shown r wish → IsReadOffer t shown o → IsReadOffer t shown (change_at (rank r) (after (news.Read wish) now) o)
+  read_one : (shown : List Doing) (r : FileRequest) (wish : Wish) (now : ℕ) (o : Offer) → WasRead t shown r wish → IsReadOffer t shown o → IsReadOffer t shown (change_at (rank r) (after (news.Read wish) now) o)
   read_one shown r wish now o w h = elim (two_ways (rank o.request == rank r)) [
     | inl here ↦
         let same : rank o.request ≡ rank r = grind (arith, nat_tests) in
-        rw here (took_wish shown o.request wish now o.stage h (subst (λ (q : Request). WasRead t shown q wish) (sym (same_request o.request r same)) w))
+        rw here (took_wish shown o.request wish now o.stage h (subst (λ (q : FileRequest). WasRead t shown q wish) (sym (same_request o.request r same)) w))
     | inr apart ↦ rw apart h
   ]
 
-  read_wish : (shown : List Doing) (r : Request) (wish : Wish) (now : ℕ) (files : List Offer) → WasRead t shown r wish → WereRead t shown files → WereRead t shown (changed (rank r) (after (news.Read wish) now) files)
+  read_wish : (shown : List Doing) (r : FileRequest) (wish : Wish) (now : ℕ) (files : List Offer) → WasRead t shown r wish → WereRead t shown files → WereRead t shown (changed (rank r) (after (news.Read wish) now) files)
   read_wish shown r wish now [] w h = All-nil (IsReadOffer t shown)
   read_wish shown r wish now (o ∷ files) w h =
       All-cons (IsReadOffer t shown) (change_at (rank r) (after (news.Read wish) now) o) (changed (rank r) (after (news.Read wish) now) files)
       (read_one shown r wish now o w (All-head (IsReadOffer t shown) o files h)) (read_wish shown r wish now files w (All-tail (IsReadOffer t shown) o files h))
 
 -- this holds of what a file asks for, if it is an offer
-abbrev pub IfOffer : Result Wish Reason → (Wish → Type 0) → Type 0
+abbrev pub IfOffer : Result Wish OfferFault → (Wish → Type 0) → Type 0
 IfOffer (Ok wish) P = P wish
 IfOffer (Err why) P = Unit {0}
 
 module _ (t : Texts) where
   pub read_now :
-      (shown : List Doing) (r : Request) (wish : Result Wish Reason) (now : ℕ) (files : List Offer) → IfOffer wish (WasRead t shown r) → WereRead t shown files → WereRead t shown (changed (rank r) (after (news_of wish) now) files)
+      (shown : List Doing) (r : FileRequest) (wish : Result Wish OfferFault) (now : ℕ) (files : List Offer) → IfOffer wish (WasRead t shown r) → WereRead t shown files → WereRead t shown (changed (rank r) (after (news_of wish) now) files)
   read_now shown r (Ok wish) now files w h = read_wish t shown r wish now files w h
   read_now shown r (Err why) now files w h = changed_still t shown (rank r) (after (news.NoOffer why) now) (no_offer_keeps why now) files h
 
@@ -245,41 +245,41 @@ module _ (t : Texts) where
   ]
 
   -- what a file asks for that is known was read
-  wish_of_place : (shown : List Doing) (files : List Offer) (r : Request) (x : Option Offer) (wish : Wish) → file_at files (rank r) ≡ x → WereRead t shown files → wish_at x ≡ Some wish → WasRead t shown r wish
+  wish_of_place : (shown : List Doing) (files : List Offer) (r : FileRequest) (x : Option Offer) (wish : Wish) → file_at files (rank r) ≡ x → WereRead t shown files → wish_at x ≡ Some wish → WasRead t shown r wish
   wish_of_place shown files r None wish e h is = absurd (no_wish wish is)
   wish_of_place shown files r (Some o) wish e h is =
       let it = at_place shown files (rank r) o h e in
       let read : WasRead t shown o.request wish = subst (λ (x : Option Wish). IsRead t shown o.request x) is it.0 in
-      subst (λ (q : Request). WasRead t shown q wish) (same_request o.request r it.1) read
+      subst (λ (q : FileRequest). WasRead t shown q wish) (same_request o.request r it.1) read
 
-  pub wish_read : (shown : List Doing) (files : List Offer) (r : Request) (wish : Wish) → WereRead t shown files → wish_at (file_at files (rank r)) ≡ Some wish → WasRead t shown r wish
+  pub wish_read : (shown : List Doing) (files : List Offer) (r : FileRequest) (wish : Wish) → WereRead t shown files → wish_at (file_at files (rank r)) ≡ Some wish → WasRead t shown r wish
   wish_read shown files r wish h is = wish_of_place shown files r (file_at files (rank r)) wish refl h is
 
   -- a look
 
   -- where a file was known, what is known of its wish was read
-  abbrev IfKnown : List Doing → Option Offer → Found → Type 0
+  abbrev IfKnown : List Doing → Option Offer → FoundOffer → Type 0
   IfKnown shown None f = Unit {0}
   IfKnown shown (Some o) f = IsRead t shown f.request (wish_of o.stage)
 
-  seen_stage : (shown : List Doing) (known : Option Offer) (now : ℕ) (f : Found) → IfKnown shown known f → IsRead t shown f.request (wish_of (stage_after known now f))
+  seen_stage : (shown : List Doing) (known : Option Offer) (now : ℕ) (f : FoundOffer) → IfKnown shown known f → IsRead t shown f.request (wish_of (stage_after known now f))
   seen_stage shown None now f h = tt
   seen_stage shown (Some o) now f h = elim (two_ways (is_same_stamp o.stamp f.stamp)) [
     | inl same ↦ rw same h
     | inr changed ↦ rw changed (read_still t shown f.request (wish_of o.stage) (wish_of (anew now o.stage)) (anew_keeps now o.stage) h)
   ]
 
-  known_of : (shown : List Doing) (old : List Offer) (f : Found) (x : Option Offer) → WereRead t shown old → file_at old (rank f.request) ≡ x → IfKnown shown x f
+  known_of : (shown : List Doing) (old : List Offer) (f : FoundOffer) (x : Option Offer) → WereRead t shown old → file_at old (rank f.request) ≡ x → IfKnown shown x f
   known_of shown old f None h e = tt
   known_of shown old f (Some o) h e =
       let it = at_place shown old (rank f.request) o h e in
-      subst (λ (q : Request). IsRead t shown q (wish_of o.stage)) (same_request o.request f.request it.1) it.0
+      subst (λ (q : FileRequest). IsRead t shown q (wish_of o.stage)) (same_request o.request f.request it.1) it.0
 
-  seen_all : (shown : List Doing) (old : List Offer) (now : ℕ) (found : List Found) → WereRead t shown old → WereRead t shown (map (seen old now) found)
+  seen_all : (shown : List Doing) (old : List Offer) (now : ℕ) (found : List FoundOffer) → WereRead t shown old → WereRead t shown (map (seen old now) found)
   seen_all shown old now [] h = All-nil (IsReadOffer t shown)
   seen_all shown old now (f ∷ found) h =
       All-cons (IsReadOffer t shown) (seen old now f) (map (seen old now) found)
       (seen_stage shown (file_at old (rank f.request)) now f (known_of shown old f (file_at old (rank f.request)) h refl)) (seen_all shown old now found h)
 
-  pub looked_still : (shown : List Doing) (old : List Offer) (now : ℕ) (found : List Found) → WereRead t shown old → WereRead t shown (looked old now found)
+  pub looked_still : (shown : List Doing) (old : List Offer) (now : ℕ) (found : List FoundOffer) → WereRead t shown old → WereRead t shown (looked old now found)
   looked_still shown old now found h = seen_all shown old now (rising found) h

@@ -4,37 +4,37 @@ use Rattle.std.specs.Global.{Global}
 use Rattle.command_ends.specs.EntryText.{entry_text}
 use Rattle.command_ends.specs.ReleaseText.{plain_line}
 use Rattle.folders.specs.Written.{File}
-use Rattle.folders.specs.declared.names.Request.{Request}
+use Rattle.folders.specs.declared.names.FileRequest.{FileRequest}
 use Rattle.folders.specs.declared.leaving.Place.{Place}
 use Rattle.folders.specs.declared.leaving.Place.TheVariants.{Sent, Lost, Refused, Done}
 use Rattle.offers.specs.declared.deed.Deed.{Deed}
 use Rattle.offers.specs.declared.deed.Deed.TheVariants as deeds
 use Rattle.offers.specs.Rules.{Standing, entry_of}
-use Rattle.offers.specs.declared.stage.Reason.{Reason}
+use Rattle.offers.specs.declared.stage.OfferFault.{OfferFault}
 use Rattle.plant_log.specs.Words.{event_text, reason_text}
 use Rattle.plant_log.specs.Refusing.{TellsNoOffer}
 use Rattle.plant_log.specs.Stories.{IsHeard, IsTellingRefused}
 use Rattle.plant_log.specs.Telling.{TellsIf}
 use Rattle.plant_log.specs.declared.told.Told.{Told}
-use Rattle.plant_log.specs.declared.event.Event.{Event}
-use Rattle.plant_log.specs.declared.event.Event.TheVariants as events
+use Rattle.plant_log.specs.declared.event.LogEvent.{LogEvent}
+use Rattle.plant_log.specs.declared.event.LogEvent.TheVariants as events
 use Rattle.tape_frames.specs.Entries.{owned_entry}
 use Rattle.tape_frames.specs.declared.entry.Entry.{Entry}
 use Rattle.run_command.specs.declared.deeds.Task.{Task}
 use Rattle.run_command.specs.declared.deeds.Task.TheVariants.{Leave, Read, Ask}
 use Rattle.run_command.specs.declared.departures.Departure.{Departure}
-use Rattle.run_command.specs.declared.departures.Way.{Way}
-use Rattle.run_command.specs.declared.departures.Way.TheVariants.{Released, NoOffer, Answered}
+use Rattle.run_command.specs.declared.departures.LeavingCause.{LeavingCause}
+use Rattle.run_command.specs.declared.departures.LeavingCause.TheVariants.{Released, NoOffer, Answered}
 
 -- where its number was released, to the place that it has by that; else to those that are no offers, or as a search that was answered to
 -- those that are done
-abbrev pub place_of : Way → Place
+abbrev pub place_of : LeavingCause → Place
 place_of (Released to) = to
 place_of (NoOffer reason) = Refused
 place_of Answered = Done
 
 -- why a file leaves the offers that is moved to this place: its number was released, or it is a search that was answered
-abbrev pub way_to : Place → Way
+abbrev pub way_to : Place → LeavingCause
 way_to Sent = Released Sent
 way_to Lost = Released Lost
 way_to Refused = Released Refused
@@ -59,7 +59,7 @@ abbrev pub IsKnownAndWritten : Standing → List File → ℕ → Type 0
 IsKnownAndWritten b waits n = ((e : Entry) × (entry_of b n ≡ Some e)) × (waits ≡ [])
 
 -- a file of this number leaves the offers for what was released only there
-abbrev pub IsFreeWay : Standing → List File → ℕ → Way → Type 0
+abbrev pub IsFreeWay : Standing → List File → ℕ → LeavingCause → Type 0
 IsFreeWay b waits n (Released to) = IsKnownAndWritten b waits n
 IsFreeWay b waits n (NoOffer reason) = Unit {0}
 IsFreeWay b waits n Answered = Unit {0}
@@ -74,13 +74,13 @@ IsFreeTask b waits (Read found replaced) = Unit {0}
 IsFreeTask b waits (Ask r) = Unit {0}
 
 -- what befell the number of a file that has left the offers
-abbrev pub event_by : ℕ → Way → Option Event
+abbrev pub event_by : ℕ → LeavingCause → Option LogEvent
 event_by n (Released Lost) = Some (events.Lost n)
 event_by n (Released to) = Some (events.Sent n)
 event_by n (NoOffer reason) = None
 event_by n Answered = Some (events.Done n)
 
-abbrev pub left_event : Departure → Option Event
+abbrev pub left_event : Departure → Option LogEvent
 left_event d = event_by d.found.request.number d.way
 
 -- a text, which reads so
@@ -89,10 +89,10 @@ IsText words None = ⊥
 IsText words (Some text) = string_bytes text ≡ words
 
 -- a text that says why a file is no offer; of bytes that are no tape it is left open
-abbrev pub IsReason : Reason → List ℕ → Type 0
+abbrev pub IsReason : OfferFault → List ℕ → Type 0
 IsReason reason text = IfSome (reason_text reason) (λ words. text ≡ words ++ codes "\n")
 
-abbrev pub IsSomeReason : Reason → Option (String Global) → Type 0
+abbrev pub IsSomeReason : OfferFault → Option (String Global) → Type 0
 IsSomeReason reason None = ⊥
 IsSomeReason reason (Some text) = IsReason reason (string_bytes text)
 
@@ -103,7 +103,7 @@ IsStanding (Some e) n text = IsText (plain_line [] n (entry_text (owned_entry e)
 
 -- what lies beside a file of this number: of a lost one what stands under it, of one that is no offer why, of a search that was answered
 -- that nothing does, and else nothing
-abbrev pub IsBesideBy : Option Entry → ℕ → Way → Option (String Global) → Type 0
+abbrev pub IsBesideBy : Option Entry → ℕ → LeavingCause → Option (String Global) → Type 0
 IsBesideBy entry n (Released Lost) text = IsStanding entry n text
 IsBesideBy entry n (Released to) text = text ≡ None
 IsBesideBy entry n (NoOffer reason) text = IsSomeReason reason text
@@ -113,16 +113,16 @@ abbrev pub IsBeside : Standing → Departure → Option (String Global) → Type
 IsBeside b d text = IsBesideBy (entry_of b d.found.request.number) d.found.request.number d.way text
 
 -- what befell a number was told, as far as it is told
-abbrev pub TellsEvent : Event → ℕ → Told → Told → Option (List ℕ) → Option (List ℕ) → Type 0
+abbrev pub TellsEvent : LogEvent → ℕ → Told → Told → Option (List ℕ) → Option (List ℕ) → Type 0
 TellsEvent event now before after old new =
     (is_told : Bool) × IsHeard before.loudness event now is_told before.stories.kept after.stories.kept × TellsIf (is_told ≡ true) (event_text event) old new
 
 -- why a file is no offer was told, unless faults alone are
-abbrev pub TellsRefused : Request → Reason → Told → Option (List ℕ) → Option (List ℕ) → Type 0
+abbrev pub TellsRefused : FileRequest → OfferFault → Told → Option (List ℕ) → Option (List ℕ) → Type 0
 TellsRefused r reason told old new = (IsTellingRefused told.loudness → TellsNoOffer r reason old new) × (¬ IsTellingRefused told.loudness → new ≡ old)
 
 -- that a file has left the offers was told
-abbrev pub TellsWay : Request → Way → ℕ → Told → Told → Option (List ℕ) → Option (List ℕ) → Type 0
+abbrev pub TellsWay : FileRequest → LeavingCause → ℕ → Told → Told → Option (List ℕ) → Option (List ℕ) → Type 0
 TellsWay r (Released Lost) now before after old new = TellsEvent (events.Lost r.number) now before after old new
 TellsWay r (Released to) now before after old new = TellsEvent (events.Sent r.number) now before after old new
 TellsWay r (NoOffer reason) now before after old new = TellsRefused r reason before old new

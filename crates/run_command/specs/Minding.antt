@@ -8,8 +8,8 @@ use Rattle.folders.specs.Doings.{Doing, saw_file, read_file, wrote_file, moved_f
 use Rattle.folders.specs.Offers.{IsNameOf, IsStop, kind_word}
 use Rattle.folders.specs.Written.{File}
 use Rattle.folders.specs.declared.leaving.Place.TheVariants as places
-use Rattle.folders.specs.declared.names.Kind.{Kind}
-use Rattle.folders.specs.declared.names.Request.{Request}
+use Rattle.folders.specs.declared.names.OfferKind.{OfferKind}
+use Rattle.folders.specs.declared.names.FileRequest.{FileRequest}
 use Rattle.folders.specs.declared.wishes.Wish.{Wish}
 use Rattle.offers.specs.Rules.{Standing, entry_of}
 use Rattle.offers.specs.Stages.{wish_of}
@@ -20,17 +20,17 @@ use Rattle.run_command.specs.Filing.{filing}
 use Rattle.run_command.specs.Story.{Happened, events_of, doings_of, files_of_story, IsReleasedIn}
 
 -- the name of the file that asks for this
-abbrev pub name_of : Request → List ℕ
+abbrev pub name_of : FileRequest → List ℕ
 name_of r = decimal r.number ++ kind_word r.kind
 
 -- the file that asks for this lay among the offers, and stands for this wish, a text by this table
-pub record WasRead (texts : Texts) (doings : List Doing) (r : Request) (wish : Wish) : Type 0 where
+pub record WasRead (texts : Texts) (doings : List Doing) (r : FileRequest) (wish : Wish) : Type 0 where
   pub bytes : List ℕ
   pub lay_there : LayThere doings r.kind (name_of r) bytes
   pub stands : StandsFor texts r.kind bytes (wished wish)
 
 -- what is known of the wish of a file was read
-abbrev pub IsRead : Texts → List Doing → Request → Option Wish → Type 0
+abbrev pub IsRead : Texts → List Doing → FileRequest → Option Wish → Type 0
 IsRead texts doings r None = Unit {0}
 IsRead texts doings r (Some wish) = WasRead texts doings r wish
 
@@ -68,7 +68,7 @@ onto (x ∷ story) past = onto story (x ∷ past)
 -- a file of this name is of a number that was released
 pub record IsOfRelease (log : List Event) (name : List ℕ) : Type 0 where
   pub release : Release
-  pub kind : Kind
+  pub kind : OfferKind
   pub released : IsReleasedIn log release
   pub named : IsNameOf name release.number kind
 

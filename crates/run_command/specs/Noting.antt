@@ -5,8 +5,8 @@ use Rattle.node_core.specs.declared.turn.Note.TheVariants as notes
 use Rattle.offers.specs.Answers.{landed_in}
 use Rattle.offers.specs.Rules.{Standing, is_under_way}
 use Rattle.offers.specs.declared.stage.Landing.TheVariants as landings
-use Rattle.plant_log.specs.declared.event.Event.{Event}
-use Rattle.plant_log.specs.declared.event.Event.TheVariants as events
+use Rattle.plant_log.specs.declared.event.LogEvent.{LogEvent}
+use Rattle.plant_log.specs.declared.event.LogEvent.TheVariants as events
 
 -- what becomes of the book by a step with this note about a number: where it closed a ballot, as that was given up or found nothing, the
 -- number is no longer under way, and its files are told
@@ -27,7 +27,7 @@ is_opened None note window = false
 is_opened (Some n) note window = is_of_opening note && is_under_way n window
 
 -- the line that is told of it, if the number was under way: a ballot was begun, given up, or found nothing
-abbrev pub event_of : ℕ → Note → Option Event
+abbrev pub event_of : ℕ → Note → Option LogEvent
 event_of n (notes.Began ballot) = Some (events.Began n ballot)
 event_of n (notes.GaveUp ballot) = Some (events.GaveUp n ballot)
 event_of n (notes.Nothing ballot) = Some (events.Nothing n ballot)

@@ -8,7 +8,7 @@ use Rattle.folders.specs.Doings.{Doing, saw_file, read_file, wrote_file, moved_f
 use Rattle.folders.specs.Offers.{IsNameOf, IsStop}
 use Rattle.folders.specs.Written.{File}
 use Rattle.folders.specs.declared.leaving.Place.TheVariants as places
-use Rattle.folders.specs.declared.names.Kind.{Kind}
+use Rattle.folders.specs.declared.names.OfferKind.{OfferKind}
 use Rattle.plant_files.specs.Filing.{release_files}
 use Rattle.plant_files.specs.Standing.{Texts, WasLaid}
 use Rattle.exchange.specs.Events.{Event, asked, took, stored, aside}
@@ -54,7 +54,7 @@ pub record IsReleasedIn (log : List Event) (r : Release) : Type 0 where
 -- a file of this name is of a number that the station released, and all files of that release were written before
 pub record IsBehindRelease (before : List Happened) (name : List ℕ) : Type 0 where
   pub release : Release
-  pub kind : Kind
+  pub kind : OfferKind
   pub named : IsNameOf name release.number kind
   pub released : IsReleasedIn (events_of before) release
   pub written : (f : File) → IsAmong (release_files release) f → IsAmong (files_of_story before) f

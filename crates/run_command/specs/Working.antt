@@ -7,12 +7,12 @@ use Rattle.text_tape.specs.Punching.{IsPunched, IsError}
 use Rattle.station.specs.declared.answer.Release.{Release}
 use Rattle.folders.specs.Doings.{Doing, read_file, Does, writing, WritesSome}
 use Rattle.folders.specs.Written.{File}
-use Rattle.folders.specs.declared.names.Kind.TheVariants as kinds
-use Rattle.folders.specs.declared.names.Request.{Request}
+use Rattle.folders.specs.declared.names.OfferKind.TheVariants as kinds
+use Rattle.folders.specs.declared.names.FileRequest.{FileRequest}
 use Rattle.folders.specs.declared.wishes.Wish.{Wish}
 use Rattle.offers.specs.Rules.{Standing}
-use Rattle.offers.specs.declared.stage.Reason.{Reason}
-use Rattle.offers.specs.declared.stage.Reason.TheVariants as reasons
+use Rattle.offers.specs.declared.stage.OfferFault.{OfferFault}
+use Rattle.offers.specs.declared.stage.OfferFault.TheVariants as reasons
 use Rattle.plant_files.specs.Filing.{files_of}
 use Rattle.plant_files.specs.Standing.{Texts, StandsFor, wished, LayThere}
 use Rattle.exchange.specs.Events.{Event}
@@ -38,7 +38,7 @@ IfRead (Ok (Err e)) P = Unit {0}
 IfRead (Err d) P = Unit {0}
 
 -- a file of this name, which asks for this, lay among the offers and stands for this wish, a text by this table
-pub record LaySo (texts : Texts) (doings : List Doing) (r : Request) (name : List ℕ) (wish : Wish) : Type 0 where
+pub record LaySo (texts : Texts) (doings : List Doing) (r : FileRequest) (name : List ℕ) (wish : Wish) : Type 0 where
   pub bytes : List ℕ
   pub lay_there : LayThere doings r.kind name bytes
   pub stands : StandsFor texts r.kind bytes (wished wish)
@@ -57,14 +57,14 @@ pub record TextLay (doings : List Doing) (name : List ℕ) (P : List ℕ → Typ
   pub holds : P text
 
 -- this is the tape of a text by a table, or its first fault
-abbrev pub IsTapeOrFault : {D : Type 0} → Places → List ℕ → Result (Result (List ℕ) Reason) D → Type 0
+abbrev pub IsTapeOrFault : {D : Type 0} → Places → List ℕ → Result (Result (List ℕ) OfferFault) D → Type 0
 IsTapeOrFault table text (Ok (Ok tape)) = IsPunched [] (mean table) text tape
 IsTapeOrFault table text (Ok (Err (reasons.Text e))) = IsError most_frames [] (mean table) text e
 IsTapeOrFault table text (Ok (Err _)) = ⊥
 IsTapeOrFault table text (Err d) = Unit {0}
 
 -- the same of the text of this name that lay among the offers; one that is too long was not read
-abbrev pub BecameTape : {D : Type 0} → Places → List Doing → List ℕ → Result (Result (List ℕ) Reason) D → Type 0
+abbrev pub BecameTape : {D : Type 0} → Places → List Doing → List ℕ → Result (Result (List ℕ) OfferFault) D → Type 0
 BecameTape table doings name (Ok (Ok tape)) = TextLay doings name (λ text. IsPunched [] (mean table) text tape)
 BecameTape table doings name (Ok (Err (reasons.Text e))) = TextLay doings name (λ text. IsError most_frames [] (mean table) text e)
 BecameTape table doings name (Ok (Err reasons.LongText)) = Unit {0}

@@ -12,24 +12,24 @@ use crate::plant::Plant;
 use crate::status::note_step;
 use ballots::Number;
 use command_ends::Fault;
-use driver::{Log, Step};
+use driver::{Log, TakenStep};
 use folders::Folders;
 use node_core::Note;
 use plant_files::keep_any;
-use plant_log::{Event, tell_folders};
+use plant_log::{LogEvent, tell_folders};
 use station::Release;
 use std::alloc::AllocError;
 use std::io::Write;
 
 /// What there is to tell of a step with this note about a number.
-fn event_of(number: Number, note: &Note) -> Option<Event>
+fn event_of(number: Number, note: &Note) -> Option<LogEvent>
     ensures { result ≡ event_of number note.now }
 {
     let number = number.get();
     match *note {
-        Note::Began { ballot } => Some(Event::Began { number, ballot }),
-        Note::GaveUp { ballot } => Some(Event::GaveUp { number, ballot }),
-        Note::Nothing { ballot } => Some(Event::Nothing { number, ballot }),
+        Note::Began { ballot } => Some(LogEvent::Began { number, ballot }),
+        Note::GaveUp { ballot } => Some(LogEvent::GaveUp { number, ballot }),
+        Note::Nothing { ballot } => Some(LogEvent::Nothing { number, ballot }),
         _ => None,
     }
 }
@@ -43,7 +43,7 @@ fn is_of_opening(note: &Note) -> bool
 
 impl<'f, 'p, F: Folders> Plant<'f, 'p, F> {
     /// Whether a step opened a ballot for a file among the offers.
-    fn is_opened(&self, step: &Step) -> bool
+    fn is_opened(&self, step: &TakenStep) -> bool
         ensures { result ≡ is_opened step.now.answer.number step.now.answer.note self.now.papers.now.book.window }
     {
         match step.answer.number {
@@ -55,7 +55,7 @@ impl<'f, 'p, F: Folders> Plant<'f, 'p, F> {
     }
 
     /// Where a step about a number closed a ballot, its file is no longer under way. Whether it was before.
-    fn close_ballot(&mut self, number: Number, step: &Step) -> bool
+    fn close_ballot(&mut self, number: Number, step: &TakenStep) -> bool
         ensures told { result ≡ is_under_way number self.old.papers.now.book.window }
         ensures closed { self.new.papers.now.book ≡ closed_by step.now.answer.note number step.now.moment self.old.papers.now.book }
         ensures folders { self.new.folders.ghost_name ≡ self.old.folders.ghost_name }
@@ -73,7 +73,7 @@ impl<'f, 'p, F: Folders> Plant<'f, 'p, F> {
     }
 
     /// Tells what became of the ballot of a number that was under way, by a step that was about it.
-    fn follow<E: Write>(&mut self, number: Number, step: &Step, log: &mut Log<'_, E>)
+    fn follow<E: Write>(&mut self, number: Number, step: &TakenStep, log: &mut Log<'_, E>)
         ensures folders { self.new.folders.ghost_name ≡ self.old.folders.ghost_name }
         ensures same { self.new.folders.now ≡ self.old.folders.now }
         ensures waits { self.new.papers.now.waits ≡ self.old.papers.now.waits }
@@ -119,7 +119,7 @@ impl<'f, 'p, F: Folders> Plant<'f, 'p, F> {
     }
 
     /// Keeps in mind what became of the number of a step.
-    fn close<E: Write>(&mut self, step: &Step, log: &mut Log<'_, E>)
+    fn close<E: Write>(&mut self, step: &TakenStep, log: &mut Log<'_, E>)
         ensures folders { self.new.folders.ghost_name ≡ self.old.folders.ghost_name }
         ensures same { self.new.folders.now ≡ self.old.folders.now }
         ensures waits { self.new.papers.now.waits ≡ self.old.papers.now.waits }
@@ -137,7 +137,7 @@ impl<'f, 'p, F: Folders> Plant<'f, 'p, F> {
     /// saved may not be stored yet. It fails where there is no memory for the files.
     pub(crate) fn note<E: Write>(
         &mut self,
-        step: &Step,
+        step: &TakenStep,
         log: &mut Log<'_, E>,
     ) -> Result<(), Fault<'static>>
         ensures folders { self.new.folders.ghost_name ≡ self.old.folders.ghost_name }
@@ -170,7 +170,7 @@ impl<'f, 'p, F: Folders> Plant<'f, 'p, F> {
     }
 
     /// Where a step released something, tells it, and lets the files of its number leave the offers, at a moment.
-    fn hand_out_step<E: Write>(&mut self, step: &Step, now: u64, log: &mut Log<'_, E>)
+    fn hand_out_step<E: Write>(&mut self, step: &TakenStep, now: u64, log: &mut Log<'_, E>)
         ensures folders { self.new.folders.ghost_name ≡ self.old.folders.ghost_name }
         ensures waits { self.new.papers.now.waits ≡ self.old.papers.now.waits }
         ensures texts { self.new.papers.now.texts ≡ self.old.papers.now.texts }
@@ -178,7 +178,7 @@ impl<'f, 'p, F: Folders> Plant<'f, 'p, F> {
     {
         if let Some(release) = &step.answer.release {
             let number = release.number;
-            let event = Event::Released {
+            let event = LogEvent::Released {
                 number: number.get(),
             };
             self.papers.told.tell(event, now, log.err);
@@ -187,7 +187,7 @@ impl<'f, 'p, F: Folders> Plant<'f, 'p, F> {
     }
 
     /// The same of each of these steps, in order.
-    fn hand_out_each<E: Write>(&mut self, steps: &[Step], now: u64, log: &mut Log<'_, E>)
+    fn hand_out_each<E: Write>(&mut self, steps: &[TakenStep], now: u64, log: &mut Log<'_, E>)
         ensures folders { self.new.folders.ghost_name ≡ self.old.folders.ghost_name }
         ensures waits { self.new.papers.now.waits ≡ self.old.papers.now.waits }
         ensures texts { self.new.papers.now.texts ≡ self.old.papers.now.texts }
@@ -201,7 +201,7 @@ impl<'f, 'p, F: Folders> Plant<'f, 'p, F> {
     /// Hands out at a moment what these steps released, which were noted: all files that wait are written in one go, so that one save of the
     /// folder is enough for them; what the folder does not take waits on. Then each release is told, and files leave the offers that asked
     /// for it.
-    pub(crate) fn hand_out<E: Write>(&mut self, steps: &[Step], now: u64, log: &mut Log<'_, E>)
+    pub(crate) fn hand_out<E: Write>(&mut self, steps: &[TakenStep], now: u64, log: &mut Log<'_, E>)
         ensures folders { self.new.folders.ghost_name ≡ self.old.folders.ghost_name }
         ensures texts { self.new.papers.now.texts ≡ self.old.papers.now.texts }
         ensures hands { WritesAndDeals (F.doings self.old.folders.now) (F.doings self.new.folders.now) self.old.papers.now.waits.items self.new.papers.now.waits.items self.old.papers.now.book self.new.papers.now.book }

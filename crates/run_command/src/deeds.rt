@@ -5,15 +5,15 @@ ghost use Rattle.driver.specs.Todos.{IsGoodTodo};
 ghost use Rattle.run_command.specs.Departing.{departure_of, task_of, way_to, IsFree, IsFreeTask};
 ghost use Rattle.run_command.specs.Working.{Always, By, Deals, DealsBy, Follows};
 
-use crate::departures::{Departure, Way, tell_departure};
+use crate::departures::{Departure, LeavingCause, tell_departure};
 use crate::plant::Plant;
 use crate::reading::read;
 use crate::status::{note_asked, note_left};
 use ballots::Number;
 use driver::{Chance, Log, Todo};
-use folders::{Folders, Place, Request};
-use offers::{Allowed, Deed, Found};
-use plant_log::{Event, Trouble};
+use folders::{FileRequest, Folders, Place};
+use offers::{Allowed, Deed, FoundOffer};
+use plant_log::{LogEvent, Trouble};
 use std::io::Write;
 
 /// What is to be done with a file.
@@ -22,18 +22,18 @@ pub(crate) enum Task {
     /// It leaves the offers.
     Leave(Departure),
     /// It is read; whether it may be in place of one that was under way.
-    Read(Found, bool),
+    Read(FoundOffer, bool),
     /// The station is asked for it.
-    Ask(Request),
+    Ask(FileRequest),
 }
 
 /// Why a file leaves the offers that is moved to a place: its number was released, or it is a search that was answered.
-fn way_to(to: Place) -> Way
+fn way_to(to: Place) -> LeavingCause
     ensures { result ≡ way_to to }
 {
     match to {
-        Place::Done => Way::Answered,
-        Place::Sent | Place::Lost | Place::Refused => Way::Released(to),
+        Place::Done => LeavingCause::Answered,
+        Place::Sent | Place::Lost | Place::Refused => LeavingCause::Released(to),
     }
 }
 
@@ -43,7 +43,7 @@ fn departure_of(deed: &Deed) -> Option<Departure>
 {
     match *deed {
         Deed::Move { request, stamp, to } => {
-            let found = Found { request, stamp };
+            let found = FoundOffer { request, stamp };
             let way = way_to(to);
             Some(Departure { found, way })
         }
@@ -52,8 +52,8 @@ fn departure_of(deed: &Deed) -> Option<Departure>
             stamp,
             reason,
         } => {
-            let found = Found { request, stamp };
-            let way = Way::NoOffer(reason);
+            let found = FoundOffer { request, stamp };
+            let way = LeavingCause::NoOffer(reason);
             Some(Departure { found, way })
         }
         _ => None,
@@ -70,7 +70,7 @@ fn task_of(deed: &Deed) -> Option<Task>
             request,
             stamp,
             replaced,
-        } => Some(Task::Read(Found { request, stamp }, replaced)),
+        } => Some(Task::Read(FoundOffer { request, stamp }, replaced)),
         _ => match departure_of(deed) {
             Some(departure) => Some(Task::Leave(departure)),
             None => None,
@@ -106,7 +106,7 @@ impl<'f, 'p, F: Folders> Plant<'f, 'p, F> {
     }
 
     /// Reads a file; whether it was read. One that can't be read is put off, which is told.
-    fn read_file<E: Write>(&mut self, found: &Found, now: u64, log: &mut Log<'_, E>) -> bool
+    fn read_file<E: Write>(&mut self, found: &FoundOffer, now: u64, log: &mut Log<'_, E>) -> bool
         ensures folders { self.new.folders.ghost_name ≡ self.old.folders.ghost_name }
         ensures waits { self.new.papers.now.waits ≡ self.old.papers.now.waits }
         ensures texts { self.new.papers.now.texts ≡ self.old.papers.now.texts }
@@ -132,7 +132,7 @@ impl<'f, 'p, F: Folders> Plant<'f, 'p, F> {
     }
 
     /// The same of a file that is in place of one that was under way, which is told.
-    fn read_anew<E: Write>(&mut self, found: &Found, now: u64, log: &mut Log<'_, E>)
+    fn read_anew<E: Write>(&mut self, found: &FoundOffer, now: u64, log: &mut Log<'_, E>)
         ensures folders { self.new.folders.ghost_name ≡ self.old.folders.ghost_name }
         ensures waits { self.new.papers.now.waits ≡ self.old.papers.now.waits }
         ensures texts { self.new.papers.now.texts ≡ self.old.papers.now.texts }
@@ -142,7 +142,7 @@ impl<'f, 'p, F: Folders> Plant<'f, 'p, F> {
             let number = found.request.number.get();
             self.papers
                 .told
-                .tell(Event::Replaced { number }, now, log.err);
+                .tell(LogEvent::Replaced { number }, now, log.err);
         }
     }
 
@@ -168,7 +168,12 @@ impl<'f, 'p, F: Folders> Plant<'f, 'p, F> {
     }
 
     /// Does it, or answers for which file the station is to be asked.
-    fn do_task<E: Write>(&mut self, task: &Task, now: u64, log: &mut Log<'_, E>) -> Option<Request>
+    fn do_task<E: Write>(
+        &mut self,
+        task: &Task,
+        now: u64,
+        log: &mut Log<'_, E>,
+    ) -> Option<FileRequest>
         ensures folders { self.new.folders.ghost_name ≡ self.old.folders.ghost_name }
         ensures waits { self.new.papers.now.waits ≡ self.old.papers.now.waits }
         ensures texts { self.new.papers.now.texts ≡ self.old.papers.now.texts }
@@ -211,7 +216,7 @@ impl<'f, 'p, F: Folders> Plant<'f, 'p, F> {
         may_ask: bool,
         now: u64,
         log: &mut Log<'_, E>,
-    ) -> Option<Request>
+    ) -> Option<FileRequest>
         ensures folders { self.new.folders.ghost_name ≡ self.old.folders.ghost_name }
         ensures waits { self.new.papers.now.waits ≡ self.old.papers.now.waits }
         ensures texts { self.new.papers.now.texts ≡ self.old.papers.now.texts }

@@ -13,19 +13,19 @@ use crate::plant::Plant;
 use command_ends::entry_text;
 use driver::Log;
 use folders::{FolderFault, Folders, Leaving, Place, name_of};
-use offers::{Found, Reason};
-use plant_log::{Event, ReasonText, Told};
+use offers::{FoundOffer, OfferFault};
+use plant_log::{LogEvent, ReasonText, Told};
 use std::alloc::{AllocError, Global};
 use std::io::Write;
 use tape_frames::EntryRef;
 
 /// Why a file leaves the offers.
 #[derive(Clone, Copy)]
-pub(crate) enum Way {
+pub(crate) enum LeavingCause {
     /// Its number was released; it goes there.
     Released(Place),
     /// It is no offer.
-    NoOffer(Reason),
+    NoOffer(OfferFault),
     /// It is a search that found nothing ten times.
     Answered,
 }
@@ -33,18 +33,18 @@ pub(crate) enum Way {
 /// A file that leaves the offers.
 #[derive(Clone, Copy)]
 pub(crate) struct Departure {
-    pub(crate) found: Found,
-    pub(crate) way: Way,
+    pub(crate) found: FoundOffer,
+    pub(crate) way: LeavingCause,
 }
 
 /// Where such a file goes.
-fn place_of(way: Way) -> Place
+fn place_of(way: LeavingCause) -> Place
     ensures { result ≡ place_of way }
 {
     match way {
-        Way::Released(to) => to,
-        Way::NoOffer(_) => Place::Refused,
-        Way::Answered => Place::Done,
+        LeavingCause::Released(to) => to,
+        LeavingCause::NoOffer(_) => Place::Refused,
+        LeavingCause::Answered => Place::Done,
     }
 }
 
@@ -57,7 +57,7 @@ fn standing_text(alloc: Global, number: u32, entry: &EntryRef<'_>) -> Result<Str
 }
 
 /// The text beside a file that is no offer.
-fn reason_text(alloc: Global, reason: Reason) -> Result<String, AllocError>
+fn reason_text(alloc: Global, reason: OfferFault) -> Result<String, AllocError>
     ensures { IfOk result (λ t. IsReason reason (string_bytes t)) }
 {
     let why = ReasonText(reason);
@@ -90,15 +90,15 @@ fn set_aside<F: Folders>(
 }
 
 /// What befell the number of a file that has left the offers; nothing where it was no offer.
-fn event_of(departure: &Departure) -> Option<Event>
+fn event_of(departure: &Departure) -> Option<LogEvent>
     ensures { result ≡ left_event departure.now }
 {
     let number = departure.found.request.number.get();
     match departure.way {
-        Way::Released(Place::Lost) => Some(Event::Lost { number }),
-        Way::Released(_) => Some(Event::Sent { number }),
-        Way::NoOffer(_) => None,
-        Way::Answered => Some(Event::Done { number }),
+        LeavingCause::Released(Place::Lost) => Some(LogEvent::Lost { number }),
+        LeavingCause::Released(_) => Some(LogEvent::Sent { number }),
+        LeavingCause::NoOffer(_) => None,
+        LeavingCause::Answered => Some(LogEvent::Done { number }),
     }
 }
 
@@ -114,7 +114,7 @@ pub(crate) fn tell_departure<E: Write>(
     match event_of(departure) {
         Some(event) => told.tell(event, now, log.err),
         None => {
-            if let Way::NoOffer(reason) = departure.way {
+            if let LeavingCause::NoOffer(reason) = departure.way {
                 told.no_offer(departure.found.request, reason, log.err);
             }
         }
@@ -127,7 +127,7 @@ impl<'f, 'p, F: Folders> Plant<'f, 'p, F> {
         ensures { IfOk result (IsBeside self.now.papers.now.book departure.now) }
     {
         match departure.way {
-            Way::Released(Place::Lost) => {
+            LeavingCause::Released(Place::Lost) => {
                 let number = departure.found.request.number;
                 let Some(entry) = self.papers.book.entry(number) else {
                     return Err(FolderFault::Missing);
@@ -135,12 +135,12 @@ impl<'f, 'p, F: Folders> Plant<'f, 'p, F> {
                 let text = standing_text(self.alloc, number.get(), &entry.lend())?;
                 Ok(Some(text))
             }
-            Way::Released(_) => Ok(None),
-            Way::NoOffer(reason) => {
+            LeavingCause::Released(_) => Ok(None),
+            LeavingCause::NoOffer(reason) => {
                 let text = reason_text(self.alloc, reason)?;
                 Ok(Some(text))
             }
-            Way::Answered => {
+            LeavingCause::Answered => {
                 let text = answer_text(self.alloc)?;
                 Ok(Some(text))
             }

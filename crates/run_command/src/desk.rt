@@ -8,8 +8,10 @@ ghost use Rattle.run_command.specs.Working.{WritesAndDeals};
 
 use crate::plant::Plant;
 use command_ends::Fault;
-use driver::{Call, Chance, Declined, Denied, Desk, Heard, Log, Sink, Step, Tasks, Todo};
-use folders::{Folders, Request};
+use driver::{
+    Call, Chance, Declined, Denied, Desk, HeardDatagram, Log, Sink, TakenStep, Tasks, Todo,
+};
+use folders::{FileRequest, Folders};
 use plant_files::call_for;
 use plant_status::StatusFile;
 use std::io::Write;
@@ -29,7 +31,7 @@ impl<F: Folders, S: StatusFile> Sink for PlantDesk<'_, '_, '_, F, S> {
 
     ghost may = { λ it call. MayAsk (texts_of it) (kept_of it.plant) call };
 
-    fn hear<E: Write>(&mut self, heard: &Heard, now: u64, log: &mut Log<'_, E>) {
+    fn hear<E: Write>(&mut self, heard: &HeardDatagram, now: u64, log: &mut Log<'_, E>) {
         self.plant.hear(heard, now, log);
     }
 
@@ -41,11 +43,15 @@ impl<F: Folders, S: StatusFile> Desk for PlantDesk<'_, '_, '_, F, S> {
 
     ghost handed = { λ old new _. WritesAndDeals (F.doings old.plant.folders.now) (F.doings new.plant.folders.now) old.plant.papers.now.waits.items new.plant.papers.now.waits.items old.plant.papers.now.book new.plant.papers.now.book };
 
-    fn note<E: Write>(&mut self, step: &Step, log: &mut Log<'_, E>) -> Result<(), Fault<'static>> {
+    fn note<E: Write>(
+        &mut self,
+        step: &TakenStep,
+        log: &mut Log<'_, E>,
+    ) -> Result<(), Fault<'static>> {
         self.plant.note(step, log)
     }
 
-    fn hand_out<E: Write>(&mut self, steps: &[Step], now: u64, log: &mut Log<'_, E>) {
+    fn hand_out<E: Write>(&mut self, steps: &[TakenStep], now: u64, log: &mut Log<'_, E>) {
         self.plant.hand_out(steps, now, log);
     }
 
@@ -63,7 +69,7 @@ impl<F: Folders, S: StatusFile> Desk for PlantDesk<'_, '_, '_, F, S> {
         self.plant.deed(chance, log)
     }
 
-    fn call(&self, request: &Request) -> Option<Call<'_>> {
+    fn call(&self, request: &FileRequest) -> Option<Call<'_>> {
         match self.plant.papers.book.wish(*request) {
             Some(wish) => Some(call_for(wish, request.number.get())),
             None => None,

@@ -6,16 +6,16 @@ ghost use Rattle.run_command.specs.Working.{Follows, Deals, Always, WritesAndDea
 
 use crate::plant::Plant;
 use crate::status::note_found;
-use crate::unseen::{Part, Unseen};
+use crate::unseen::{Unseen, UnseenPart};
 use driver::Log;
 use folders::{FolderFault, Folders, Listing};
-use looks::{MOST_NAMES, Seen};
+use looks::{EndedLook, MOST_NAMES};
 use plant_log::tell_news;
 use std::io::Write;
 
 impl<'f, 'p, F: Folders> Plant<'f, 'p, F> {
     /// Takes in all that a look found, at a moment: at once where it is little, and else a part at a time, each in a turn of its own.
-    fn take_seen<E: Write>(&mut self, seen: Seen, now: u64, log: &mut Log<'_, E>)
+    fn take_seen<E: Write>(&mut self, seen: EndedLook, now: u64, log: &mut Log<'_, E>)
         ensures folders { self.new.folders.ghost_name ≡ self.old.folders.ghost_name }
         ensures same { self.new.folders.now ≡ self.old.folders.now }
         ensures waits { self.new.papers.now.waits ≡ self.old.papers.now.waits }
@@ -24,7 +24,7 @@ impl<'f, 'p, F: Folders> Plant<'f, 'p, F> {
     {
         note_found(&mut self.papers.keeper, seen.requests.len());
         let is_crowded = seen.is_crowded();
-        let part = Part::All(seen);
+        let part = UnseenPart::All(seen);
         self.papers.unseen = Some(Unseen { part, looked: now });
         if !is_crowded {
             self.see_all(now, log);

@@ -9,11 +9,11 @@ ghost use Rattle.run_command.specs.Working.{Follows};
 use crate::status::note_heard;
 use crate::unseen::Unseen;
 use code_table::CodeTable;
-use driver::{Declined, Denied, Heard, Log, Tasks};
+use driver::{Declined, Denied, HeardDatagram, Log, Tasks};
 use folders::{Folders, NamedFile, write_waiting};
 use log_terms::Loudness;
 use looks::{Looking, Strays};
-use offers::{Book, Reason};
+use offers::{Book, OfferFault};
 use pace::Deeds;
 use plant_care::Care;
 use plant_files::is_of_offer;
@@ -182,14 +182,14 @@ impl<'f, 'p, F: Folders> Plant<'f, 'p, F> {
     }
 
     /// A datagram was taken in, at a moment.
-    pub(crate) fn hear<E: Write>(&mut self, heard: &Heard, now: u64, log: &mut Log<'_, E>)
+    pub(crate) fn hear<E: Write>(&mut self, heard: &HeardDatagram, now: u64, log: &mut Log<'_, E>)
         ensures folders { self.new.folders.ghost_name ≡ self.old.folders.ghost_name }
         ensures same { self.new.folders.now ≡ self.old.folders.now }
         ensures waits { self.new.papers.now.waits ≡ self.old.papers.now.waits }
         ensures texts { self.new.papers.now.texts ≡ self.old.papers.now.texts }
         ensures book { self.new.papers.now.book ≡ self.old.papers.now.book }
     {
-        if let Heard::Refused(refusal) = heard {
+        if let HeardDatagram::Refused(refusal) = heard {
             self.papers.told.hear_refusal(*refusal, now, log.err);
         }
         note_heard(&mut self.papers.keeper, heard, now);
@@ -222,7 +222,7 @@ impl<'f, 'p, F: Folders> Plant<'f, 'p, F> {
                 self.papers.book.busy(number, denied.moment);
             }
             refusal if is_of_offer(refusal) => {
-                self.papers.book.barred(number, Reason::Step(refusal));
+                self.papers.book.barred(number, OfferFault::Step(refusal));
             }
             _ => {
                 self.papers.book.ended(number, denied.moment);

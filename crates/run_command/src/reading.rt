@@ -7,8 +7,8 @@ ghost use Rattle.run_command.specs.Minding.{WasRead};
 ghost use Rattle.run_command.specs.Working.{BecameTape, IfRead, IsTapeOrFault, IsWishOfText, LaySo, Looks};
 
 use code_table::CodeTable;
-use folders::{FolderFault, Folders, Kind, Wish, name_of};
-use offers::{Found, Reason};
+use folders::{FolderFault, Folders, OfferKind, Wish, name_of};
+use offers::{FoundOffer, OfferFault};
 use plant_files::{MAX_TEXT, tape_of_text};
 use std::alloc::Global;
 use tape_frames::{Entry, MAX_FRAMES, Tape, TapeFault};
@@ -18,7 +18,7 @@ use text_tape::PunchError;
 #[derive(Clone, Copy)]
 struct NamedFound<'a> {
     name: &'a str,
-    found: &'a Found,
+    found: &'a FoundOffer,
 }
 
 /// The tape in a file, or why it is none.
@@ -44,13 +44,13 @@ fn punched(
     alloc: Global,
     table: &CodeTable,
     text: &[u8],
-) -> Result<Result<Tape, Reason>, FolderFault>
+) -> Result<Result<Tape, OfferFault>, FolderFault>
     ensures { IsTapeOrFault table.now text.now result }
 {
     match tape_of_text(alloc, table, text) {
         Ok(tape) => Ok(Ok(tape)),
         Err(PunchError::OutOfMemory) => Err(FolderFault::OutOfMemory),
-        Err(fault) => Ok(Err(Reason::Text(fault))),
+        Err(fault) => Ok(Err(OfferFault::Text(fault))),
     }
 }
 
@@ -60,12 +60,12 @@ fn read_text<F: Folders>(
     folders: &mut F,
     file: &NamedFound<'_>,
     table: &CodeTable,
-) -> Result<Result<Tape, Reason>, FolderFault>
+) -> Result<Result<Tape, OfferFault>, FolderFault>
     ensures { Looks (F.doings folders.old) (F.doings folders.new) (λ doings. BecameTape table.now doings file.now.name.now result) }
 {
     match folders.read(alloc, file.name, file.found.stamp, MAX_TEXT)? {
         Some(text) => punched(alloc, table, text.as_slice()),
-        None => Ok(Err(Reason::LongText)),
+        None => Ok(Err(OfferFault::LongText)),
     }
 }
 
@@ -75,11 +75,11 @@ fn read_wish<F: Folders>(
     folders: &mut F,
     file: &NamedFound<'_>,
     texts: &Option<CodeTable>,
-) -> Result<Result<Wish, Reason>, FolderFault>
+) -> Result<Result<Wish, OfferFault>, FolderFault>
     ensures { Looks (F.doings folders.old) (F.doings folders.new) (λ doings. IfRead result (λ wish. IsWishOfText texts.now doings file.now.name.now wish)) }
 {
     let Some(table) = texts else {
-        return Ok(Err(Reason::NoTexts));
+        return Ok(Err(OfferFault::NoTexts));
     };
     match read_text(alloc, folders, file, table)? {
         Ok(tape) => Ok(Ok(Wish::Offered(Entry::Tape(tape)))),
@@ -105,24 +105,24 @@ fn read_named<F: Folders>(
     folders: &mut F,
     file: &NamedFound<'_>,
     texts: &Option<CodeTable>,
-) -> Result<Result<Wish, Reason>, FolderFault>
+) -> Result<Result<Wish, OfferFault>, FolderFault>
     ensures { Looks (F.doings folders.old) (F.doings folders.new) (λ doings. IfRead result (λ wish. LaySo texts.now doings file.now.found.now.request file.now.name.now wish)) }
 {
     match file.found.request.kind {
-        Kind::Withdraw => {
+        OfferKind::Withdraw => {
             find(alloc, folders, file)?;
             Ok(Ok(Wish::Offered(Entry::Void)))
         }
-        Kind::Seek => {
+        OfferKind::Seek => {
             find(alloc, folders, file)?;
             Ok(Ok(Wish::Sought))
         }
-        Kind::Tape => match read_tape(alloc, folders, file)? {
+        OfferKind::Tape => match read_tape(alloc, folders, file)? {
             Ok(tape) => Ok(Ok(Wish::Offered(Entry::Tape(tape)))),
             Err(TapeFault::OutOfMemory) => Err(FolderFault::OutOfMemory),
-            Err(fault) => Ok(Err(Reason::Tape(fault))),
+            Err(fault) => Ok(Err(OfferFault::Tape(fault))),
         },
-        Kind::Text => read_wish(alloc, folders, file, texts),
+        OfferKind::Text => read_wish(alloc, folders, file, texts),
     }
 }
 
@@ -130,9 +130,9 @@ fn read_named<F: Folders>(
 pub(crate) fn read<F: Folders>(
     alloc: Global,
     folders: &mut F,
-    found: &Found,
+    found: &FoundOffer,
     texts: &Option<CodeTable>,
-) -> Result<Result<Wish, Reason>, FolderFault>
+) -> Result<Result<Wish, OfferFault>, FolderFault>
     ensures { Looks (F.doings folders.old) (F.doings folders.new) (λ doings. IfRead result (λ wish. WasRead texts.now doings found.now.request wish)) }
 {
     let name = name_of(alloc, found.request)?;

@@ -2,32 +2,32 @@
 
 ghost use Rattle.std.specs.Prelude.{◌≡◌};
 
-use crate::departures::{Departure, Way};
+use crate::departures::{Departure, LeavingCause};
 use crate::plant::{Papers, Plant};
 use ballots::{Member, Number};
-use driver::{Heard, Log, Step};
-use folders::{FolderFault, Folders, Kind, Place, Request};
+use driver::{HeardDatagram, Log, TakenStep};
+use folders::{FileRequest, FolderFault, Folders, OfferKind, Place};
 use gone_out::Range;
 use node_core::Note;
-use plant_care::{Care, Survey};
+use plant_care::{Care, NumberSurvey};
 use plant_log::tell_fault;
-use plant_status::{Counts, Keeper, Released, Span, StatusFile, text_of};
+use plant_status::{Keeper, NumberSpan, PlantCounts, Released, StatusFile, text_of};
 use rolls::Aside;
 use std::alloc::{AllocError, Global};
 use std::io::Write;
 
 /// The member that a datagram is of, where it can be read.
-fn sender_of(heard: &Heard) -> Option<Member> {
+fn sender_of(heard: &HeardDatagram) -> Option<Member> {
     match heard {
-        Heard::Taken(Some(said)) => Some(said.sender),
-        Heard::Aside(Aside::Recall(Ok(recall))) => Some(recall.from()),
-        Heard::Aside(Aside::Roll(Ok(roll))) => Some(roll.from()),
+        HeardDatagram::Taken(Some(said)) => Some(said.sender),
+        HeardDatagram::Aside(Aside::Recall(Ok(recall))) => Some(recall.from()),
+        HeardDatagram::Aside(Aside::Roll(Ok(roll))) => Some(roll.from()),
         _ => None,
     }
 }
 
 /// A datagram was taken in, at a moment.
-pub(crate) fn note_heard(keeper: &mut Option<Keeper>, heard: &Heard, now: u64) {
+pub(crate) fn note_heard(keeper: &mut Option<Keeper>, heard: &HeardDatagram, now: u64) {
     if let Some(keeper) = keeper
         && let Some(member) = sender_of(heard)
     {
@@ -45,7 +45,7 @@ fn note_of(keeper: &mut Keeper, number: Number, note: &Note) {
 }
 
 /// A step was taken.
-pub(crate) fn note_step(keeper: &mut Option<Keeper>, step: &Step) {
+pub(crate) fn note_step(keeper: &mut Option<Keeper>, step: &TakenStep) {
     let Some(keeper) = keeper else {
         return;
     };
@@ -57,9 +57,9 @@ pub(crate) fn note_step(keeper: &mut Option<Keeper>, step: &Step) {
 }
 
 /// The station is asked for a file.
-pub(crate) fn note_asked(keeper: &mut Option<Keeper>, request: &Request) {
+pub(crate) fn note_asked(keeper: &mut Option<Keeper>, request: &FileRequest) {
     if let Some(keeper) = keeper
-        && !matches!(request.kind, Kind::Seek)
+        && !matches!(request.kind, OfferKind::Seek)
     {
         keeper.offer(request.number);
     }
@@ -78,9 +78,9 @@ pub(crate) fn note_left(keeper: &mut Option<Keeper>, departure: &Departure) {
         return;
     };
     match departure.way {
-        Way::Released(Place::Lost) => keeper.lose(),
-        Way::Released(_) | Way::Answered => {}
-        Way::NoOffer(_) => keeper.refuse(),
+        LeavingCause::Released(Place::Lost) => keeper.lose(),
+        LeavingCause::Released(_) | LeavingCause::Answered => {}
+        LeavingCause::NoOffer(_) => keeper.refuse(),
     }
 }
 
@@ -92,15 +92,15 @@ pub(crate) fn note_stray(keeper: &mut Option<Keeper>) {
 }
 
 /// A range of what is missing, as a status tells it.
-fn span_of(range: &Range) -> Span {
-    Span {
+fn span_of(range: &Range) -> NumberSpan {
+    NumberSpan {
         first: range.first.get(),
         last: range.last.get(),
     }
 }
 
 /// The same of ranges.
-fn spans_of(alloc: Global, ranges: &[Range]) -> Result<Vec<Span>, AllocError> {
+fn spans_of(alloc: Global, ranges: &[Range]) -> Result<Vec<NumberSpan>, AllocError> {
     let mut spans = Vec::with_capacity(alloc, ranges.len())?;
     for range in ranges {
         spans.push(span_of(range))?;
@@ -122,9 +122,9 @@ fn counted(
     keeper: &mut Keeper,
     papers: (&Care, usize),
     now: u64,
-) -> Result<Counts, AllocError> {
+) -> Result<PlantCounts, AllocError> {
     let (care, unwritten) = papers;
-    let Survey {
+    let NumberSurvey {
         released,
         greatest,
         missing,
@@ -133,7 +133,7 @@ fn counted(
     let missing = spans_of(alloc, missing.as_slice())?;
     let is_still = is_still_missing(keeper, care);
     keeper.watch(is_still, missing.first().map(|span| span.first), now);
-    Ok(Counts {
+    Ok(PlantCounts {
         released: Released {
             count: released,
             greatest,

@@ -14,7 +14,7 @@ use exchange::Intake;
 use folders::{FolderFault, Folders, STOP};
 use gone_out::{Known, Origin};
 use log_terms::Loudness;
-use plant_care::{Start, begin};
+use plant_care::{CareStart, begin};
 use plant_log::tell_fault;
 use plant_status::{StationId, StatusFile};
 use row_groups::Settles;
@@ -78,7 +78,7 @@ pub fn run_station<R: Settles, N: Wire, F: Folders, E: Write, S: StatusFile + Dr
     let alloc = terms.alloc;
     let loudness = terms.loudness;
     let is_quiet = loudness == Loudness::Faults;
-    let start = Start {
+    let start = CareStart {
         alloc,
         own: terms.own,
         known: terms.known,

@@ -7,22 +7,22 @@ ghost use Rattle.run_command.specs.Working.{Follows};
 use crate::plant::Plant;
 use driver::Log;
 use folders::{FolderFault, Folders, PassedOver, Stamp};
-use looks::{MOST_NAMES, Merging, Seen, Stray, TakenIn};
-use offers::Found;
+use looks::{EndedLook, MOST_NAMES, Merging, Stray, TakenIn};
+use offers::FoundOffer;
 use std::alloc::{AllocError, Global};
 use std::collections::BTreeMap;
 use std::io::Write;
 
 /// What is left to be taken in of what a look found.
 #[derive(Drop)]
-pub(crate) enum Part {
+pub(crate) enum UnseenPart {
     /// All of it.
-    All(Seen),
+    All(EndedLook),
     /// All but some of what could not be read, of which it is told; the files whose names ask for something in order of their places.
     Unread(Sorted),
     /// The files.
     Files {
-        requests: Vec<Found>,
+        requests: Vec<FoundOffer>,
         strays: BTreeMap<String, Stamp>,
     },
     /// The files whose names ask for nothing.
@@ -37,7 +37,7 @@ pub(crate) enum Part {
 #[derive(Drop)]
 pub(crate) struct Sorted {
     /// The files whose names ask for something, in order of their places.
-    pub(crate) requests: Vec<Found>,
+    pub(crate) requests: Vec<FoundOffer>,
     pub(crate) strays: BTreeMap<String, Stamp>,
     /// Why something was passed over, by its name.
     pub(crate) others: BTreeMap<String, FolderFault>,
@@ -48,16 +48,16 @@ pub(crate) struct Sorted {
 /// What is left to be taken in of what a look found.
 #[derive(Drop)]
 pub(crate) struct Unseen {
-    pub(crate) part: Part,
+    pub(crate) part: UnseenPart,
     /// The moment at which the look came to its end.
     pub(crate) looked: u64,
 }
 
 /// All that a look found, in order.
-fn sort(seen: Seen) -> Result<Sorted, AllocError>
+fn sort(seen: EndedLook) -> Result<Sorted, AllocError>
     ensures { IfOk result (Sorts seen) }
 {
-    let Seen {
+    let EndedLook {
         requests,
         strays,
         others,
@@ -96,7 +96,7 @@ impl<'f, 'p, F: Folders> Plant<'f, 'p, F> {
         sorted: Sorted,
         looked: u64,
         log: &mut Log<'_, E>,
-    ) -> Result<Part, AllocError>
+    ) -> Result<UnseenPart, AllocError>
         ensures folders { self.new.folders.ghost_name ≡ self.old.folders.ghost_name }
         ensures same { self.new.folders.now ≡ self.old.folders.now }
         ensures waits { self.new.papers.now.waits ≡ self.old.papers.now.waits }
@@ -107,10 +107,10 @@ impl<'f, 'p, F: Folders> Plant<'f, 'p, F> {
         let told = &mut self.papers.told;
         told.passed_over(first_of(self.alloc, &mut sorted.others)?, looked, log.err);
         if !sorted.others.is_empty() {
-            return Ok(Part::Unread(sorted));
+            return Ok(UnseenPart::Unread(sorted));
         }
         told.listed(sorted.skipped, looked, log.err);
-        Ok(Part::Files {
+        Ok(UnseenPart::Files {
             requests: sorted.requests,
             strays: sorted.strays,
         })
@@ -118,7 +118,7 @@ impl<'f, 'p, F: Folders> Plant<'f, 'p, F> {
 
     /// Takes in which files a look found whose names ask for something, in order, at its moment. Where there is no memory for it, what is known
     /// stays as it was.
-    fn see_requests(&mut self, requests: &[Found], looked: u64) -> Result<(), AllocError>
+    fn see_requests(&mut self, requests: &[FoundOffer], looked: u64) -> Result<(), AllocError>
         ensures folders { self.new.folders.ghost_name ≡ self.old.folders.ghost_name }
         ensures same { self.new.folders.now ≡ self.old.folders.now }
         ensures waits { self.new.papers.now.waits ≡ self.old.papers.now.waits }
@@ -130,7 +130,7 @@ impl<'f, 'p, F: Folders> Plant<'f, 'p, F> {
     }
 
     /// Goes on to take in the files whose names ask for nothing; what is left then.
-    fn merge(&mut self, merging: Merging) -> Part
+    fn merge(&mut self, merging: Merging) -> UnseenPart
         ensures folders { self.new.folders.ghost_name ≡ self.old.folders.ghost_name }
         ensures same { self.new.folders.now ≡ self.old.folders.now }
         ensures waits { self.new.papers.now.waits ≡ self.old.papers.now.waits }
@@ -138,18 +138,18 @@ impl<'f, 'p, F: Folders> Plant<'f, 'p, F> {
         ensures book { self.new.papers.now.book ≡ self.old.papers.now.book }
     {
         match self.papers.strays.go_on(merging) {
-            TakenIn::Partly(merging) => Part::Merging(merging),
-            TakenIn::Wholly(gone) => Part::Gone(gone),
+            TakenIn::Partly(merging) => UnseenPart::Merging(merging),
+            TakenIn::Wholly(gone) => UnseenPart::Gone(gone),
         }
     }
 
     /// Takes in a part of what a look found, at its moment; what is left then. Where there is no memory for it, what is known stays as it was.
     fn see_part<E: Write>(
         &mut self,
-        part: Part,
+        part: UnseenPart,
         looked: u64,
         log: &mut Log<'_, E>,
-    ) -> Result<Option<Part>, AllocError>
+    ) -> Result<Option<UnseenPart>, AllocError>
         ensures folders { self.new.folders.ghost_name ≡ self.old.folders.ghost_name }
         ensures same { self.new.folders.now ≡ self.old.folders.now }
         ensures waits { self.new.papers.now.waits ≡ self.old.papers.now.waits }
@@ -157,18 +157,18 @@ impl<'f, 'p, F: Folders> Plant<'f, 'p, F> {
         ensures book { Follows self.old.papers.now.book self.new.papers.now.book }
     {
         match part {
-            Part::All(seen) => Ok(Some(Part::Unread(sort(seen)?))),
-            Part::Unread(sorted) => Ok(Some(self.tell_unread(sorted, looked, log)?)),
-            Part::Files { requests, strays } => {
+            UnseenPart::All(seen) => Ok(Some(UnseenPart::Unread(sort(seen)?))),
+            UnseenPart::Unread(sorted) => Ok(Some(self.tell_unread(sorted, looked, log)?)),
+            UnseenPart::Files { requests, strays } => {
                 self.see_requests(requests.as_slice(), looked)?;
-                Ok(Some(Part::Strays(strays)))
+                Ok(Some(UnseenPart::Strays(strays)))
             }
-            Part::Strays(strays) => {
+            UnseenPart::Strays(strays) => {
                 let merging = self.papers.strays.begin(strays, looked)?;
                 Ok(Some(self.merge(merging)))
             }
-            Part::Merging(merging) => Ok(Some(self.merge(merging))),
-            Part::Gone(_) => Ok(None),
+            UnseenPart::Merging(merging) => Ok(Some(self.merge(merging))),
+            UnseenPart::Gone(_) => Ok(None),
         }
     }
 

@@ -1,14 +1,14 @@
 //! The datagrams that wait in memory: of each member its share, and the members take turns.
 
 use ballots::Member;
-use pace::{Datagram, Waiting};
+use pace::{Incoming, Waiting};
 use std::alloc::Global;
 
 /// Whether a datagram of this member with this byte finds a place.
 fn puts(alloc: Global, waiting: &mut Waiting, sender: u8, byte: u8) -> Option<bool> {
     let sender = Member::new(sender)?;
     let bytes = Vec::from_slice(alloc, &[byte]).ok()?;
-    Some(waiting.put(Datagram { sender, bytes }))
+    Some(waiting.put(Incoming { sender, bytes }))
 }
 
 /// The sender and the byte of the next; zeros where none waits.

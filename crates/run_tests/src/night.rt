@@ -1,9 +1,9 @@
 //! The log of a night: what goes on is told once an hour, and what ends is forgotten.
 
 use ballots::{Ballot, Number};
-use folders::{FolderFault, Kind, PassedOver, Request};
+use folders::{FileRequest, FolderFault, OfferKind, PassedOver};
 use log_terms::Loudness;
-use plant_log::{Event, Told, Trouble};
+use plant_log::{LogEvent, Told, Trouble};
 use refusals::StepRefusal;
 use station_fixtures::ballot;
 use std::alloc::Global;
@@ -43,7 +43,7 @@ impl Log {
         }
     }
 
-    fn tell(&mut self, event: Event, now: u64) {
+    fn tell(&mut self, event: LogEvent, now: u64) {
         self.told.tell(event, now, &mut self.err);
     }
 
@@ -52,11 +52,11 @@ impl Log {
         let mut moment = now;
         for each in 0..BALLOTS {
             let ballot = ballot(round.checked_add(each)?, 1)?;
-            self.tell(Event::Began { number, ballot }, moment);
+            self.tell(LogEvent::Began { number, ballot }, moment);
             moment = moment.checked_add(BALLOT)?;
         }
         let ballot = ballot(round.checked_add(BALLOTS - 1)?, 1)?;
-        self.tell(Event::GaveUp { number, ballot }, moment);
+        self.tell(LogEvent::GaveUp { number, ballot }, moment);
         Some(moment)
     }
 
@@ -114,11 +114,11 @@ fn forgets(alloc: Global) -> Option<bool> {
     log.try_once(12, 1, 0)?;
     log.try_once(13, 1, 0)?;
     log.try_once(12, 33, MINUTE)?;
-    log.tell(Event::Released { number: 12 }, MINUTE);
+    log.tell(LogEvent::Released { number: 12 }, MINUTE);
     log.try_once(12, 1, MINUTE)?;
     log.try_once(13, 33, MINUTE)?;
-    log.tell(Event::Sent { number: 12 }, MINUTE);
-    log.tell(Event::Lost { number: 13 }, MINUTE);
+    log.tell(LogEvent::Sent { number: 12 }, MINUTE);
+    log.tell(LogEvent::Lost { number: 13 }, MINUTE);
     Some(log.lines()? == FORGOTTEN)
 }
 
@@ -138,9 +138,9 @@ fn a_fifo(alloc: Global) -> Option<Vec<PassedOver>> {
 
 /// What goes on is tried at a moment: a file that can't be moved, releases that can't be written, and what a look could not read.
 fn go_on(alloc: Global, log: &mut Log, fault: FolderFault, now: u64) -> Option<()> {
-    let request = Request {
+    let request = FileRequest {
         number: Number::new(12)?,
-        kind: Kind::Tape,
+        kind: OfferKind::Tape,
     };
     let Log { told, err } = log;
     told.cannot_move(&Trouble { request, fault }, now, err);

@@ -3,4 +3,4 @@
 
 mod script;
 
-pub use script::{LineFault, Order, is_ignored, order_of};
+pub use script::{Order, ScriptFault, is_ignored, order_of};

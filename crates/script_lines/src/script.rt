@@ -35,7 +35,7 @@ pub enum Order {
 
 /// Why a line asks for nothing.
 #[derive(Clone, Copy, PartialEq, Eq)]
-pub enum LineFault {
+pub enum ScriptFault {
     /// An unknown word, a wrong number of words, or a number that doesn't fit.
     BadLine,
     /// The hex of an offer is not that of a tape.
@@ -43,9 +43,9 @@ pub enum LineFault {
     OutOfMemory,
 }
 
-impl From<AllocError> for LineFault {
-    fn from(_: AllocError) -> LineFault {
-        LineFault::OutOfMemory
+impl From<AllocError> for ScriptFault {
+    fn from(_: AllocError) -> ScriptFault {
+        ScriptFault::OutOfMemory
     }
 }
 
@@ -60,72 +60,72 @@ fn is_decimal(word: &str) -> bool {
 }
 
 /// A number in decimal digits, leading zeros included, that fits.
-fn number(word: &str) -> Result<u64, LineFault>
+fn number(word: &str) -> Result<u64, ScriptFault>
     ensures { IfOk result (λ n. n ≡ written word.now) }
 {
     if !is_decimal(word) {
-        return Err(LineFault::BadLine);
+        return Err(ScriptFault::BadLine);
     }
-    word.parse::<u64>().map_err(|_| LineFault::BadLine)
+    word.parse::<u64>().map_err(|_| ScriptFault::BadLine)
 }
 
-fn member(word: &str) -> Result<u8, LineFault>
+fn member(word: &str) -> Result<u8, ScriptFault>
     ensures { IfOk result (λ m. m ≡ written word.now) }
 {
-    u8::try_from(number(word)?).map_err(|_| LineFault::BadLine)
+    u8::try_from(number(word)?).map_err(|_| ScriptFault::BadLine)
 }
 
-fn small(word: &str) -> Result<u32, LineFault>
+fn small(word: &str) -> Result<u32, ScriptFault>
     ensures { IfOk result (λ n. n ≡ written word.now) }
 {
-    u32::try_from(number(word)?).map_err(|_| LineFault::BadLine)
+    u32::try_from(number(word)?).map_err(|_| ScriptFault::BadLine)
 }
 
 /// The tape that the hex of its frames gives.
-fn tape(alloc: Global, word: &str) -> Result<Tape, LineFault> {
+fn tape(alloc: Global, word: &str) -> Result<Tape, ScriptFault> {
     let frames = match hex::decode(alloc, word.as_bytes()) {
         Ok(frames) => frames,
-        Err(FromHexError::OutOfMemory) => return Err(LineFault::OutOfMemory),
-        Err(_) => return Err(LineFault::BadTape),
+        Err(FromHexError::OutOfMemory) => return Err(ScriptFault::OutOfMemory),
+        Err(_) => return Err(ScriptFault::BadTape),
     };
     match Tape::from_vec(alloc, frames) {
         Ok(tape) => Ok(tape),
-        Err(TapeFault::OutOfMemory) => Err(LineFault::OutOfMemory),
-        Err(_) => Err(LineFault::BadTape),
+        Err(TapeFault::OutOfMemory) => Err(ScriptFault::OutOfMemory),
+        Err(_) => Err(ScriptFault::BadTape),
     }
 }
 
-fn saved(word: &str) -> Result<bool, LineFault> {
+fn saved(word: &str) -> Result<bool, ScriptFault> {
     match word {
         "saved" => Ok(true),
         "unsaved" => Ok(false),
-        _ => Err(LineFault::BadLine),
+        _ => Err(ScriptFault::BadLine),
     }
 }
 
-fn members(word: &str) -> Result<u8, LineFault> {
+fn members(word: &str) -> Result<u8, ScriptFault> {
     let count = member(word)?;
     if 1 <= count && count <= Member::LAST {
         Ok(count)
     } else {
-        Err(LineFault::BadLine)
+        Err(ScriptFault::BadLine)
     }
 }
 
 /// The version of which this is the number, without leading zeros.
-fn version(word: &str) -> Result<Version, LineFault>
+fn version(word: &str) -> Result<Version, ScriptFault>
     ensures some { IfOk result (λ v. word.now ≡ version_word v) }
     ensures none { OnErr result ((¬ (word.now ≡ codes "1")) × (¬ (word.now ≡ codes "2"))) }
 {
     match word {
         "1" => Ok(Version::One),
         "2" => Ok(Version::Two),
-        _ => Err(LineFault::BadLine),
+        _ => Err(ScriptFault::BadLine),
     }
 }
 
 /// What a name with one word behind it asks for.
-fn order_of_one(name: &[u8], word: &str) -> Result<Order, LineFault>
+fn order_of_one(name: &[u8], word: &str) -> Result<Order, ScriptFault>
     ensures upgrade { name.now ≡ codes "upgrade" → IfOk result (λ order. order ≡ Upgrade (written word.now)) }
 {
     match name {
@@ -142,12 +142,12 @@ fn order_of_one(name: &[u8], word: &str) -> Result<Order, LineFault>
         b"upgrade" => Ok(Order::Upgrade {
             member: member(word)?,
         }),
-        _ => Err(LineFault::BadLine),
+        _ => Err(ScriptFault::BadLine),
     }
 }
 
 /// What a name with a member and one word behind it asks for.
-fn order_of_two(name: &str, who: &str, word: &str) -> Result<Order, LineFault> {
+fn order_of_two(name: &str, who: &str, word: &str) -> Result<Order, ScriptFault> {
     match name {
         "withdraw" => Ok(Order::Withdraw {
             member: member(who)?,
@@ -161,12 +161,12 @@ fn order_of_two(name: &str, who: &str, word: &str) -> Result<Order, LineFault> {
             member: member(who)?,
             saved: saved(word)?,
         }),
-        _ => Err(LineFault::BadLine),
+        _ => Err(ScriptFault::BadLine),
     }
 }
 
 /// What `recall` with a member, a number and another member behind it asks for.
-fn recall(who: &str, what: &str, whom: &str) -> Result<Order, LineFault>
+fn recall(who: &str, what: &str, whom: &str) -> Result<Order, ScriptFault>
     ensures { IfOk result (λ order. order ≡ Recall (written who.now) (written what.now) (written whom.now)) }
 {
     Ok(Order::Recall {
@@ -183,7 +183,7 @@ fn order_of_three(
     who: &str,
     what: &str,
     last: &str,
-) -> Result<Order, LineFault> {
+) -> Result<Order, ScriptFault> {
     match name {
         "offer" => {
             let (member, number) = (member(who)?, small(what)?);
@@ -194,20 +194,20 @@ fn order_of_three(
             })
         }
         "recall" => recall(who, what, last),
-        _ => Err(LineFault::BadLine),
+        _ => Err(ScriptFault::BadLine),
     }
 }
 
 /// A word as text.
-fn text(word: &[u8]) -> Result<&str, LineFault> {
-    str::from_utf8(word).map_err(|_| LineFault::BadLine)
+fn text(word: &[u8]) -> Result<&str, ScriptFault> {
+    str::from_utf8(word).map_err(|_| ScriptFault::BadLine)
 }
 
 /// What a line that is not ignored asks for. Its words stand between spaces.
-pub fn order_of(alloc: Global, line: &[u8]) -> Result<Order, LineFault> {
+pub fn order_of(alloc: Global, line: &[u8]) -> Result<Order, ScriptFault> {
     let mut words = line.split(|b| *b == b' ').filter(|w| !w.is_empty());
     let (Some(name), Some(first)) = (words.next(), words.next()) else {
-        return Err(LineFault::BadLine);
+        return Err(ScriptFault::BadLine);
     };
     // Most lines end here, so that nothing more is looked for in them.
     let Some(second) = words.next() else {
@@ -222,6 +222,6 @@ pub fn order_of(alloc: Global, line: &[u8]) -> Result<Order, LineFault> {
             text(second)?,
             text(last)?,
         ),
-        (Some(_), Some(_)) => Err(LineFault::BadLine),
+        (Some(_), Some(_)) => Err(ScriptFault::BadLine),
     }
 }

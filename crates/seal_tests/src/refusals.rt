@@ -2,7 +2,7 @@
 
 use ballots::Member;
 use hmac::Key;
-use seals::{Keys, Label, Place, SealFault, open};
+use seals::{KeyPlace, Keys, Label, SealFault, open};
 use std::alloc::Global;
 
 fn keys_of(first: u8, second: Option<u8>) -> Keys {
@@ -54,7 +54,7 @@ fn unseen(alloc: Global) -> u32 {
 }
 
 /// Under which key a datagram of this one is opened.
-fn place_of(alloc: Global, byte: u8, keys: &Keys) -> Option<Place> {
+fn place_of(alloc: Global, byte: u8, keys: &Keys) -> Option<KeyPlace> {
     let bytes = datagram_of(alloc, byte, b"abc")?;
     let own = Member::new(2)?;
     match open(keys, own, &bytes) {
@@ -91,8 +91,8 @@ fn other_members(rt: HostRuntime) {
 #[test]
 fn two_keys(rt: HostRuntime) {
     let keys = keys_of(8, Some(7));
-    assert!(rt; place_of(rt.alloc(), 8, &keys) == Some(Place::First));
-    assert!(rt; place_of(rt.alloc(), 7, &keys) == Some(Place::Second));
+    assert!(rt; place_of(rt.alloc(), 8, &keys) == Some(KeyPlace::First));
+    assert!(rt; place_of(rt.alloc(), 7, &keys) == Some(KeyPlace::Second));
     assert!(rt; place_of(rt.alloc(), 9, &keys) == None);
     assert!(rt; fault_to(rt.alloc(), 2, &keys_of(9, Some(8))) == Some(SealFault::BadTag));
 }

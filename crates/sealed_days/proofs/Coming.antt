@@ -6,13 +6,13 @@ use Rattle.std.specs.declared.net.socket_addr.SocketAddr.{SocketAddr}
 use Rattle.protocol.specs.Ballots.{IsMember}
 use Rattle.protocol.specs.Refusals.{Call, Offering, Seeking, Falling_due, Receiving, Recalling}
 use Rattle.saved_rows.specs.declared.rows.Rows.{Ghosts}
-use Rattle.pace.specs.declared.share.Datagram.{Datagram}
+use Rattle.pace.specs.declared.share.Incoming.{Incoming}
 use Rattle.seals.specs.Sealing.{label_of}
 use Rattle.seals.specs.Opening.{IsKeyAt, Opens}
 use Rattle.seals.specs.declared.label.Label.{Label}
 use Rattle.seals.specs.declared.opening.Keys.{Keys}
-use Rattle.seals.specs.declared.opening.Place.{Place}
-use Rattle.seals.specs.declared.opening.Place.TheVariants as places
+use Rattle.seals.specs.declared.opening.KeyPlace.{KeyPlace}
+use Rattle.seals.specs.declared.opening.KeyPlace.TheVariants as places
 use Rattle.circuit_keys.specs.declared.key_file.SharedKeys.{SharedKeys}
 use Rattle.sealed_door.specs.declared.door.SealedDoor.{SealedDoor}
 use Rattle.sealed_door.specs.Admitting.{BringsSealed}
@@ -23,16 +23,16 @@ use Rattle.process_days.proofs.GoingOn.{log_here, log_elsewhere}
 use Rattle.sealed_days.specs.Keyed.{AreKeysOf, AreSealed, BearsTagOf, CallNeedsKey, IsDoorOf, IsKeyOf, IsLetIn, NeedKey, NeedsKey, SealedLogsAgree, SealedOrdersAreInTurn, SealedPacketsCame}
 
 -- a key of a station is a key of its circuit
-key_of : (shared : SharedKeys) (number count : ℕ) (keys : Keys) (place : Place) (block : List ℕ) → AreKeysOf shared number count keys → IsKeyAt keys place block → IsKeyOf shared number count block
+key_of : (shared : SharedKeys) (number count : ℕ) (keys : Keys) (place : KeyPlace) (block : List ℕ) → AreKeysOf shared number count keys → IsKeyAt keys place block → IsKeyOf shared number count block
 key_of shared number count keys places.First block are at = inl (sym at ∙ are.first)
 key_of shared number count keys places.Second block are at = inr (sym at ∙ are.second)
 
-key_is : (keys : Keys) (place : Place) (a b : List ℕ) → IsKeyAt keys place a → IsKeyAt keys place b → a ≡ b
+key_is : (keys : Keys) (place : KeyPlace) (a b : List ℕ) → IsKeyAt keys place a → IsKeyAt keys place b → a ≡ b
 key_is keys places.First a b is is' = sym is ∙ is'
 key_is keys places.Second a b is is' = let e = sym is ∙ is' in cc
 
 -- the datagram bears the tag of the packet that it brings
-bears : (shared : SharedKeys) (number count m : ℕ) (door : SealedDoor) (sender : SocketAddr) (bytes packet : List ℕ) (d : Datagram)
+bears : (shared : SharedKeys) (number count m : ℕ) (door : SealedDoor) (sender : SocketAddr) (bytes packet : List ℕ) (d : Incoming)
     → IsDoorOf shared number count m door → BringsSealed door sender bytes d → packet ≡ d.bytes.items → BearsTagOf shared number count m bytes packet
 bears shared number count m door sender bytes packet d is_door b is =
     let p = b.piece in

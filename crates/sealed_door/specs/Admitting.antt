@@ -2,7 +2,7 @@
 use Rattle.std.specs.Prelude.{◌≡◌, ◌≢◌, ◌⊎◌, ℕ, ◌<◌, Bool, true, false, List, Some, None, length, slice_index}
 use Rattle.std.specs.List.{All}
 use Rattle.std.specs.declared.net.socket_addr.SocketAddr.{SocketAddr}
-use Rattle.pace.specs.declared.share.Datagram.{Datagram}
+use Rattle.pace.specs.declared.share.Incoming.{Incoming}
 use Rattle.wire.specs.declared.address.Address.{Address}
 use Rattle.wire.specs.Addresses.{IsAt, ComesFrom, address_of}
 use Rattle.wire.specs.Plain.{has_mark}
@@ -92,7 +92,7 @@ AdmitsSealed old new sender bytes b =
 
 -- a datagram of this sender brings this packet: under a key of the station, it bears the tag of the whole packet, sealed by the member that
 -- the packet names as its sender, for this station, which it names as well; and it comes from where that member listens
-pub record BringsSealed (door : SealedDoor) (sender : SocketAddr) (bytes : List ℕ) (d : Datagram) : Type 0 where
+pub record BringsSealed (door : SealedDoor) (sender : SocketAddr) (bytes : List ℕ) (d : Incoming) : Type 0 where
   pub piece : Piece
   pub is_piece : IsPiece door.keys door.own bytes piece
   pub sealed : IsSealedAs door.keys piece.place piece.label d.bytes.items

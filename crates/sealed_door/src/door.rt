@@ -10,7 +10,7 @@ use crate::naming::is_from_to;
 use crate::sending::send_parts;
 use ballots::Member;
 use gathering::Gathering;
-use pace::Datagram;
+use pace::Incoming;
 use seals::{Keys, Label, MOST_DATAGRAM, Piece, SealFault, open};
 use std::alloc::{AllocError, Global};
 use std::net::SocketAddr;
@@ -56,7 +56,7 @@ fn named(packet: Vec<u8>, from: Member, to: Member) -> Brought
     ensures { IsNamed from to packet.items result }
 {
     if is_from_to(&packet, from, to) {
-        return Brought::Packet(Datagram {
+        return Brought::Packet(Incoming {
             sender: from,
             bytes: packet,
         });

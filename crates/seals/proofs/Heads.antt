@@ -13,7 +13,7 @@ use Rattle.seals.specs.declared.label.Label.{Label}
 use Rattle.seals.specs.Sealing.{most_packet, tag_of, tagged, count_of, part_len, head_of}
 use Rattle.seals.specs.Reading.{◌>>=◌, id_at, member_at, ends_at, has_part, head_at}
 use Rattle.seals.specs.declared.opening.Keys.{Keys}
-use Rattle.seals.specs.declared.opening.Place.{Place}
+use Rattle.seals.specs.declared.opening.KeyPlace.{KeyPlace}
 use Rattle.seals.specs.Opening.{IsTagged, IsPlaceOf, Opens, OpensAt, OpensNone}
 
 -- a tag has 16 bytes
@@ -253,7 +253,7 @@ none_from_place tags keys own bytes none = λ place label index part o.
     none place o.block o.is_key (tagged_when_opens tags o.block own bytes label index part o.opens)
 
 -- where the head is good and a key fits, it is one
-pub opens_from_place : (keys : Keys) (own : ℕ) (bytes : List ℕ) (h : Head) (place : Place) → ((i : ℕ) → slice_index bytes i < 256) → head_at own bytes ≡ Ok h → IsPlaceOf keys bytes (Some place)
+pub opens_from_place : (keys : Keys) (own : ℕ) (bytes : List ℕ) (h : Head) (place : KeyPlace) → ((i : ℕ) → slice_index bytes i < 256) → head_at own bytes ≡ Ok h → IsPlaceOf keys bytes (Some place)
     → OpensAt keys place own bytes h.label h.index (take (length bytes - 24 - 16) (drop 24 bytes))
 opens_from_place keys own bytes h place small e some = record {
   block = some.0;

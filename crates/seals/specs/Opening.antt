@@ -5,21 +5,21 @@ use Rattle.protocol.specs.Ballots.{IsMember}
 use Rattle.seals.specs.Sealing.{most_packet, tag_of, tagged, count_of, part_len, head_of}
 use Rattle.seals.specs.declared.label.Label.{Label}
 use Rattle.seals.specs.declared.opening.Keys.{Keys}
-use Rattle.seals.specs.declared.opening.Place.{Place}
-use Rattle.seals.specs.declared.opening.Place.TheVariants as places
+use Rattle.seals.specs.declared.opening.KeyPlace.{KeyPlace}
+use Rattle.seals.specs.declared.opening.KeyPlace.TheVariants as places
 
 -- the bytes end with the tag of what stands before it
 abbrev pub IsTagged : List ℕ → List ℕ → Type 0
 IsTagged block bytes = tag_of block (take (length bytes - 16) bytes) ≡ drop (length bytes - 16) bytes
 
 -- it is the key at this place
-abbrev pub IsKeyAt : Keys → Place → List ℕ → Type 0
+abbrev pub IsKeyAt : Keys → KeyPlace → List ℕ → Type 0
 IsKeyAt keys places.First block = keys.first ≡ block
 IsKeyAt keys places.Second block = keys.second ≡ Some block
 
 -- under which key the bytes are tagged: the first that fits, and none where none does
-abbrev pub IsPlaceOf : Keys → List ℕ → Option Place → Type 0
-IsPlaceOf keys bytes None = (place : Place) (block : List ℕ) → IsKeyAt keys place block → ¬ IsTagged block bytes
+abbrev pub IsPlaceOf : Keys → List ℕ → Option KeyPlace → Type 0
+IsPlaceOf keys bytes None = (place : KeyPlace) (block : List ℕ) → IsKeyAt keys place block → ¬ IsTagged block bytes
 IsPlaceOf keys bytes (Some place) = (block : List ℕ) × IsKeyAt keys place block × IsTagged block bytes
 
 -- the datagram is, under the key of this block, one for this member with this label, index and part
@@ -36,7 +36,7 @@ pub record Opens (block : List ℕ) (own : ℕ) (bytes : List ℕ) (label : Labe
   pub id_length : length label.id ≡ 16
 
 -- it is one under the key at this place
-pub record OpensAt (keys : Keys) (place : Place) (own : ℕ) (bytes : List ℕ) (label : Label) (index : ℕ) (part : List ℕ) : Type 0 where
+pub record OpensAt (keys : Keys) (place : KeyPlace) (own : ℕ) (bytes : List ℕ) (label : Label) (index : ℕ) (part : List ℕ) : Type 0 where
   pub block : List ℕ
   pub is_key : IsKeyAt keys place block
   pub opens : Opens block own bytes label index part
@@ -44,7 +44,7 @@ pub record OpensAt (keys : Keys) (place : Place) (own : ℕ) (bytes : List ℕ) 
 -- it is none, under no key
 abbrev pub OpensNone : Keys → ℕ → List ℕ → Type 0
 OpensNone keys own bytes =
-    (place : Place) (label : Label) (index : ℕ) (part : List ℕ) → ¬ OpensAt keys place own bytes label index part
+    (place : KeyPlace) (label : Label) (index : ℕ) (part : List ℕ) → ¬ OpensAt keys place own bytes label index part
 
 -- the length in a label is that of a packet
 pub record IsLabel (label : Label) : Type 0 where

@@ -9,4 +9,4 @@ mod opening;
 
 pub use head::SealFault;
 pub use label::{Label, MOST_DATAGRAM, MOST_PACKET, MOST_PARTS};
-pub use opening::{Keys, Piece, Place, open};
+pub use opening::{KeyPlace, Keys, Piece, open};

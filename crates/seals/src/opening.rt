@@ -21,32 +21,32 @@ pub struct Keys {
 
 /// Which of the keys a datagram was sent under.
 #[derive(Clone, Copy, PartialEq, Eq)]
-pub enum Place {
+pub enum KeyPlace {
     First,
     Second,
 }
 
-impl Place {
+impl KeyPlace {
     /// Whether the two are one place.
-    pub fn is_same(self, other: Place) -> bool
+    pub fn is_same(self, other: KeyPlace) -> bool
         ensures { IsTrue result ↔ (self ≡ other) }
     {
         matches!(
             (self, other),
-            (Place::First, Place::First) | (Place::Second, Place::Second)
+            (KeyPlace::First, KeyPlace::First) | (KeyPlace::Second, KeyPlace::Second)
         )
     }
 }
 
 impl Keys {
     /// The key at this place, where there is one.
-    pub fn at(&self, place: Place) -> Option<&Key>
+    pub fn at(&self, place: KeyPlace) -> Option<&Key>
         ensures none { IfNone result ((block : List ℕ) → ¬ IsKeyAt self.now place block) }
         ensures some { IfSome result (λ key. IsKeyAt self.now place key.now) }
     {
         match place {
-            Place::First => Some(&self.first),
-            Place::Second => self.second.as_ref(),
+            KeyPlace::First => Some(&self.first),
+            KeyPlace::Second => self.second.as_ref(),
         }
     }
 }
@@ -54,7 +54,7 @@ impl Keys {
 /// What a datagram brings: a part of a packet.
 #[derive(Clone, Copy)]
 pub struct Piece<'a> {
-    pub place: Place,
+    pub place: KeyPlace,
     pub label: Label,
     pub index: u8,
     pub part: &'a [u8],
@@ -70,15 +70,15 @@ fn is_tagged(key: &Key, bytes: &[u8]) -> bool
 }
 
 /// Under which of the keys the bytes are tagged, if under any.
-fn place_of(keys: &Keys, bytes: &[u8]) -> Option<Place>
+fn place_of(keys: &Keys, bytes: &[u8]) -> Option<KeyPlace>
     requires { 16 ≤ length bytes.now }
     ensures { IsPlaceOf keys.now bytes.now result }
 {
     if is_tagged(&keys.first, bytes) {
-        return Some(Place::First);
+        return Some(KeyPlace::First);
     }
     match &keys.second {
-        Some(key) if is_tagged(key, bytes) => Some(Place::Second),
+        Some(key) if is_tagged(key, bytes) => Some(KeyPlace::Second),
         _ => None,
     }
 }

@@ -10,7 +10,7 @@ ghost use Rattle.serve_command.specs.Serving.{release_of, printing};
 ghost use Rattle.serve_command.specs.Printed.{Printed, PrintedFront, printed};
 
 use command_ends::{Fault, put_release};
-use driver::{Heard, Log, Outlet, Sink, Step};
+use driver::{HeardDatagram, Log, Outlet, Sink, TakenStep};
 use line_check::{SetFault, Slug};
 use station::Release;
 use std::alloc::Global;
@@ -79,13 +79,17 @@ impl<W: Write> Sink for Printer<'_, W> {
 
     ghost may = { λ _ _. Unit {0} };
 
-    fn hear<E: Write>(&mut self, _heard: &Heard, _now: u64, _log: &mut Log<'_, E>) {}
+    fn hear<E: Write>(&mut self, _heard: &HeardDatagram, _now: u64, _log: &mut Log<'_, E>) {}
 
     ghost fates = { printed (λ it. it.out.ghost_name) (λ it. W.contents it.out.now) };
 }
 
 impl<W: Write> Outlet for Printer<'_, W> {
-    fn take<E: Write>(&mut self, step: &Step, _log: &mut Log<'_, E>) -> Result<(), Fault<'static>> {
+    fn take<E: Write>(
+        &mut self,
+        step: &TakenStep,
+        _log: &mut Log<'_, E>,
+    ) -> Result<(), Fault<'static>> {
         announce_any(self.alloc, step.answer.release.as_ref(), self.out)
     }
 }

@@ -47,7 +47,7 @@ pub fn serve_turn<R: Settles, N: Wire, W: Write, E: Write>(
 
 /// What a station is asked before its turns, as far as it is given.
 #[derive(Drop)]
-struct Asks {
+struct FirstAsks {
     /// It is offered this tape for this number.
     offer: Option<(u32, Tape)>,
     /// It is offered the withdrawal of this number.
@@ -134,7 +134,7 @@ fn withdraw_and_seek<R: Settles, N: Wire, S: Outlet, E: Write>(
 /// Makes the offer, then the withdrawal, and then the search.
 fn ask_all<R: Settles, N: Wire, S: Outlet, E: Write>(
     driver: &mut Driver<'_, R, N, S>,
-    asks: Asks,
+    asks: FirstAsks,
     log: &mut Log<'_, E>,
 ) -> Result<(), Fault<'static>>
     requires free { IsFree S.may }
@@ -167,7 +167,7 @@ fn take_turns<R: Settles, N: Wire, S: Outlet, E: Write>(
 /// What is asked, and then the turns.
 fn ask_and_turn<R: Settles, N: Wire, S: Outlet, E: Write>(
     driver: &mut Driver<'_, R, N, S>,
-    asks: Asks,
+    asks: FirstAsks,
     turns: u32,
     log: &mut Log<'_, E>,
 ) -> Result<(), Fault<'static>>
@@ -207,7 +207,7 @@ pub fn serve_run<R: Settles, N: Wire, W: Write, E: Write>(
     let Ok(mut intake) = Intake::new(alloc) else {
         return Fault::OutOfMemory.tell(err);
     };
-    let asks = Asks {
+    let asks = FirstAsks {
         offer,
         withdraw,
         seek,

@@ -3,9 +3,11 @@
 use crate::wires::{Manner, Scripted};
 use ballots::Number;
 use command_ends::{End, Fault};
-use driver::{Call, Chance, Declined, Denied, Desk, Driver, Heard, Log, Sink, Step, Tasks, Todo};
+use driver::{
+    Call, Chance, Declined, Denied, Desk, Driver, HeardDatagram, Log, Sink, TakenStep, Tasks, Todo,
+};
 use exchange::Intake;
-use folders::{Kind, Request};
+use folders::{FileRequest, OfferKind};
 use pace::Deeds;
 use station::StepRefusal;
 use station_fixtures::{rows_with, station_over};
@@ -41,7 +43,7 @@ impl Counting {
 }
 
 /// How many of these steps released something.
-pub fn released_by(steps: &[Step]) -> usize {
+pub fn released_by(steps: &[TakenStep]) -> usize {
     steps
         .iter()
         .filter(|step| step.answer.release.is_some())
@@ -55,7 +57,7 @@ impl Sink for Counting {
 
     ghost may = { λ _ _. Unit {0} };
 
-    fn hear<E: Write>(&mut self, _heard: &Heard, _now: u64, _log: &mut Log<'_, E>) {}
+    fn hear<E: Write>(&mut self, _heard: &HeardDatagram, _now: u64, _log: &mut Log<'_, E>) {}
 
     ghost fates = { record {
       rests = λ _. tt;
@@ -78,13 +80,13 @@ impl Desk for Counting {
 
     fn note<E: Write>(
         &mut self,
-        _step: &Step,
+        _step: &TakenStep,
         _log: &mut Log<'_, E>,
     ) -> Result<(), Fault<'static>> {
         Ok(())
     }
 
-    fn hand_out<E: Write>(&mut self, steps: &[Step], _now: u64, _log: &mut Log<'_, E>) {
+    fn hand_out<E: Write>(&mut self, steps: &[TakenStep], _now: u64, _log: &mut Log<'_, E>) {
         if steps.is_empty() {
             return;
         }
@@ -113,13 +115,13 @@ impl Desk for Counting {
     fn deed<E: Write>(&mut self, _chance: Chance, _log: &mut Log<'_, E>) -> Option<Todo> {
         self.asks = self.asks.saturating_sub(1);
         let number = Number::new(13)?;
-        Some(Todo::Ask(Request {
+        Some(Todo::Ask(FileRequest {
             number,
-            kind: Kind::Withdraw,
+            kind: OfferKind::Withdraw,
         }))
     }
 
-    fn call(&self, request: &Request) -> Option<Call<'_>> {
+    fn call(&self, request: &FileRequest) -> Option<Call<'_>> {
         let number = request.number.get();
         Some(Call::Withdraw { number })
     }

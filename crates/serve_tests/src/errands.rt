@@ -9,9 +9,11 @@ use crate::wires::{Manner, Scripted};
 use ballots::{Member, Number};
 use catch_up::Errand;
 use command_ends::{End, Fault};
-use driver::{Call, Chance, Declined, Denied, Desk, Driver, Heard, Log, Sink, Step, Tasks, Todo};
+use driver::{
+    Call, Chance, Declined, Denied, Desk, Driver, HeardDatagram, Log, Sink, TakenStep, Tasks, Todo,
+};
 use exchange::Intake;
-use folders::Request;
+use folders::FileRequest;
 use node_core::Note;
 use pace::Deeds;
 use recalls::RecallFault;
@@ -62,12 +64,12 @@ impl Sink for Running {
 
     ghost may = { λ _ _. Unit {0} };
 
-    fn hear<E: Write>(&mut self, heard: &Heard, _now: u64, _log: &mut Log<'_, E>) {
+    fn hear<E: Write>(&mut self, heard: &HeardDatagram, _now: u64, _log: &mut Log<'_, E>) {
         match heard {
-            Heard::Aside(Aside::Recall(Ok(recall))) => {
+            HeardDatagram::Aside(Aside::Recall(Ok(recall))) => {
                 self.heard = self.heard.saturating_add(recall.numbers().len());
             }
-            Heard::Aside(Aside::Recall(Err(RecallFault::Short))) => {
+            HeardDatagram::Aside(Aside::Recall(Err(RecallFault::Short))) => {
                 self.short = self.short.saturating_add(1);
             }
             _ => {}
@@ -93,14 +95,18 @@ impl Desk for Running {
 
     ghost handed = { λ _ _ _. Unit {0} };
 
-    fn note<E: Write>(&mut self, step: &Step, _log: &mut Log<'_, E>) -> Result<(), Fault<'static>> {
+    fn note<E: Write>(
+        &mut self,
+        step: &TakenStep,
+        _log: &mut Log<'_, E>,
+    ) -> Result<(), Fault<'static>> {
         if matches!(step.answer.note, Note::Recalled { .. }) {
             self.recalled = self.recalled.saturating_add(1);
         }
         Ok(())
     }
 
-    fn hand_out<E: Write>(&mut self, steps: &[Step], _now: u64, _log: &mut Log<'_, E>) {
+    fn hand_out<E: Write>(&mut self, steps: &[TakenStep], _now: u64, _log: &mut Log<'_, E>) {
         self.released = self.released.saturating_add(released_by(steps));
     }
 
@@ -127,7 +133,7 @@ impl Desk for Running {
         Some(Todo::Run(errand_at(turn)?))
     }
 
-    fn call(&self, _request: &Request) -> Option<Call<'_>> {
+    fn call(&self, _request: &FileRequest) -> Option<Call<'_>> {
         None
     }
 

@@ -2,7 +2,7 @@
 
 use crate::status_place::why_no_status;
 use command_ends::End;
-use configuration::{Config, Folders};
+use configuration::{Config, WorkFolders};
 use host_folders::{HostFolders, Misplaced, PlantPaths, why_misplaced};
 use host_process::file_limit;
 use std::io::Write;
@@ -26,10 +26,10 @@ pub(crate) struct OpenPlant<'r> {
 /// The folders at these paths, held.
 fn open_folders<'r, E: Write>(
     rt: &'r HostRuntime,
-    folders: Folders,
+    folders: WorkFolders,
     err: &mut E,
 ) -> Result<OpenPlant<'r>, End> {
-    let Folders {
+    let WorkFolders {
         offers,
         releases,
         text,
@@ -55,7 +55,7 @@ pub(crate) fn open_plant<'r, E: Write>(
     rt: &'r HostRuntime,
     path: &str,
     config: &Config,
-    folders: Option<Folders>,
+    folders: Option<WorkFolders>,
     err: &mut E,
 ) -> Result<Option<OpenPlant<'r>>, End> {
     if let Some(limit) = file_limit() {

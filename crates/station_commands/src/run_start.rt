@@ -192,7 +192,7 @@ fn run_from<F: RowFiles, E: Write>(
 
 /// What `run` is asked for: the path of a configuration, the version that rows are made in, where they are made, and how much is told.
 #[derive(Clone, Copy)]
-struct Asked<'a> {
+struct RunPlan<'a> {
     path: &'a str,
     making: Option<Version>,
     loudness: Loudness,
@@ -201,7 +201,7 @@ struct Asked<'a> {
 /// Reads the configuration at a path and the keys that it names, and runs its station.
 fn run_at<F: RowFiles, E: Write>(
     ground: &Ground<'_, ThisHost<'_>, F>,
-    asked: Asked<'_>,
+    asked: RunPlan<'_>,
     err: &mut E,
 ) -> End {
     let rt = ground.rt;
@@ -256,7 +256,7 @@ pub fn run<F: RowFiles, E: Write>(
         host: &host,
         row_files,
     };
-    let asked = Asked {
+    let asked = RunPlan {
         path: config,
         making,
         loudness,

@@ -1,7 +1,7 @@
 -- What a wire of the machine that the program runs on is opened for, and what its door does.
 use Rattle.std.specs.Prelude.{◌≡◌, ℕ, Bool, List, Option, Some, None}
 use Rattle.std.specs.declared.net.socket_addr.SocketAddr.{SocketAddr}
-use Rattle.pace.specs.declared.share.Datagram.{Datagram}
+use Rattle.pace.specs.declared.share.Incoming.{Incoming}
 use Rattle.wire.specs.declared.address.Address.{Address}
 use Rattle.wire.specs.Doors.{NoneWaits}
 use Rattle.wire.specs.Guarded.{passed_of}
@@ -14,7 +14,7 @@ use Rattle.station_start.specs.declared.host_door.HostDoor.TheVariants as doors
 use Rattle.station_start.specs.declared.host_wire.HostWire.{HostWire}
 
 -- which packet a datagram of a sender brings
-abbrev pub BringsAt : HostDoor → SocketAddr → List ℕ → Datagram → Type 0
+abbrev pub BringsAt : HostDoor → SocketAddr → List ℕ → Incoming → Type 0
 BringsAt (doors.Plain door) = brings_plain door.own door.stations.items
 BringsAt (doors.Sealed door) = BringsSealed door
 

@@ -6,7 +6,7 @@ ghost use Rattle.seals.specs.declared.opening.Keys.{Keys as KeysValue};
 ghost use Rattle.station_start.specs.Wires.{IsHostWire};
 
 use crate::host_wire::HostWire;
-use opened_files::Opened;
+use opened_files::InputFile;
 use seals::Keys;
 use std::io;
 use std::io::Read;
@@ -47,7 +47,7 @@ pub struct ThisHost<'a> {
 }
 
 impl<'a> Host for ThisHost<'a> {
-    type Text = Opened;
+    type Text = InputFile;
 
     type Wire = HostWire<'a>;
 
@@ -55,8 +55,8 @@ impl<'a> Host for ThisHost<'a> {
 
     ghost is_bound = { IsHostWire };
 
-    fn open(&self, path: &str) -> Opened {
-        Opened::at(self.rt, path)
+    fn open(&self, path: &str) -> InputFile {
+        InputFile::at(self.rt, path)
     }
 
     fn bind(

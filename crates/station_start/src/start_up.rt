@@ -57,7 +57,7 @@ pub struct Launch<'a> {
 
 /// What a station is put together from.
 #[derive(Drop)]
-struct Held<R: Rows, N: Wire + Drop> {
+struct StationParts<R: Rows, N: Wire + Drop> {
     files: Files,
     rows: R,
     wire: N,
@@ -164,7 +164,7 @@ fn station_of<R: Rows>(
 fn start_over<'f, R: Rows, N: Wire + Drop>(
     alloc: Global,
     identity: Identity,
-    held: Held<R, N>,
+    held: StationParts<R, N>,
 ) -> Result<Started<R, N>, Fault<'f>>
     requires { IsIdentity identity }
     ensures station { IfOk result (λ s. IsStationOf identity s.station) }
@@ -176,7 +176,7 @@ fn start_over<'f, R: Rows, N: Wire + Drop>(
     ensures version { IfOk result (λ s. s.station.speaker.wire ≡ R.version held.rows) }
     ensures wire { IfOk result (λ s. s.wire ≡ held.wire) }
 {
-    let Held { files, rows, wire } = held;
+    let StationParts { files, rows, wire } = held;
     let Files {
         table,
         widths,
@@ -239,7 +239,7 @@ pub fn start<H: Host, F: RowFiles, E: Write>(
         Err(fault) => return Err(fault.tell(err)),
     };
     let rows = Grouped::new(rt.alloc(), rows);
-    let held = Held { files, rows, wire };
+    let held = StationParts { files, rows, wire };
     match start_over(rt.alloc(), identity, held) {
         Ok(started) => Ok(started),
         Err(fault) => Err(fault.tell(err)),

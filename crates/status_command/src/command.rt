@@ -3,14 +3,14 @@
 ghost use Rattle.std.specs.Prelude.{◌≡◌, if◌then◌else◌};
 ghost use Rattle.command_ends.specs.declared.end.End.TheVariants.{Done, Input};
 
-use crate::fault::{NoStatus, end_of_config};
+use crate::fault::{StatusFault, end_of_config};
 use crate::file::status_at;
 use crate::json::json_of;
 use crate::shown::shown;
 use crate::watching::{FRESH, watch};
 use command_ends::End;
 use configuration::{Config, ConfigInput, NoLookUp, read_config};
-use opened_files::Opened;
+use opened_files::InputFile;
 use plant_status::{Health, Status, ages_of, health_of, seconds_now};
 use std::io::{IsTerminal, Write};
 
@@ -27,29 +27,29 @@ pub enum Shape {
 
 /// Of which station it is asked how it stands: that of a configuration, which has its status file at a path; and in which shape it is told.
 #[derive(Clone, Copy)]
-pub(crate) struct Asked<'c> {
+pub(crate) struct StatusPlan<'c> {
     pub(crate) config: &'c Config,
     pub(crate) path: &'c str,
     pub(crate) shape: Shape,
 }
 
 /// What is not well of a station.
-fn health_at(rt: &HostRuntime, status: &Status, config: &Config) -> Result<Health, NoStatus> {
+fn health_at(rt: &HostRuntime, status: &Status, config: &Config) -> Result<Health, StatusFault> {
     let Some(now) = seconds_now(rt) else {
-        return Err(NoStatus::NoClock);
+        return Err(StatusFault::NoClock);
     };
     match ages_of(rt.alloc(), status, now)? {
         Some(ages) => Ok(health_of(&ages, config.catches_up)),
-        None => Err(NoStatus::NoText),
+        None => Err(StatusFault::NoText),
     }
 }
 
 /// What a status tells, and whether its station is well.
 fn told_by(
     rt: &HostRuntime,
-    asked: Asked<'_>,
+    asked: StatusPlan<'_>,
     status: &Status,
-) -> Result<(String, bool), NoStatus> {
+) -> Result<(String, bool), StatusFault> {
     let health = health_at(rt, status, asked.config)?;
     let text = match asked.shape {
         Shape::Json => json_of(rt.alloc(), status, &health)?,
@@ -59,29 +59,29 @@ fn told_by(
 }
 
 /// How a station stands, as its status file tells; and whether it is well.
-fn told_of(rt: &HostRuntime, asked: Asked<'_>) -> Result<(String, bool), NoStatus> {
+fn told_of(rt: &HostRuntime, asked: StatusPlan<'_>) -> Result<(String, bool), StatusFault> {
     let status = status_at(rt, asked.path, asked.config)?;
     told_by(rt, asked, &status)
 }
 
 /// Writes a text, and what stands before it.
-fn put<W: Write>(before: &str, text: &str, out: &mut W) -> Result<(), NoStatus> {
+fn put<W: Write>(before: &str, text: &str, out: &mut W) -> Result<(), StatusFault> {
     let is_written = out.write_all(before.as_bytes()).is_ok()
         && out.write_all(text.as_bytes()).is_ok()
         && out.flush().is_ok();
     if is_written {
         Ok(())
     } else {
-        Err(NoStatus::Unwritten)
+        Err(StatusFault::Unwritten)
     }
 }
 
 /// Prints how a station stands; whether it is well.
 pub(crate) fn print<W: Write>(
     rt: &HostRuntime,
-    asked: Asked<'_>,
+    asked: StatusPlan<'_>,
     out: &mut W,
-) -> Result<bool, NoStatus> {
+) -> Result<bool, StatusFault> {
     let (text, is_well) = told_of(rt, asked)?;
     let before = match asked.shape {
         Shape::Watched => FRESH,
@@ -111,10 +111,10 @@ fn status_from<W: Write, E: Write>(
         None => None,
     };
     let Some(path) = named else {
-        return NoStatus::Unnamed.tell("", err);
+        return StatusFault::Unnamed.tell("", err);
     };
     let path = path.as_str();
-    let asked = Asked {
+    let asked = StatusPlan {
         config,
         path,
         shape,
@@ -145,7 +145,7 @@ pub fn status<W: Write, E: Write>(
     // Which hosts the stations are on is not asked.
     let file = ConfigInput {
         path: config,
-        input: Opened::at(rt, config),
+        input: InputFile::at(rt, config),
     };
     match read_config(rt.alloc(), &NoLookUp, file, err) {
         Ok(config) => status_from(rt, &config, shape, out, err),

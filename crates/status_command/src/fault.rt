@@ -10,7 +10,7 @@ use std::io::Write;
 
 /// Why nothing can be told of a station.
 #[derive(Clone, Copy)]
-pub(crate) enum NoStatus {
+pub(crate) enum StatusFault {
     /// Its configuration names no status file.
     Unnamed,
     /// There is no such file.
@@ -32,18 +32,18 @@ pub(crate) enum NoStatus {
     OutOfMemory,
 }
 
-impl From<AllocError> for NoStatus {
-    fn from(_: AllocError) -> NoStatus {
-        NoStatus::OutOfMemory
+impl From<AllocError> for StatusFault {
+    fn from(_: AllocError) -> StatusFault {
+        StatusFault::OutOfMemory
     }
 }
 
-impl From<Unread> for NoStatus {
-    fn from(unread: Unread) -> NoStatus {
+impl From<Unread> for StatusFault {
+    fn from(unread: Unread) -> StatusFault {
         match unread {
-            Unread::OutOfMemory => NoStatus::OutOfMemory,
-            Unread::Later => NoStatus::Later,
-            Unread::NoStatus => NoStatus::NoText,
+            Unread::OutOfMemory => StatusFault::OutOfMemory,
+            Unread::Later => StatusFault::Later,
+            Unread::NoStatus => StatusFault::NoText,
         }
     }
 }
@@ -52,20 +52,20 @@ impl From<Unread> for NoStatus {
 /// is not well.
 const UNKNOWN: End = End::Store;
 
-impl NoStatus {
+impl StatusFault {
     /// Its words.
     fn words(self) -> &'static str {
         match self {
-            NoStatus::Unnamed => "the configuration names no status file",
-            NoStatus::Missing => "there is no such file",
-            NoStatus::NoFile => "no plain file",
-            NoStatus::Unreadable => "cannot be read",
-            NoStatus::NoText => "no status",
-            NoStatus::Later => "of a later version",
-            NoStatus::Other => "of another station",
-            NoStatus::NoClock => "the clock tells nothing",
-            NoStatus::Unwritten => "cannot write",
-            NoStatus::OutOfMemory => "out of memory",
+            StatusFault::Unnamed => "the configuration names no status file",
+            StatusFault::Missing => "there is no such file",
+            StatusFault::NoFile => "no plain file",
+            StatusFault::Unreadable => "cannot be read",
+            StatusFault::NoText => "no status",
+            StatusFault::Later => "of a later version",
+            StatusFault::Other => "of another station",
+            StatusFault::NoClock => "the clock tells nothing",
+            StatusFault::Unwritten => "cannot write",
+            StatusFault::OutOfMemory => "out of memory",
         }
     }
 
@@ -76,8 +76,8 @@ impl NoStatus {
     {
         let words = self.words();
         match self {
-            NoStatus::OutOfMemory => return Fault::OutOfMemory.tell(err),
-            NoStatus::Unnamed | NoStatus::NoClock | NoStatus::Unwritten => {
+            StatusFault::OutOfMemory => return Fault::OutOfMemory.tell(err),
+            StatusFault::Unnamed | StatusFault::NoClock | StatusFault::Unwritten => {
                 let _ = writeln!(err, "status: {words}");
             }
             _ => {

@@ -1,6 +1,6 @@
 //! A status and whether it is well, as one object of JSON.
 
-use plant_status::{Busy, Health, Heard, Missing, Moment, Purpose, Span, Status};
+use plant_status::{Busy, Health, HeardMember, Missing, Moment, NumberSpan, Purpose, Status};
 use serde_json::{Map, Value, push, put};
 use std::alloc::{AllocError, Global};
 
@@ -47,12 +47,12 @@ fn object(alloc: Global, leaves: &[(&str, Leaf)]) -> Result<Value, AllocError> {
 }
 
 /// What is an object in a list.
-trait Item {
+trait JsonItem {
     /// The object.
     fn value(&self, alloc: Global) -> Result<Value, AllocError>;
 }
 
-impl Item for Heard {
+impl JsonItem for HeardMember {
     fn value(&self, alloc: Global) -> Result<Value, AllocError> {
         let member = Leaf::Number(u32::from(self.member));
         object(
@@ -62,7 +62,7 @@ impl Item for Heard {
     }
 }
 
-impl Item for Busy {
+impl JsonItem for Busy {
     fn value(&self, alloc: Global) -> Result<Value, AllocError> {
         let leaves = [
             ("number", Leaf::Number(self.number)),
@@ -74,7 +74,7 @@ impl Item for Busy {
     }
 }
 
-impl Item for Span {
+impl JsonItem for NumberSpan {
     fn value(&self, alloc: Global) -> Result<Value, AllocError> {
         let (first, last) = (Leaf::Number(self.first), Leaf::Number(self.last));
         object(alloc, &[("first", first), ("last", last)])
@@ -82,7 +82,7 @@ impl Item for Span {
 }
 
 /// A list of such objects.
-fn list<T: Item>(alloc: Global, items: &[T]) -> Result<Value, AllocError> {
+fn list<T: JsonItem>(alloc: Global, items: &[T]) -> Result<Value, AllocError> {
     let mut list = Vec::new(alloc);
     for item in items {
         push(&mut list, item.value(alloc)?)?;

@@ -1,7 +1,7 @@
 //! A status that is drawn again each second.
 
-use crate::command::{Asked, print};
-use crate::fault::NoStatus;
+use crate::command::{StatusPlan, print};
+use crate::fault::StatusFault;
 use std::io::Write;
 use std::thread;
 use std::time::Duration;
@@ -15,9 +15,9 @@ pub(crate) const FRESH: &str = "\u{1b}[H\u{1b}[2J";
 /// Draws how a station stands again each second, on a terminal, until nothing can be told any more.
 pub(crate) fn watch<W: Write>(
     rt: &HostRuntime,
-    asked: Asked<'_>,
+    asked: StatusPlan<'_>,
     out: &mut W,
-) -> Result<bool, NoStatus> {
+) -> Result<bool, StatusFault> {
     let mut is_well = true;
     for _ in 0..TIMES {
         is_well = print(rt, asked, out)?;

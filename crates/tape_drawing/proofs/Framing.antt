@@ -25,7 +25,7 @@ use Rattle.line_fit.specs.Fitting.{fault_in}
 use Rattle.tape_drawing.specs.declared.elements.Look.{Look}
 use Rattle.tape_drawing.specs.declared.layout.Spot.{Spot}
 use Rattle.tape_drawing.specs.declared.layout.Stretch.{Stretch}
-use Rattle.tape_drawing.specs.declared.page.Page.{Page}
+use Rattle.tape_drawing.specs.declared.page.DrawingForm.{DrawingForm}
 use Rattle.tape_drawing.specs.Shapes.{Shape, Frame}
 use Rattle.tape_drawing.specs.Layout.{corner, next, after, first_spot, frames_in, AreLines}
 use Rattle.tape_drawing.specs.Frames.{paper_shapes, position_shapes, frame_shapes, strip_shapes}
@@ -164,7 +164,7 @@ taped_framed means tape spot frames fault =
     ∙ append-nil (framed (strip_shapes means tape spot.from frames spot.top))
     ∙ strip_framed means tape spot.from frames spot.top frames
 
-line_framed : (page : Page) (means : Meanings) (widths : WidthFile) (tape : List ℕ) (spot : Spot) (fit : LineFit)
+line_framed : (page : DrawingForm) (means : Meanings) (widths : WidthFile) (tape : List ℕ) (spot : Spot) (fit : LineFit)
     → framed (line_shapes page means widths tape spot fit) ≡ stood means tape spot.from (frames_in spot.from fit)
 line_framed page means widths tape spot fit =
     let taped = taped_shapes means tape spot (frames_in spot.from fit) (fault_in fit.verdict) in
@@ -173,7 +173,7 @@ line_framed page means widths tape spot fit =
     ∙ append-nil (framed taped)
     ∙ taped_framed means tape spot (frames_in spot.from fit) (fault_in fit.verdict)
 
-lines_framed : (page : Page) (means : Meanings) (widths : WidthFile) (tape : List ℕ) (end : ℕ) (spot : Spot) (fits : List LineFit) → AreLines widths.measure end spot.from fits
+lines_framed : (page : DrawingForm) (means : Meanings) (widths : WidthFile) (tape : List ℕ) (end : ℕ) (spot : Spot) (fits : List LineFit) → AreLines widths.measure end spot.from fits
     → stood means tape 0 spot.from ++ framed (lines_shapes page means widths tape spot fits) ≡ stood means tape 0 (after spot fits).from
 lines_framed page means widths tape end spot [] are = append-nil (stood means tape 0 spot.from)
 lines_framed page means widths tape end spot (fit ∷ fits) are =
@@ -190,7 +190,7 @@ words_none : (top : ℕ) (fault : Option SetFault) → frame_drawn (rest_words t
 words_none top None = refl
 words_none top (Some fault) = refl
 
-rest_case : (page : Page) (means : Meanings) (tape : List ℕ) (spot : Spot) (fault : Option SetFault) (b : Bool) → ltb spot.from (length tape) ≡ b → spot.from ≤ length tape
+rest_case : (page : DrawingForm) (means : Meanings) (tape : List ℕ) (spot : Spot) (fault : Option SetFault) (b : Bool) → ltb spot.from (length tape) ≡ b → spot.from ≤ length tape
     → stood means tape 0 spot.from ++ framed (rest_shapes page means tape spot fault) ≡ stood means tape 0 (length tape)
 rest_case page means tape spot fault true is le =
     let n = length tape - spot.from in

@@ -15,7 +15,7 @@ use Rattle.line_fit.specs.declared.verdict.Verdict.TheVariants.{Nothing, Faulty,
 use Rattle.line_fit.specs.declared.verdict.LineFit.{LineFit}
 use Rattle.line_fit.specs.Fitting.{IsVerdict, AreFits}
 use Rattle.tape_drawing.specs.declared.layout.Spot.{Spot}
-use Rattle.tape_drawing.specs.declared.page.Page.{Page}
+use Rattle.tape_drawing.specs.declared.page.DrawingForm.{DrawingForm}
 use Rattle.tape_drawing.specs.Shapes.{Shape, text_of}
 use Rattle.tape_drawing.specs.Lines.{line_shapes, lines_shapes}
 use Rattle.tape_drawing.proofs.Sequences.{text_append}
@@ -123,7 +123,7 @@ after_append spot (x ∷ xs) ys = after_append (next spot x) xs ys
 pub after_more : (spot : Spot) (fits : List LineFit) (i : ℕ) (d fit : LineFit) → i < length fits → fit ≡ get_or fits i d → after spot (take (i + 1) fits) ≡ next (after spot (take i fits)) fit
 after_more spot fits i d fit lt is = rw (take_more fits i d lt, ← is) (after_append spot (take i fits) (fit ∷ []))
 
-lines_append : (page : Page) (means : Meanings) (widths : WidthFile) (tape : List ℕ) (spot : Spot) (xs ys : List LineFit)
+lines_append : (page : DrawingForm) (means : Meanings) (widths : WidthFile) (tape : List ℕ) (spot : Spot) (xs ys : List LineFit)
     → lines_shapes page means widths tape spot (xs ++ ys) ≡ lines_shapes page means widths tape spot xs ++ lines_shapes page means widths tape (after spot xs) ys
 lines_append page means widths tape spot [] ys = refl
 lines_append page means widths tape spot (x ∷ xs) ys =
@@ -131,7 +131,7 @@ lines_append page means widths tape spot (x ∷ xs) ys =
     ∙ sym (append_assoc (line_shapes page means widths tape spot x) (lines_shapes page means widths tape (next spot x) xs) (lines_shapes page means widths tape (after spot (x ∷ xs)) ys))
 
 -- what is drawn of one line more
-pub lines_more : (page : Page) (means : Meanings) (widths : WidthFile) (tape : List ℕ) (spot : Spot) (fits : List LineFit) (i : ℕ) (d fit : LineFit) → i < length fits → fit ≡ get_or fits i d
+pub lines_more : (page : DrawingForm) (means : Meanings) (widths : WidthFile) (tape : List ℕ) (spot : Spot) (fits : List LineFit) (i : ℕ) (d fit : LineFit) → i < length fits → fit ≡ get_or fits i d
     → text_of (lines_shapes page means widths tape spot (take (i + 1) fits))
     ≡ text_of (lines_shapes page means widths tape spot (take i fits)) ++ text_of (line_shapes page means widths tape (after spot (take i fits)) fit)
 lines_more page means widths tape spot fits i d fit lt is =

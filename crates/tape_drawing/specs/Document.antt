@@ -5,9 +5,9 @@ use Rattle.slug_reader.specs.Meanings.{Meanings}
 use Rattle.line_check.specs.declared.fault.SetFault.{SetFault}
 use Rattle.line_fit.specs.declared.fitting.Fitting.{Fitting}
 use Rattle.line_fit.specs.Fitting.{Fits, first_told}
-use Rattle.tape_drawing.specs.declared.document.Counts.{Counts}
-use Rattle.tape_drawing.specs.declared.page.Page.{Page}
-use Rattle.tape_drawing.specs.declared.page.Page.TheVariants as pages
+use Rattle.tape_drawing.specs.declared.document.HeadCounts.{HeadCounts}
+use Rattle.tape_drawing.specs.declared.page.DrawingForm.{DrawingForm}
+use Rattle.tape_drawing.specs.declared.page.DrawingForm.TheVariants as pages
 use Rattle.tape_drawing.specs.declared.elements.Style.TheVariants as styles
 use Rattle.tape_drawing.specs.declared.layout.Spot.{Spot}
 use Rattle.tape_drawing.specs.Shapes.{Shape, Words, pair_text, count_text, escaped, text_of}
@@ -39,7 +39,7 @@ rest_faults None = 0
 rest_faults (Some fault) = 1
 
 -- what is counted of a tape of so many frames whose lines end here
-abbrev pub counted : ℕ → ℕ → Spot → Option SetFault → Counts
+abbrev pub counted : ℕ → ℕ → Spot → Option SetFault → HeadCounts
 counted measure frames end rest = record {
   measure = measure;
   frames = frames;
@@ -49,14 +49,14 @@ counted measure frames end rest = record {
 }
 
 -- how it is told: of the tape, of its lines, and both
-unfoldable pub tape_counts : Counts → List ℕ
+unfoldable pub tape_counts : HeadCounts → List ℕ
 tape_counts c = count_text (codes "measure ") c.measure ++ count_text (codes " | frames ") c.frames
 
-unfoldable pub line_counts : Counts → List ℕ
+unfoldable pub line_counts : HeadCounts → List ℕ
 line_counts c =
     (count_text (codes " | lines ") c.lines ++ count_text (codes " | slugs ") c.slugs) ++ count_text (codes " | lines that do not set ") c.faults
 
-abbrev pub counted_words : Counts → List ℕ
+abbrev pub counted_words : HeadCounts → List ℕ
 counted_words c = tape_counts c ++ line_counts c
 
 -- how far the drawing reaches down: behind the lines, and behind the frames after the last cut
@@ -119,24 +119,24 @@ unfoldable pub page_head : List ℕ → List ℕ → ℕ → ℕ → List ℕ
 page_head title counts size faults = page_open title size ++ page_told title counts faults
 
 -- a document of this height: what is told before its lines, and its lines, whose text is this
-abbrev pub page_text : Page → List ℕ → ℕ → List ℕ → List ℕ → ℕ → ℕ → List ℕ
+abbrev pub page_text : DrawingForm → List ℕ → ℕ → List ℕ → List ℕ → ℕ → ℕ → List ℕ
 page_text pages.Svg lines height title counts size faults = svg_head height title counts size ++ (lines ++ codes "</svg>\n")
 page_text pages.Html lines height title counts size faults =
     page_head title counts size faults ++ (lines ++ codes "</main>\n</body>\n</html>\n")
 
 -- the document of a tape whose lines end here, with what is counted
-abbrev pub text_with : Page → Meanings → WidthFile → List ℕ → Called → Fitting → Spot → Counts → List ℕ
+abbrev pub text_with : DrawingForm → Meanings → WidthFile → List ℕ → Called → Fitting → Spot → HeadCounts → List ℕ
 text_with page means widths tape called fitting end c =
     page_text page (text_of (tape_shapes page means widths tape fitting)) (height_of (length tape) end) (title_words called) (counted_words c) (type_size widths) c.faults
 
 -- what is written of a tape whose lines fit so
-abbrev pub document_text : Page → Meanings → WidthFile → List ℕ → Called → Fitting → List ℕ
+abbrev pub document_text : DrawingForm → Meanings → WidthFile → List ℕ → Called → Fitting → List ℕ
 document_text page means widths tape called fitting =
     text_with page means widths tape called fitting (after first_spot fitting.lines.items)
     (counted widths.measure (length tape) (after first_spot fitting.lines.items) fitting.rest)
 
 -- a text is the drawing of a tape, and this is the first fault for which it does not set
-pub record IsDrawing (page : Page) (means : Meanings) (widths : WidthFile) (tape : List ℕ) (called : Called) (text : List ℕ) (fault : Option SetFault) : Type 0 where
+pub record IsDrawing (page : DrawingForm) (means : Meanings) (widths : WidthFile) (tape : List ℕ) (called : Called) (text : List ℕ) (fault : Option SetFault) : Type 0 where
   pub fitting : Fitting
   pub fits : Fits means widths tape fitting
   pub is_fault : fault ≡ first_told fitting

@@ -2,17 +2,17 @@
 use Rattle.std.specs.Prelude.{ℕ, ◌+◌, ◌-◌, ◌%◌, min, List, [], ◌∷◌, ◌++◌, decimal, flat_map, ◌==◌, if◌then◌else◌}
 use Rattle.slug_reader.specs.Positions.{before}
 use Rattle.slug_reader.specs.Meanings.{Meanings, frame_at, meaning_at}
-use Rattle.tape_drawing.specs.declared.elements.Place.{Place}
+use Rattle.tape_drawing.specs.declared.elements.Point.{Point}
 use Rattle.tape_drawing.specs.declared.elements.Style.TheVariants as styles
 use Rattle.tape_drawing.specs.Shapes.{Shape, Paper, Frame, Words}
 use Rattle.tape_drawing.specs.Layout.{corner}
 
 -- the paper of a row, at its first frame, as wide as the frames of the row: the k-th of a line of so many
-abbrev pub paper_shapes : ℕ → ℕ → Place → List Shape
+abbrev pub paper_shapes : ℕ → ℕ → Point → List Shape
 paper_shapes k frames at = if k % 40 == 0 then Paper at.x at.y (min (frames - k) 40) ∷ [] else []
 
 -- the position of every tenth frame of the tape, from 0, above it
-abbrev pub position_shapes : ℕ → Place → List Shape
+abbrev pub position_shapes : ℕ → Point → List Shape
 position_shapes i at = if i % 10 == 0 then Words styles.Position (at.x + 9) (at.y - 2) (decimal i) ∷ [] else []
 
 -- what stands above the k-th frame of a line: the paper of its row, and its position

@@ -12,7 +12,7 @@ use Rattle.line_check.specs.declared.slug.Slug.{Slug}
 use Rattle.line_check.specs.Slugs.{least_width, greatest_width}
 use Rattle.line_fit.specs.declared.fitting.Fitting.{Fitting}
 use Rattle.line_fit.specs.Fitting.{Fits}
-use Rattle.tape_drawing.specs.declared.page.Page.{Page}
+use Rattle.tape_drawing.specs.declared.page.DrawingForm.{DrawingForm}
 use Rattle.tape_drawing.specs.Shapes.{Shape, Paper, Frame, Box, Bar, Gap, Mark, Words, Fitted, Open, Close}
 use Rattle.tape_drawing.specs.Layout.{edge, IsFull}
 use Rattle.tape_drawing.specs.Slugs.{pieces_shapes}
@@ -44,7 +44,7 @@ drawn_at means tape i = record { at = i; frame = frame_at tape i; meaning = mean
 -- each frame of a tape is drawn once, in its order
 abbrev pub FramesInOrder : Type 0
 FramesInOrder =
-    (page : Page) (means : Meanings) (widths : WidthFile) (tape : List ℕ) (fitting : Fitting) → Fits means widths tape fitting
+    (page : DrawingForm) (means : Meanings) (widths : WidthFile) (tape : List ℕ) (fitting : Fitting) → Fits means widths tape fitting
     → filter_map frame_drawn (tape_shapes page means widths tape fitting) ≡ map (drawn_at means tape) (before (length tape))
 
 -- the left edge and the width of a box; the other elements are none

@@ -7,12 +7,12 @@ use Rattle.line_check.specs.Slugs.{sort_width}
 use Rattle.line_fit.specs.declared.verdict.Verdict.{Verdict}
 use Rattle.line_fit.specs.declared.verdict.Verdict.TheVariants.{Nothing, Faulty, Sets}
 use Rattle.line_fit.specs.declared.verdict.LineFit.{LineFit}
-use Rattle.tape_drawing.specs.declared.elements.Place.{Place}
+use Rattle.tape_drawing.specs.declared.elements.Point.{Point}
 use Rattle.tape_drawing.specs.declared.layout.Spot.{Spot}
 use Rattle.tape_drawing.specs.declared.layout.Stretch.{Stretch}
 
 -- the upper left corner of the paper of the k-th frame of a line, whose upper edge is at `top`: a row is 87 units high
-abbrev pub corner : ℕ → ℕ → Place
+abbrev pub corner : ℕ → ℕ → Point
 corner top k = record { x = 60 + 18 * (k % 40); y = top + 87 * (k / 40) + 12 }
 
 -- how high the rows of so many frames are

@@ -16,7 +16,7 @@ use Rattle.line_fit.specs.declared.fitting.Fitting.{Fitting}
 use Rattle.line_fit.specs.Fitting.{fault_in}
 use Rattle.tape_drawing.specs.declared.elements.Style.{Style}
 use Rattle.tape_drawing.specs.declared.elements.Style.TheVariants as styles
-use Rattle.tape_drawing.specs.declared.page.Page.{Page}
+use Rattle.tape_drawing.specs.declared.page.DrawingForm.{DrawingForm}
 use Rattle.tape_drawing.specs.declared.layout.Spot.{Spot}
 use Rattle.tape_drawing.specs.Shapes.{Shape, Bar, Mark, Words, Open, Close}
 use Rattle.tape_drawing.specs.Layout.{corner, rows_height, frames_in, line_height, next, after, first_spot}
@@ -84,14 +84,14 @@ taped_shapes means tape spot frames fault =
     ∷ (strip_shapes means tape spot.from frames spot.top ++ mark_shapes spot.from spot.top fault)
 
 -- a line: its number, its frames, the mark of its fault, and what stands below them
-abbrev pub line_shapes : Page → Meanings → WidthFile → List ℕ → Spot → LineFit → List Shape
+abbrev pub line_shapes : DrawingForm → Meanings → WidthFile → List ℕ → Spot → LineFit → List Shape
 line_shapes page means widths tape spot fit =
     Open page spot.number spot.top (line_height spot.from fit)
     ∷ (taped_shapes means tape spot (frames_in spot.from fit) (fault_in fit.verdict)
     ++ (foot_shapes widths spot.slug (spot.top + rows_height (frames_in spot.from fit)) fit.verdict fit.line ++ Close page ∷ []))
 
 -- lines, each below the one before it
-abbrev pub lines_shapes : Page → Meanings → WidthFile → List ℕ → Spot → List LineFit → List Shape
+abbrev pub lines_shapes : DrawingForm → Meanings → WidthFile → List ℕ → Spot → List LineFit → List Shape
 lines_shapes page means widths tape spot [] = []
 lines_shapes page means widths tape spot (fit ∷ fits) =
     line_shapes page means widths tape spot fit ++ lines_shapes page means widths tape (next spot fit) fits
@@ -106,7 +106,7 @@ rest_words top None = Words styles.Note 60 (top + 11) (codes "nothing to cast")
 rest_words top (Some fault) = Words styles.Fault 60 (top + 11) (fault_words fault)
 
 -- the frames behind the last cut, where there are any
-abbrev pub rest_shapes : Page → Meanings → List ℕ → Spot → Option SetFault → List Shape
+abbrev pub rest_shapes : DrawingForm → Meanings → List ℕ → Spot → Option SetFault → List Shape
 rest_shapes page means tape spot fault =
     if nat_lt spot.from (length tape)
     then Open page spot.number spot.top (rest_height (length tape - spot.from))
@@ -115,6 +115,6 @@ rest_shapes page means tape spot fault =
     else []
 
 -- all that is drawn of a tape: its lines, and what stands behind the last
-abbrev pub tape_shapes : Page → Meanings → WidthFile → List ℕ → Fitting → List Shape
+abbrev pub tape_shapes : DrawingForm → Meanings → WidthFile → List ℕ → Fitting → List Shape
 tape_shapes page means widths tape fitting =
     lines_shapes page means widths tape first_spot fitting.lines.items ++ rest_shapes page means tape (after first_spot fitting.lines.items) fitting.rest

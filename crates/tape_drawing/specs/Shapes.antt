@@ -5,8 +5,8 @@ use Rattle.code_table.specs.declared.meaning.Meaning.{Meaning}
 use Rattle.tape_drawing.specs.declared.elements.Look.{Look}
 use Rattle.tape_drawing.specs.declared.elements.Look.TheVariants as looks
 use Rattle.tape_drawing.specs.declared.elements.Style.{Style}
-use Rattle.tape_drawing.specs.declared.page.Page.{Page}
-use Rattle.tape_drawing.specs.declared.page.Page.TheVariants as pages
+use Rattle.tape_drawing.specs.declared.page.DrawingForm.{DrawingForm}
+use Rattle.tape_drawing.specs.declared.page.DrawingForm.TheVariants as pages
 use Rattle.tape_drawing.specs.Meanings.{meaning_word, mark_style, mark_word}
 use Rattle.tape_drawing.specs.Styles.{style_lead}
 
@@ -24,8 +24,8 @@ pub data Shape : Type 0 where
   Mark : (x : ℕ) → (y : ℕ) → Shape
   Words : (style : Style) → (x : ℕ) → (y : ℕ) → (words : List ℕ) → Shape
   Fitted : (style : Style) → (x : ℕ) → (y : ℕ) → (length : ℕ) → (words : List ℕ) → Shape
-  Open : (page : Page) → (number : ℕ) → (y : ℕ) → (height : ℕ) → Shape
-  Close : (page : Page) → Shape
+  Open : (page : DrawingForm) → (number : ℕ) → (y : ℕ) → (height : ℕ) → Shape
+  Close : (page : DrawingForm) → Shape
 
 -- a byte of words, or the reference for one that would read as markup; a byte that no document may hold is a question mark
 abbrev pub escape : ℕ → List ℕ
@@ -112,12 +112,12 @@ view_text number y height =
     count_text (codes "<svg id='line") number ++ (pair_text (codes "' viewBox='0 ") y (codes " 840 ") height ++ codes "'>\n")
 
 -- the elements of a line are one group of a document, and one drawing of a page
-abbrev pub open_text : Page → ℕ → ℕ → ℕ → List ℕ
+abbrev pub open_text : DrawingForm → ℕ → ℕ → ℕ → List ℕ
 open_text pages.Svg number y height = group_text number
 open_text pages.Html number y height = view_text number y height
 
 -- the end of a line
-abbrev pub close_text : Page → List ℕ
+abbrev pub close_text : DrawingForm → List ℕ
 close_text pages.Svg = codes "</g>\n"
 close_text pages.Html = codes "</svg>\n"
 

@@ -11,11 +11,11 @@ ghost use Rattle.tape_drawing.specs.Layout.{after, first_spot, IsWithin, AreLine
 ghost use Rattle.tape_drawing.specs.Lines.{tape_shapes};
 ghost use Rattle.tape_drawing.specs.Document.{Called, called, title_words, rest_lines, rest_faults, counted, tape_counts, line_counts, counted_words, height_of, style_text, svg_open, svg_styled, svg_style, svg_head, head_shapes, fault_link, page_styled, page_look, page_titled, page_open, page_told, page_head, page_text, document_text, IsDrawing};
 
-use crate::elements::{Place, Style, add_count, add_number, add_pair, add_words};
+use crate::elements::{Point, Style, add_count, add_number, add_pair, add_words};
 use crate::escaping::add_escaped;
 use crate::layout::{Spot, after, type_size};
-use crate::lines::{Plan, add_tape, fault_in, rest_height};
-use crate::page::Page;
+use crate::lines::{DrawingPlan, add_tape, fault_in, rest_height};
+use crate::page::DrawingForm;
 use crate::texts::{
     first_legend, page_lead, page_legend, page_main, page_style_end, second_legend, style_head,
     style_tail, svg_lead, svg_style_end,
@@ -38,12 +38,12 @@ pub struct Names<'a> {
 
 /// What is to be drawn: a tape by a table and widths, with their names, and as what it is written.
 #[derive(Clone, Copy)]
-pub struct Order<'a> {
+pub struct DrawingOrder<'a> {
     pub table: &'a CodeTable,
     pub widths: &'a Widths,
     pub tape: &'a Tape,
     pub names: Names<'a>,
-    pub page: Page,
+    pub page: DrawingForm,
 }
 
 /// The drawing of a tape.
@@ -57,7 +57,7 @@ pub struct Drawing {
 
 /// What the head counts.
 #[derive(Clone, Copy)]
-struct Counts {
+struct HeadCounts {
     measure: u64,
     frames: u64,
     lines: u64,
@@ -109,11 +109,11 @@ fn rest_faults(fault: Option<SetFault>) -> u64
 }
 
 /// What is counted of a tape of so many frames whose lines end here.
-fn counted(measure: u16, frames: u64, end: Spot, rest: Option<SetFault>) -> Counts
+fn counted(measure: u16, frames: u64, end: Spot, rest: Option<SetFault>) -> HeadCounts
     requires { (1 ≤ end.number) × (end.number ≤ 2 ^ 40) × (1 ≤ end.slug) × (end.faults ≤ 2 ^ 40) }
     ensures { result ≡ counted measure frames end rest }
 {
-    Counts {
+    HeadCounts {
         measure: u64::from(measure),
         frames,
         lines: end.number - 1 + rest_lines(end.from, frames),
@@ -124,7 +124,7 @@ fn counted(measure: u16, frames: u64, end: Spot, rest: Option<SetFault>) -> Coun
 
 /// Adds what is counted of the tape.
 #[tactic(auto, unfolding(crate::specs::Document::tape_counts))]
-fn add_tape_counts(words: &mut Vec<u8>, counts: Counts) -> Result<(), AllocError>
+fn add_tape_counts(words: &mut Vec<u8>, counts: HeadCounts) -> Result<(), AllocError>
     ensures { OnOk result (words.new.items ≡ words.old.items ++ tape_counts counts) }
 {
     add_count(words, "measure ", counts.measure)?;
@@ -133,7 +133,7 @@ fn add_tape_counts(words: &mut Vec<u8>, counts: Counts) -> Result<(), AllocError
 
 /// Adds what is counted of its lines.
 #[tactic(auto, unfolding(crate::specs::Document::line_counts))]
-fn add_line_counts(words: &mut Vec<u8>, counts: Counts) -> Result<(), AllocError>
+fn add_line_counts(words: &mut Vec<u8>, counts: HeadCounts) -> Result<(), AllocError>
     ensures { OnOk result (words.new.items ≡ words.old.items ++ line_counts counts) }
 {
     add_count(words, " | lines ", counts.lines)?;
@@ -142,7 +142,7 @@ fn add_line_counts(words: &mut Vec<u8>, counts: Counts) -> Result<(), AllocError
 }
 
 /// How it is told.
-fn counted_words(alloc: Global, counts: Counts) -> Result<Vec<u8>, AllocError>
+fn counted_words(alloc: Global, counts: HeadCounts) -> Result<Vec<u8>, AllocError>
     ensures { IfOk result (λ words. words.items ≡ counted_words counts) }
 {
     let mut words = Vec::new(alloc);
@@ -208,10 +208,10 @@ fn add_head(text: &mut Vec<u8>, title: &[u8], counts: &[u8]) -> Result<(), Alloc
 {
     let legend = first_legend().as_bytes();
     let others = second_legend().as_bytes();
-    add_words(text, Style::Heading, Place { x: 20, y: 30 }, title)?;
-    add_words(text, Style::Head, Place { x: 20, y: 50 }, counts)?;
-    add_words(text, Style::Head, Place { x: 20, y: 70 }, legend)?;
-    add_words(text, Style::Head, Place { x: 20, y: 86 }, others)
+    add_words(text, Style::Heading, Point { x: 20, y: 30 }, title)?;
+    add_words(text, Style::Head, Point { x: 20, y: 50 }, counts)?;
+    add_words(text, Style::Head, Point { x: 20, y: 70 }, legend)?;
+    add_words(text, Style::Head, Point { x: 20, y: 86 }, others)
 }
 
 /// Adds a document in SVG as far as its lines.
@@ -306,7 +306,7 @@ fn add_page_head(text: &mut Vec<u8>, heading: &Heading<'_>) -> Result<(), AllocE
 /// Adds the document of a tape whose lines fit so.
 fn add_document(
     text: &mut Vec<u8>,
-    plan: &Plan<'_>,
+    plan: &DrawingPlan<'_>,
     fitting: &Fitting,
     heading: &Heading<'_>,
 ) -> Result<(), AllocError>
@@ -317,12 +317,12 @@ fn add_document(
         heading.now.height heading.now.title.now heading.now.counts.now heading.now.size heading.now.faults) }
 {
     match plan.page {
-        Page::Svg => {
+        DrawingForm::Svg => {
             add_svg_head(text, heading)?;
             add_tape(text, plan, fitting)?;
             text.extend_from_slice(b"</svg>\n")
         }
-        Page::Html => {
+        DrawingForm::Html => {
             add_page_head(text, heading)?;
             add_tape(text, plan, fitting)?;
             text.extend_from_slice(b"</main>\n</body>\n</html>\n")
@@ -362,7 +362,11 @@ fn first_told(fitting: &Fitting) -> Option<SetFault>
 }
 
 /// The document of a tape whose lines fit so.
-fn document_of(plan: &Plan<'_>, names: &Names<'_>, fitting: &Fitting) -> Result<Vec<u8>, AllocError>
+fn document_of(
+    plan: &DrawingPlan<'_>,
+    names: &Names<'_>,
+    fitting: &Fitting,
+) -> Result<Vec<u8>, AllocError>
     requires tape { IsTape plan.now.tape.now }
     requires lines { AreLines plan.now.widths.now.measure (length plan.now.tape.now) 0 fitting.now.lines.items }
     ensures { IfOk result (λ text. text.items ≡ document_text plan.now.page (mean plan.now.table.now) plan.now.widths.now plan.now.tape.now
@@ -389,13 +393,13 @@ fn document_of(plan: &Plan<'_>, names: &Names<'_>, fitting: &Fitting) -> Result<
 /// Draws a tape, whatever is wrong with it, and answers its document with the first fault for which it does not set.
 ///
 /// Each line is drawn, one that does not set as it would be cast.
-pub fn draw_tape(alloc: Global, order: &Order<'_>) -> Result<Drawing, AllocError>
+pub fn draw_tape(alloc: Global, order: &DrawingOrder<'_>) -> Result<Drawing, AllocError>
     ensures { IfOk result (λ d. IsDrawing order.now.page (mean order.now.table.now) order.now.widths.now order.now.tape.now
         (called order.now.names.tape.now order.now.names.table.now order.now.names.widths.now) d.text.items d.fault) }
 {
     adds_up();
     let fitting = fit(alloc, order.table, order.widths, order.tape)?;
-    let plan = Plan {
+    let plan = DrawingPlan {
         alloc,
         page: order.page,
         table: order.table,

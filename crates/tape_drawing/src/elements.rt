@@ -5,7 +5,7 @@ ghost use Rattle.tape_drawing.specs.Styles.{style_lead};
 ghost use Rattle.tape_drawing.specs.Shapes.{pair_text, count_text, words_end, sheet_text, feed_text, box_lead, group_text, view_text, shape_text, Paper, Box, Bar, Gap, Mark, Words, Fitted, Open, Close};
 
 use crate::escaping::add_escaped;
-use crate::page::Page;
+use crate::page::DrawingForm;
 use itoa::Buffer;
 use std::alloc::AllocError;
 
@@ -67,7 +67,7 @@ pub enum Style {
 
 /// Where an element stands: whole user units to the right and down.
 #[derive(Clone, Copy)]
-pub struct Place {
+pub struct Point {
     pub x: u64,
     pub y: u64,
 }
@@ -75,7 +75,7 @@ pub struct Place {
 /// Where words stand that are fitted to a length.
 #[derive(Clone, Copy)]
 pub struct Room {
-    pub at: Place,
+    pub at: Point,
     pub length: u64,
 }
 
@@ -122,7 +122,7 @@ pub fn add_pair(
 
 /// Adds the paper of so many frames.
 #[tactic(auto, unfolding(crate::specs::Shapes::sheet_text))]
-fn add_sheet(text: &mut Vec<u8>, at: Place, frames: u64) -> Result<(), AllocError>
+fn add_sheet(text: &mut Vec<u8>, at: Point, frames: u64) -> Result<(), AllocError>
     requires { frames ≤ 40 }
     ensures { OnOk result (text.new.items ≡ text.old.items ++ sheet_text at.x at.y frames) }
 {
@@ -133,7 +133,7 @@ fn add_sheet(text: &mut Vec<u8>, at: Place, frames: u64) -> Result<(), AllocErro
 
 /// Adds their feed holes.
 #[tactic(auto, unfolding(crate::specs::Shapes::feed_text))]
-fn add_feed(text: &mut Vec<u8>, at: Place, frames: u64) -> Result<(), AllocError>
+fn add_feed(text: &mut Vec<u8>, at: Point, frames: u64) -> Result<(), AllocError>
     requires { (1 ≤ frames) × (frames ≤ 40) × (at.x ≤ 2 ^ 40) × (at.y ≤ 2 ^ 41) }
     ensures { OnOk result (text.new.items ≡ text.old.items ++ feed_text at.x at.y frames) }
 {
@@ -144,7 +144,7 @@ fn add_feed(text: &mut Vec<u8>, at: Place, frames: u64) -> Result<(), AllocError
 
 /// Adds the paper of a row of so many frames, and its feed holes.
 #[tactic(auto, unfolding(crate::specs::Shapes::shape_text))]
-pub fn add_paper(text: &mut Vec<u8>, at: Place, frames: u64) -> Result<(), AllocError>
+pub fn add_paper(text: &mut Vec<u8>, at: Point, frames: u64) -> Result<(), AllocError>
     requires { (1 ≤ frames) × (frames ≤ 40) × (at.x ≤ 2 ^ 40) × (at.y ≤ 2 ^ 41) }
     ensures { OnOk result (text.new.items ≡ text.old.items ++ shape_text (Paper at.x at.y frames)) }
 {
@@ -154,7 +154,7 @@ pub fn add_paper(text: &mut Vec<u8>, at: Place, frames: u64) -> Result<(), Alloc
 
 /// Adds the outline of a faulty frame.
 #[tactic(auto, unfolding(crate::specs::Shapes::shape_text))]
-pub fn add_mark(text: &mut Vec<u8>, at: Place) -> Result<(), AllocError>
+pub fn add_mark(text: &mut Vec<u8>, at: Point) -> Result<(), AllocError>
     ensures { OnOk result (text.new.items ≡ text.old.items ++ shape_text (Mark at.x at.y)) }
 {
     add_pair(text, "<rect class='f' x='", at.x, "' y='", at.y)?;
@@ -176,7 +176,7 @@ fn box_lead(look: Look) -> &'static str
 
 /// Adds the box of a piece of a line.
 #[tactic(auto, unfolding(crate::specs::Shapes::shape_text))]
-pub fn add_box(text: &mut Vec<u8>, look: Look, at: Place, width: u64) -> Result<(), AllocError>
+pub fn add_box(text: &mut Vec<u8>, look: Look, at: Point, width: u64) -> Result<(), AllocError>
     ensures { OnOk result (text.new.items ≡ text.old.items ++ shape_text (Box look at.x at.y width)) }
 {
     add_pair(text, box_lead(look), at.x, "' y='", at.y)?;
@@ -186,7 +186,7 @@ pub fn add_box(text: &mut Vec<u8>, look: Look, at: Place, width: u64) -> Result<
 
 /// Adds the bar of a slug, as wide as the measure.
 #[tactic(auto, unfolding(crate::specs::Shapes::shape_text))]
-pub fn add_bar(text: &mut Vec<u8>, at: Place) -> Result<(), AllocError>
+pub fn add_bar(text: &mut Vec<u8>, at: Point) -> Result<(), AllocError>
     ensures { OnOk result (text.new.items ≡ text.old.items ++ shape_text (Bar at.x at.y)) }
 {
     add_pair(text, "<rect class='k' x='", at.x, "' y='", at.y)?;
@@ -195,7 +195,7 @@ pub fn add_bar(text: &mut Vec<u8>, at: Place) -> Result<(), AllocError>
 
 /// Adds the gap of a loose line.
 #[tactic(auto, unfolding(crate::specs::Shapes::shape_text))]
-pub fn add_gap(text: &mut Vec<u8>, at: Place, width: u64) -> Result<(), AllocError>
+pub fn add_gap(text: &mut Vec<u8>, at: Point, width: u64) -> Result<(), AllocError>
     ensures { OnOk result (text.new.items ≡ text.old.items ++ shape_text (Gap at.x at.y width)) }
 {
     add_pair(text, "<rect class='a' x='", at.x, "' y='", at.y)?;
@@ -242,7 +242,7 @@ fn add_words_end(text: &mut Vec<u8>, words: &[u8]) -> Result<(), AllocError>
 pub fn add_words(
     text: &mut Vec<u8>,
     style: Style,
-    at: Place,
+    at: Point,
     words: &[u8],
 ) -> Result<(), AllocError>
     ensures { OnOk result (text.new.items ≡ text.old.items ++ shape_text (Words style at.x at.y words.now)) }
@@ -292,25 +292,25 @@ fn add_view(text: &mut Vec<u8>, number: u64, extent: Extent) -> Result<(), Alloc
 #[tactic(auto, unfolding(crate::specs::Shapes::shape_text))]
 pub fn add_open(
     text: &mut Vec<u8>,
-    page: Page,
+    page: DrawingForm,
     number: u64,
     extent: Extent,
 ) -> Result<(), AllocError>
     ensures { OnOk result (text.new.items ≡ text.old.items ++ shape_text (Open page number extent.top extent.height)) }
 {
     match page {
-        Page::Svg => add_group(text, number),
-        Page::Html => add_view(text, number, extent),
+        DrawingForm::Svg => add_group(text, number),
+        DrawingForm::Html => add_view(text, number, extent),
     }
 }
 
 /// Adds what ends them.
 #[tactic(auto, unfolding(crate::specs::Shapes::shape_text))]
-pub fn add_close(text: &mut Vec<u8>, page: Page) -> Result<(), AllocError>
+pub fn add_close(text: &mut Vec<u8>, page: DrawingForm) -> Result<(), AllocError>
     ensures { OnOk result (text.new.items ≡ text.old.items ++ shape_text (Close page)) }
 {
     match page {
-        Page::Svg => text.extend_from_slice(b"</g>\n"),
-        Page::Html => text.extend_from_slice(b"</svg>\n"),
+        DrawingForm::Svg => text.extend_from_slice(b"</g>\n"),
+        DrawingForm::Html => text.extend_from_slice(b"</svg>\n"),
     }
 }

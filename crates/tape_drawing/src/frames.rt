@@ -7,7 +7,7 @@ ghost use Rattle.slug_reader.specs.Meanings.{case_at};
 ghost use Rattle.tape_drawing.specs.Shapes.{text_of, shape_text, title_end, title_text, dot_text, dots_text, holes_text, mark_text, frame_text, Frame};
 ghost use Rattle.tape_drawing.specs.Frames.{paper_shapes, position_shapes, above_shapes, kth_frame, frame_shapes, strip_shapes};
 
-use crate::elements::{Place, Room, Style, add_count, add_fitted, add_pair, add_paper, add_words};
+use crate::elements::{Point, Room, Style, add_count, add_fitted, add_pair, add_paper, add_words};
 use crate::escaping::add_escaped;
 use crate::layout::corner;
 use crate::meanings::{mark_style, mark_word, meaning_word, next_case};
@@ -70,7 +70,7 @@ fn add_dot(text: &mut Vec<u8>, punched: u8, x: u64, y: u64) -> Result<(), AllocE
 }
 
 /// Adds the holes of three levels that lie one below the other.
-fn add_dots(text: &mut Vec<u8>, levels: (u8, u8, u8), at: Place) -> Result<(), AllocError>
+fn add_dots(text: &mut Vec<u8>, levels: (u8, u8, u8), at: Point) -> Result<(), AllocError>
     requires { at.y ≤ 2 ^ 60 }
     ensures { OnOk result (text.new.items ≡ text.old.items ++ dots_text levels.0 levels.1 levels.2 at.x at.y) }
 {
@@ -81,18 +81,18 @@ fn add_dots(text: &mut Vec<u8>, levels: (u8, u8, u8), at: Place) -> Result<(), A
 
 /// Adds the holes of a frame, level 0 on top.
 #[tactic(auto, unfolding(crate::specs::Shapes::holes_text))]
-pub fn add_holes(text: &mut Vec<u8>, frame: u8, at: Place) -> Result<(), AllocError>
+pub fn add_holes(text: &mut Vec<u8>, frame: u8, at: Point) -> Result<(), AllocError>
     requires { (frame < 64) × (at.y ≤ 2 ^ 59) }
     ensures { OnOk result (text.new.items ≡ text.old.items ++ holes_text frame at.x at.y) }
 {
     let Some(levels) = holes(frame) else {
         unreachable!()
     };
-    let upper = Place {
+    let upper = Point {
         x: at.x,
         y: at.y + 7,
     };
-    let lower = Place {
+    let lower = Point {
         x: at.x,
         y: at.y + 35,
     };
@@ -102,7 +102,7 @@ pub fn add_holes(text: &mut Vec<u8>, frame: u8, at: Place) -> Result<(), AllocEr
 
 /// Adds the mark below a frame, fitted to its column where it is long.
 #[tactic(auto, unfolding(crate::specs::Shapes::shape_text))]
-fn add_mark_word(text: &mut Vec<u8>, style: Style, at: Place, word: &[u8]) -> Result<(), AllocError>
+fn add_mark_word(text: &mut Vec<u8>, style: Style, at: Point, word: &[u8]) -> Result<(), AllocError>
     ensures { OnOk result (text.new.items ≡ text.old.items ++ mark_text style at.x at.y word.now) }
 {
     if word.len() >= 4 {
@@ -117,7 +117,7 @@ fn add_punched(
     text: &mut Vec<u8>,
     punched: Punched,
     word: &[u8],
-    at: Place,
+    at: Point,
 ) -> Result<(), AllocError>
     requires { (punched.frame < 64) × (at.y ≤ 2 ^ 58) }
     ensures { OnOk result (text.new.items ≡ text.old.items ++ (title_text punched.position word.now ++ (holes_text punched.frame at.x at.y ++ codes "'/>"))) }
@@ -133,13 +133,13 @@ fn add_frame(
     text: &mut Vec<u8>,
     punched: Punched,
     meaning: Option<&Meaning>,
-    at: Place,
+    at: Point,
 ) -> Result<(), AllocError>
     requires { (punched.frame < 64) × (at.y ≤ 2 ^ 58) }
     ensures { OnOk result (text.new.items ≡ text.old.items ++ shape_text (Frame at.x at.y punched.position punched.frame (option_copied meaning.entry))) }
 {
     add_punched(text, punched, meaning_word(meaning), at)?;
-    let below = Place {
+    let below = Point {
         x: at.x,
         y: at.y + 69,
     };
@@ -148,7 +148,7 @@ fn add_frame(
 }
 
 /// Adds the paper of a row at its first frame: the k-th of a line of so many.
-fn add_row(text: &mut Vec<u8>, k: usize, frames: usize, at: Place) -> Result<(), AllocError>
+fn add_row(text: &mut Vec<u8>, k: usize, frames: usize, at: Point) -> Result<(), AllocError>
     requires { (k < frames) × (at.x ≤ 2 ^ 40) × (at.y ≤ 2 ^ 41) }
     ensures { OnOk result (text.new.items ≡ text.old.items ++ text_of (paper_shapes k frames at)) }
 {
@@ -159,7 +159,7 @@ fn add_row(text: &mut Vec<u8>, k: usize, frames: usize, at: Place) -> Result<(),
 }
 
 /// Adds the position of every tenth frame.
-fn add_position(text: &mut Vec<u8>, position: usize, at: Place) -> Result<(), AllocError>
+fn add_position(text: &mut Vec<u8>, position: usize, at: Point) -> Result<(), AllocError>
     requires { (at.x ≤ 2 ^ 59) × (2 ≤ at.y) }
     ensures { OnOk result (text.new.items ≡ text.old.items ++ text_of (position_shapes position at)) }
 {
@@ -167,7 +167,7 @@ fn add_position(text: &mut Vec<u8>, position: usize, at: Place) -> Result<(), Al
         return Ok(());
     }
     let mut digits = Buffer::new();
-    let place = Place {
+    let place = Point {
         x: at.x + 9,
         y: at.y - 2,
     };
@@ -210,7 +210,7 @@ fn add_frame_alone(
         frame: strip.tape[position],
     };
     let at = corner(strip.top, k as u64);
-    let middle = Place {
+    let middle = Point {
         x: at.x + 9,
         y: at.y,
     };

@@ -4,7 +4,7 @@ ghost use Rattle.std.specs.Prelude.{◌≡◌, ◌≤◌, ◌<◌, ◌+◌, ◌*
 ghost use Rattle.tape_frames.specs.Frames.{most_frames};
 ghost use Rattle.tape_drawing.specs.Layout.{corner, rows_height, edge, across, type_size, height_below, slugs_in, faults_in, frames_in, line_height, next, after, first_spot, IsWithin, AreLines};
 
-use crate::elements::Place;
+use crate::elements::Point;
 use line_fit::{LineFit, Verdict};
 use slug_reader::Line;
 use widths::Widths;
@@ -34,12 +34,12 @@ pub struct Stretch {
 }
 
 /// The upper left corner of the paper of the k-th frame of a line whose upper edge is here.
-pub fn corner(top: u64, k: u64) -> Place
+pub fn corner(top: u64, k: u64) -> Point
     requires { (top ≤ 2 ^ 40) × (k ≤ 2 ^ 32) }
     ensures value { result ≡ corner top k }
     ensures small { (result.x ≤ 1000) × (12 ≤ result.y) × (result.y ≤ 2 ^ 41) }
 {
-    Place {
+    Point {
         x: 60 + 18 * (k % 40),
         y: top + 87 * (k / 40) + 12,
     }

@@ -13,12 +13,12 @@ mod page;
 mod slugs;
 mod texts;
 
-pub use document::{Drawing, Names, Order, draw_tape};
+pub use document::{Drawing, DrawingOrder, Names, draw_tape};
 pub use elements::{
-    Place, Room, Style, add_count, add_fitted, add_number, add_pair, add_paper, add_words,
+    Point, Room, Style, add_count, add_fitted, add_number, add_pair, add_paper, add_words,
 };
 pub use escaping::add_escaped;
 pub use frames::add_holes;
 pub use meanings::{mark_style, mark_word, meaning_word};
-pub use page::Page;
+pub use page::DrawingForm;
 pub use texts::{page_lead, svg_lead};

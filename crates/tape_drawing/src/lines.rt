@@ -11,11 +11,11 @@ ghost use Rattle.tape_drawing.specs.Layout.{IsFull, IsFilled, IsWithin, AreLines
 ghost use Rattle.tape_drawing.specs.Lines.{cause_words, fault_words, band_in, kind_words, slug_shapes, unset_pieces, unset_shapes, foot_shapes, mark_shapes, number_style, taped_shapes, line_shapes, lines_shapes, rest_height, rest_words, rest_shapes, tape_shapes};
 
 use crate::elements::{
-    Extent, Place, Style, add_bar, add_close, add_mark, add_number, add_open, add_words,
+    Extent, Point, Style, add_bar, add_close, add_mark, add_number, add_open, add_words,
 };
 use crate::frames::{Strip, add_strip};
 use crate::layout::{Spot, corner, first_spot, frames_in, line_height, next, rows_height};
-use crate::page::Page;
+use crate::page::DrawingForm;
 use crate::slugs::{Bed, add_filled, add_pieces};
 use code_table::{Case, CodeTable};
 use itoa::Buffer;
@@ -27,9 +27,9 @@ use widths::Widths;
 
 /// What is drawn, and what it is drawn by.
 #[derive(Clone, Copy)]
-pub struct Plan<'a> {
+pub struct DrawingPlan<'a> {
     pub alloc: Global,
-    pub page: Page,
+    pub page: DrawingForm,
     pub table: &'a CodeTable,
     pub widths: &'a Widths,
     /// The frames of the tape.
@@ -45,7 +45,7 @@ struct Below {
 
 /// A line that does not set, and why.
 #[derive(Clone, Copy)]
-struct Unset<'a> {
+struct UnsetLine<'a> {
     fault: SetFault,
     items: &'a [Item],
 }
@@ -67,7 +67,7 @@ struct Reached {
 }
 
 /// Where what is cast of a line is laid.
-fn bed_of(plan: &Plan<'_>, below: Below) -> Bed
+fn bed_of(plan: &DrawingPlan<'_>, below: Below) -> Bed
     ensures value { (result.measure ≡ plan.now.widths.now.measure) × (result.top ≡ below.top) }
     ensures some { 1 ≤ result.measure }
     ensures small { result.measure ≤ 65535 }
@@ -145,7 +145,7 @@ fn kind_words(alloc: Global, number: u64, slug: &Slug) -> Result<Vec<u8>, AllocE
 #[tactic(auto, using(crate::proofs::Sequences::text_append))]
 fn add_slug(
     text: &mut Vec<u8>,
-    plan: &Plan<'_>,
+    plan: &DrawingPlan<'_>,
     below: Below,
     slug: &Slug,
 ) -> Result<(), AllocError>
@@ -153,7 +153,7 @@ fn add_slug(
     ensures { OnOk result (text.new.items ≡ text.old.items ++ text_of (slug_shapes plan.now.widths.now.measure below.top below.number slug.now)) }
 {
     let words = kind_words(plan.alloc, below.number, slug)?;
-    let at = Place {
+    let at = Point {
         x: 48,
         y: below.top + 29,
     };
@@ -164,7 +164,7 @@ fn add_slug(
 /// Adds the words of a fault, at the right end of what is drawn of its line.
 fn add_fault_behind(
     text: &mut Vec<u8>,
-    plan: &Plan<'_>,
+    plan: &DrawingPlan<'_>,
     below: Below,
     fault: SetFault,
 ) -> Result<(), AllocError>
@@ -172,7 +172,7 @@ fn add_fault_behind(
     ensures { OnOk result (text.new.items ≡ text.old.items ++ shape_text (Words Style.Behind 836 (below.top + 58) (fault_words fault))) }
 {
     let words = fault_words(plan.alloc, fault)?;
-    let at = Place {
+    let at = Point {
         x: 836,
         y: below.top + 58,
     };
@@ -182,7 +182,7 @@ fn add_fault_behind(
 /// Adds the words of a fault of a line of which nothing is drawn.
 fn add_fault(
     text: &mut Vec<u8>,
-    plan: &Plan<'_>,
+    plan: &DrawingPlan<'_>,
     below: Below,
     fault: SetFault,
 ) -> Result<(), AllocError>
@@ -190,7 +190,7 @@ fn add_fault(
     ensures { OnOk result (text.new.items ≡ text.old.items ++ shape_text (Words Style.Fault 60 (below.top + 11) (fault_words fault))) }
 {
     let words = fault_words(plan.alloc, fault)?;
-    let at = Place {
+    let at = Point {
         x: 60,
         y: below.top + 11,
     };
@@ -202,7 +202,7 @@ fn add_nothing(text: &mut Vec<u8>, below: Below) -> Result<(), AllocError>
     requires { below.top ≤ 2 ^ 50 }
     ensures { OnOk result (text.new.items ≡ text.old.items ++ shape_text (Words Style.Note 60 (below.top + 11) (codes "nothing to cast"))) }
 {
-    let at = Place {
+    let at = Point {
         x: 60,
         y: below.top + 11,
     };
@@ -213,9 +213,9 @@ fn add_nothing(text: &mut Vec<u8>, below: Below) -> Result<(), AllocError>
 #[tactic(auto, using(crate::proofs::Sequences::text_append))]
 fn add_unset_pieces(
     text: &mut Vec<u8>,
-    plan: &Plan<'_>,
+    plan: &DrawingPlan<'_>,
     below: Below,
-    unset: &Unset<'_>,
+    unset: &UnsetLine<'_>,
 ) -> Result<(), AllocError>
     requires { (length unset.now.items.now ≤ most_frames) × (below.top ≤ 2 ^ 50) }
     ensures { OnOk result (text.new.items ≡ text.old.items ++ text_of (unset_pieces plan.now.widths.now below.top unset.now.fault unset.now.items.now)) }
@@ -228,14 +228,14 @@ fn add_unset_pieces(
 /// Adds what is drawn of a line with these items that has this fault.
 fn add_unset(
     text: &mut Vec<u8>,
-    plan: &Plan<'_>,
+    plan: &DrawingPlan<'_>,
     below: Below,
-    unset: &Unset<'_>,
+    unset: &UnsetLine<'_>,
 ) -> Result<(), AllocError>
     requires { (length unset.now.items.now ≤ most_frames) × (below.top ≤ 2 ^ 50) }
     ensures { OnOk result (text.new.items ≡ text.old.items ++ text_of (unset_shapes plan.now.widths.now below.top unset.now.fault unset.now.items.now)) }
 {
-    let at = Place {
+    let at = Point {
         x: 60,
         y: below.top,
     };
@@ -247,7 +247,7 @@ fn add_unset(
 #[tactic(auto, using(crate::proofs::Sequences::text_one))]
 fn add_foot(
     text: &mut Vec<u8>,
-    plan: &Plan<'_>,
+    plan: &DrawingPlan<'_>,
     below: Below,
     fit: &LineFit,
 ) -> Result<(), AllocError>
@@ -259,7 +259,7 @@ fn add_foot(
         Verdict::Nothing => add_nothing(text, below),
         Verdict::Faulty(fault) => match &fit.line {
             Some(line) => {
-                let unset = Unset {
+                let unset = UnsetLine {
                     fault: *fault,
                     items: line.items.as_slice(),
                 };
@@ -307,7 +307,7 @@ fn add_mark_of(text: &mut Vec<u8>, spot: Spot, fault: Option<SetFault>) -> Resul
     let at = corner(spot.top, u64::from(fault.at).saturating_sub(spot.from));
     add_mark(
         text,
-        Place {
+        Point {
             x: at.x,
             y: at.y - 1,
         },
@@ -324,7 +324,7 @@ fn add_line_number(
     ensures { OnOk result (text.new.items ≡ text.old.items ++ shape_text (Words (number_style fault spot.faults) 48 (spot.top + 45) (decimal spot.number))) }
 {
     let mut digits = Buffer::new();
-    let at = Place {
+    let at = Point {
         x: 48,
         y: spot.top + 45,
     };
@@ -338,7 +338,7 @@ fn add_line_number(
 
 /// Adds the number of a line, its frames and the mark of its fault, and answers the case that holds behind it.
 #[tactic(auto, using(crate::proofs::Sequences::text_append))]
-fn add_taped(text: &mut Vec<u8>, plan: &Plan<'_>, taped: Taped) -> Result<Case, AllocError>
+fn add_taped(text: &mut Vec<u8>, plan: &DrawingPlan<'_>, taped: Taped) -> Result<Case, AllocError>
     requires tape { IsTape plan.now.tape.now }
     requires within { taped.spot.from + taped.frames ≤ length plan.now.tape.now }
     requires top { taped.spot.top ≤ 2 ^ 40 }
@@ -364,7 +364,7 @@ fn add_taped(text: &mut Vec<u8>, plan: &Plan<'_>, taped: Taped) -> Result<Case, 
 #[tactic(auto, using(crate::proofs::Sequences::text_append))]
 fn add_line(
     text: &mut Vec<u8>,
-    plan: &Plan<'_>,
+    plan: &DrawingPlan<'_>,
     reached: Reached,
     fit: &LineFit,
 ) -> Result<Case, AllocError>
@@ -401,7 +401,11 @@ fn add_line(
 }
 
 /// Adds the lines of a tape, each below the one before it, and answers what is reached behind them.
-fn add_lines(text: &mut Vec<u8>, plan: &Plan<'_>, lines: &[LineFit]) -> Result<Reached, AllocError>
+fn add_lines(
+    text: &mut Vec<u8>,
+    plan: &DrawingPlan<'_>,
+    lines: &[LineFit],
+) -> Result<Reached, AllocError>
     requires tape { IsTape plan.now.tape.now }
     requires lines { AreLines plan.now.widths.now.measure (length plan.now.tape.now) 0 lines.now }
     ensures text { OnOk result (text.new.items ≡ text.old.items ++ text_of (lines_shapes plan.now.page (mean plan.now.table.now) plan.now.widths.now plan.now.tape.now first_spot lines.now)) }
@@ -435,7 +439,7 @@ pub fn rest_height(frames: u64) -> u64
 #[tactic(auto, using(crate::proofs::Sequences::text_one))]
 fn add_rest_words(
     text: &mut Vec<u8>,
-    plan: &Plan<'_>,
+    plan: &DrawingPlan<'_>,
     below: Below,
     fault: Option<SetFault>,
 ) -> Result<(), AllocError>
@@ -452,7 +456,7 @@ fn add_rest_words(
 #[tactic(auto, using(crate::proofs::Sequences::text_append))]
 fn add_rest(
     text: &mut Vec<u8>,
-    plan: &Plan<'_>,
+    plan: &DrawingPlan<'_>,
     reached: Reached,
     fault: Option<SetFault>,
 ) -> Result<(), AllocError>
@@ -489,7 +493,11 @@ fn add_rest(
 
 /// Adds all that is drawn of a tape: its lines, and what stands behind the last.
 #[tactic(auto, using(crate::proofs::Sequences::text_append))]
-pub fn add_tape(text: &mut Vec<u8>, plan: &Plan<'_>, fitting: &Fitting) -> Result<(), AllocError>
+pub fn add_tape(
+    text: &mut Vec<u8>,
+    plan: &DrawingPlan<'_>,
+    fitting: &Fitting,
+) -> Result<(), AllocError>
     requires tape { IsTape plan.now.tape.now }
     requires lines { AreLines plan.now.widths.now.measure (length plan.now.tape.now) 0 fitting.now.lines.items }
     ensures { OnOk result (text.new.items ≡ text.old.items ++ text_of (tape_shapes plan.now.page (mean plan.now.table.now) plan.now.widths.now plan.now.tape.now fitting.now)) }

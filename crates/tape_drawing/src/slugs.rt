@@ -8,7 +8,7 @@ ghost use Rattle.tape_drawing.specs.Shapes.{text_of};
 ghost use Rattle.tape_drawing.specs.Layout.{IsFull};
 ghost use Rattle.tape_drawing.specs.Slugs.{is_over, look_in, type_style, box_shapes, blank_shapes, name_shapes, width_shapes, sort_shapes, item_shapes, item_width, AddsSorts, AddsItems, pieces_shapes, gap_shapes, filled_shapes};
 
-use crate::elements::{Look, Place, Room, Style, add_bar, add_box, add_fitted, add_gap, add_words};
+use crate::elements::{Look, Point, Room, Style, add_bar, add_box, add_fitted, add_gap, add_words};
 use crate::layout::{Stretch, across, edge};
 use itoa::Buffer;
 use line_check::{Slug, Sort};
@@ -68,7 +68,7 @@ fn add_stretch(text: &mut Vec<u8>, look: Look, stretch: Stretch) -> Result<(), A
     requires { (1 ≤ stretch.measure) × (stretch.from ≤ 2 ^ 38) × (stretch.width ≤ 2 ^ 38) }
     ensures { OnOk result (text.new.items ≡ text.old.items ++ text_of (box_shapes look stretch)) }
 {
-    let at = Place {
+    let at = Point {
         x: edge(stretch.measure, stretch.from),
         y: stretch.top,
     };
@@ -92,7 +92,7 @@ fn add_name(text: &mut Vec<u8>, stretch: Stretch, rail: Rail, name: &[u8]) -> Re
     ensures { OnOk result (text.new.items ≡ text.old.items ++ text_of (name_shapes stretch rail name.now)) }
 {
     let width = across(stretch);
-    let at = Place {
+    let at = Point {
         x: edge(stretch.measure, stretch.from) + width / 2,
         y: stretch.top + 34,
     };
@@ -115,7 +115,7 @@ fn add_width(text: &mut Vec<u8>, stretch: Stretch) -> Result<(), AllocError>
         return Ok(());
     }
     let mut digits = Buffer::new();
-    let at = Place {
+    let at = Point {
         x: edge(stretch.measure, stretch.from) + width / 2,
         y: stretch.top + 43,
     };
@@ -252,7 +252,7 @@ pub fn add_pieces(text: &mut Vec<u8>, bed: Bed, slug: &Slug) -> Result<(), Alloc
         from: 0,
         width: left,
     };
-    add_bar(text, Place { x: 60, y: bed.top })?;
+    add_bar(text, Point { x: 60, y: bed.top })?;
     add_blank(text, before)?;
     let from = add_sorts(text, bed, left, slug.items.as_slice())?;
     let after = Stretch {
@@ -272,7 +272,7 @@ fn add_gap_behind(text: &mut Vec<u8>, bed: Bed, end: u64) -> Result<(), AllocErr
     if bed.measure <= end {
         return Ok(());
     }
-    let at = Place {
+    let at = Point {
         x: edge(bed.measure, end),
         y: bed.top,
     };

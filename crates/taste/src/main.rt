@@ -3,7 +3,7 @@
 #![tactic(auto)]
 
 use command_ends::ScriptPaths;
-use opened_files::Opened;
+use opened_files::InputFile;
 use rehearse_command::rehearse;
 use std::process::ExitCode;
 
@@ -14,9 +14,9 @@ const STORY: ScriptPaths<'static> = ScriptPaths {
 };
 
 fn main(rt: HostRuntime) -> ExitCode {
-    let mut table = Opened::at(&rt, STORY.table);
-    let mut widths = Opened::at(&rt, STORY.widths);
-    let mut script = Opened::at(&rt, STORY.script);
+    let mut table = InputFile::at(&rt, STORY.table);
+    let mut widths = InputFile::at(&rt, STORY.widths);
+    let mut script = InputFile::at(&rt, STORY.script);
     let end = rehearse(
         rt.alloc(),
         &STORY,

@@ -5,7 +5,7 @@ use Rattle.std.specs.List.{list_all}
 use Rattle.std.proofs.lemmas.Bool.{and_parts}
 use Rattle.std.proofs.lemmas.List.{take-append-drop, take_more, length-take}
 use Rattle.text_words.specs.declared.word.Word.{Word}
-use Rattle.text_words.specs.declared.piece.Piece.{Piece}
+use Rattle.text_words.specs.declared.piece.TextPiece.{TextPiece}
 use Rattle.text_words.specs.Words.{IsPiece}
 use Rattle.text_words.specs.Ligatures.{begun_by, longest_len, matrix_word, IsFirst, joined, apart}
 use Rattle.text_words.specs.Laws.{OneBeginning}
@@ -16,7 +16,7 @@ take_len len text h = omega (arith, length-take len text)
 
 -- a piece that is read is the first, where no ligature is
 pub apart_first :
-    (ligatures : List (List ℕ)) (text : List ℕ) (o : Option Piece) → longest_len ligatures text ≡ 0 → IfSome o (λ piece. (1 ≤ piece.len) × (piece.len ≤ length text))
+    (ligatures : List (List ℕ)) (text : List ℕ) (o : Option TextPiece) → longest_len ligatures text ≡ 0 → IfSome o (λ piece. (1 ≤ piece.len) × (piece.len ≤ length text))
     → IfSome o (λ piece. IsPiece (take piece.len text) piece.said) → IfSome o (λ piece. IsFirst ligatures text piece.len piece.said)
 apart_first ligatures text None e within is = tt
 apart_first ligatures text (Some piece) e within is = apart piece.len piece.said e within.1 is

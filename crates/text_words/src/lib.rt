@@ -11,7 +11,7 @@ mod word;
 mod writing;
 
 pub use ligatures::{LigatureError, ligatures_of};
-pub use piece::{Piece, first_piece};
-pub use place::{Place, place_behind};
+pub use piece::{TextPiece, first_piece};
+pub use place::{TextPlace, place_behind};
 pub use word::Word;
 pub use writing::{has_word, put_frame, put_meaning};

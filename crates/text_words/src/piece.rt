@@ -12,7 +12,7 @@ use code_table::Name;
 
 /// A piece of a text: one byte, a name with its braces, or the letters of a ligature.
 #[derive(Drop)]
-pub struct Piece {
+pub struct TextPiece {
     /// How many bytes it has.
     pub len: usize,
     /// The word that it says, if any.
@@ -21,7 +21,7 @@ pub struct Piece {
 
 /// The first piece of a text that is not empty; `None` where it begins with a brace that is not closed before the next byte
 /// that does not print.
-fn piece_at(text: &[u8]) -> Option<Piece>
+fn piece_at(text: &[u8]) -> Option<TextPiece>
     requires { 1 ≤ length text.now }
     ensures within { IfSome result (λ piece. (1 ≤ piece.len) × (piece.len ≤ length text.now)) }
     ensures piece { IfSome result (λ piece. IsPiece (take piece.len text.now) piece.said) }
@@ -31,12 +31,12 @@ fn piece_at(text: &[u8]) -> Option<Piece>
     if first == b'{' {
         let behind = &text[1..];
         let len = name_len(behind)?;
-        Some(Piece {
+        Some(TextPiece {
             len: len + 2,
             said: named_word(&behind[..len]),
         })
     } else {
-        Some(Piece {
+        Some(TextPiece {
             len: 1,
             said: byte_word(first),
         })
@@ -46,7 +46,7 @@ fn piece_at(text: &[u8]) -> Option<Piece>
 /// The first piece of a text that is not empty, where the letters of a ligature are one piece: the longest with which the text
 /// begins. `None` as where there are no ligatures.
 #[tactic(auto, using(crate::proofs::Beginning::apart_first))]
-pub fn first_piece(ligatures: &[Name], text: &[u8]) -> Option<Piece>
+pub fn first_piece(ligatures: &[Name], text: &[u8]) -> Option<TextPiece>
     requires { 1 ≤ length text.now }
     ensures within { IfSome result (λ piece. (1 ≤ piece.len) × (piece.len ≤ length text.now)) }
     ensures first { IfSome result (λ piece. IsFirst ligatures.now text.now piece.len piece.said) }
@@ -56,7 +56,7 @@ pub fn first_piece(ligatures: &[Name], text: &[u8]) -> Option<Piece>
     if len == 0 {
         return piece_at(text);
     }
-    Some(Piece {
+    Some(TextPiece {
         len,
         said: matrix_word(&text[..len]),
     })

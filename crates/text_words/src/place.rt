@@ -5,7 +5,7 @@ ghost use Rattle.text_words.specs.Places.{line_behind, column_behind};
 
 /// A place of a text, as a person counts it.
 #[derive(Clone, Copy)]
-pub struct Place {
+pub struct TextPlace {
     /// The line, from 1.
     pub line: usize,
     /// The column, in bytes from 1.
@@ -13,7 +13,7 @@ pub struct Place {
 }
 
 /// The place behind this prefix of a text.
-pub fn place_behind(prefix: &[u8]) -> Place
+pub fn place_behind(prefix: &[u8]) -> TextPlace
     ensures line { result.line ≡ line_behind prefix.now }
     ensures column { result.column ≡ column_behind prefix.now }
 {
@@ -27,5 +27,5 @@ pub fn place_behind(prefix: &[u8]) -> Place
             column += 1;
         }
     }
-    Place { line, column }
+    TextPlace { line, column }
 }

@@ -9,13 +9,13 @@ use Rattle.seals.specs.Opening.{IsPart}
 use Rattle.seals.specs.declared.label.Label.{Label}
 use Rattle.seals.specs.declared.opening.Keys.{Keys}
 use Rattle.seals.specs.declared.opening.Piece.{Piece}
-use Rattle.seals.specs.declared.opening.Place.{Place}
+use Rattle.seals.specs.declared.opening.KeyPlace.{KeyPlace}
 use Rattle.gathering.specs.Parts.{Parts, IsSealedAs, IsWhole}
 use Rattle.gathering.specs.Places.{Knows, Gathers}
 use Rattle.whole_packets.specs.Orders.{AreOf, GivesWhatWasSealed}
 
 -- of this packet those parts are there that came, and not all
-pub record Came (place : Place) (label : Label) (packet : List ℕ) (pieces : List Piece) (slots : List Parts) : Type 0 where
+pub record Came (place : KeyPlace) (label : Label) (packet : List ℕ) (pieces : List Piece) (slots : List Parts) : Type 0 where
   pub had : List Bool
   pub marks : length had ≡ 11
   pub knows : Knows place label packet had slots
@@ -25,7 +25,7 @@ pub record Came (place : Place) (label : Label) (packet : List ℕ) (pieces : Li
 -- so it is of each packet that the pieces are of
 abbrev pub AllCame : Keys → List Piece → List Piece → List Parts → Type 0
 AllCame keys pieces came slots =
-    (place : Place) (label : Label) (packet : List ℕ)
+    (place : KeyPlace) (label : Label) (packet : List ℕ)
     → IsSealedAs keys place label packet → 1 ≤ length packet → length packet ≤ most_packet → AreOf place label packet pieces
     → Came place label packet came slots
 
@@ -57,17 +57,17 @@ any_more pieces i k d inside any other =
     ]
 
 -- the piece at a place is of the packet that all are of
-is_of : (place : Place) (label : Label) (packet : List ℕ) (pieces : List Piece) (i : ℕ) (piece : Piece) → i < length pieces → piece ≡ get_or pieces i piece → AreOf place label packet pieces
+is_of : (place : KeyPlace) (label : Label) (packet : List ℕ) (pieces : List Piece) (i : ℕ) (piece : Piece) → i < length pieces → piece ≡ get_or pieces i piece → AreOf place label packet pieces
     → (piece.place ≡ place) × (piece.label ≡ label) × (piece.part.now ≡ part_of packet piece.index)
 is_of place label packet pieces i piece inside at are =
     subst (λ (p : Piece). (p.place ≡ place) × (p.label ≡ label) × (p.part.now ≡ part_of packet p.index)) (sym at) (are i piece inside)
 
 -- what a piece leaves, in the words of the packet that it is of
-gathers_at : (keys : Keys) (place : Place) (label : Label) (piece : Piece) (old new : List Parts) (o : Option (List ℕ)) → piece.place ≡ place → piece.label ≡ label
+gathers_at : (keys : Keys) (place : KeyPlace) (label : Label) (piece : Piece) (old new : List Parts) (o : Option (List ℕ)) → piece.place ≡ place → piece.label ≡ label
     → Gathers keys piece.place piece.label piece.index piece.part.now old new o → Gathers keys place label piece.index piece.part.now old new o
 gathers_at keys place label piece old new o a b gathers =
     subst (λ (l : Label). Gathers keys place l piece.index piece.part.now old new o) b
-    (subst (λ (k : Place). Gathers keys k piece.label piece.index piece.part.now old new o) a gathers)
+    (subst (λ (k : KeyPlace). Gathers keys k piece.label piece.index piece.part.now old new o) a gathers)
 
 pub one_more : (keys : Keys) (pieces : List Piece) (i : ℕ) (piece : Piece) (old new : List Parts) → i < length pieces → piece ≡ get_or pieces i piece → IsPart piece.label piece.index piece.part.now
     → Gathers keys piece.place piece.label piece.index piece.part.now old new None → AllCame keys pieces (take i pieces) old → AllCame keys pieces (take (i + 1) pieces) new

@@ -1,7 +1,7 @@
 -- Steps of a wire behind a door, one after the other, and what is told of them.
 use Rattle.std.proofs.Common.{◌≡◌, ℕ, List, [], ◌∷◌, subst, sym}
 use Rattle.std.specs.declared.net.socket_addr.SocketAddr.{SocketAddr}
-use Rattle.pace.specs.declared.share.Datagram.{Datagram}
+use Rattle.pace.specs.declared.share.Incoming.{Incoming}
 use Rattle.pace.specs.Room.{WaitingValue}
 use Rattle.wire.specs.declared.guarded.GuardedWire.{GuardedWire}
 use Rattle.wire.specs.declared.wire.Arrival.{Arrival}
@@ -11,7 +11,7 @@ use Rattle.wire.specs.Guarded.{IsClean, Keeps, let_in, passed_of}
 use Rattle.wire.specs.Passing.{Passes, sent, told}
 use Rattle.wire.proofs.Staying.{let_in_alike, stays_alike, stays_then, stays_passes, comes_then, came_so}
 
-module _ {C D S : Type 0} (came : S → SocketAddr → List ℕ → Type 0) (brings : D → SocketAddr → List ℕ → Datagram → Type 0) where
+module _ {C D S : Type 0} (came : S → SocketAddr → List ℕ → Type 0) (brings : D → SocketAddr → List ℕ → Incoming → Type 0) where
   pub keeps_then : (u v w : GuardedWire C D S) → Keeps came brings u v → Keeps came brings v w → Keeps came brings u w
   keeps_then u v w p q = stays_then (let_in came brings u) (let_in came brings v) (let_in came brings w) u.waiting v.waiting w.waiting p q
 
@@ -46,9 +46,9 @@ module _ {C D S : Type 0} (came : S → SocketAddr → List ℕ → Type 0) (bri
   comes_later u v a buffer keeps comes = comes_then (let_in came brings u) (let_in came brings v) u.waiting v.waiting a buffer keeps comes
 
 -- what waits is another list of the same
-pub waits_so : (Is : Datagram → Type 0) (u v w : WaitingValue) → w ≡ v → Stays Is Is u v → Stays Is Is u w
+pub waits_so : (Is : Incoming → Type 0) (u v w : WaitingValue) → w ≡ v → Stays Is Is u v → Stays Is Is u w
 waits_so Is u v w same stays = subst (λ (x : WaitingValue). Stays Is Is u x) (sym same) stays
 
 -- the count of what is lost is another
-pub lost_stays : (Is : Datagram → Type 0) (w : WaitingValue) (n : ℕ) → Stays Is Is w (record w { lost = n })
+pub lost_stays : (Is : Incoming → Type 0) (w : WaitingValue) (n : ℕ) → Stays Is Is w (record w { lost = n })
 lost_stays Is w n = record { alike = λ d. (λ is. is, λ is. is); wait = λ all. all }

@@ -2,7 +2,7 @@
 use Rattle.std.specs.Prelude.{◌≡◌, ◌⊎◌, ℕ, List, length, slice_index, slice_index_or, Bool, false, not, ◌&&◌, ◌||◌, ◌==◌, nat_lt, Option, Some, None, MatchOption, if◌then◌else◌}
 use Rattle.std.specs.List.{All}
 use Rattle.std.specs.declared.net.socket_addr.SocketAddr.{SocketAddr}
-use Rattle.pace.specs.declared.share.Datagram.{Datagram}
+use Rattle.pace.specs.declared.share.Incoming.{Incoming}
 use Rattle.wire.specs.Addresses.{IsAt, IsFirstAt, address_of}
 use Rattle.wire.specs.declared.address.Address.{Address}
 use Rattle.wire.specs.declared.door.Brought.{Brought}
@@ -49,7 +49,7 @@ AdmitsPlain own stations sender bytes (brought.Refused reason) = IsAgainst own s
 
 -- a datagram of this sender brings this packet at a station without a key: it is the packet, comes from where its sender listens, and nothing
 -- stands against it
-abbrev pub brings_plain : ℕ → List Address → SocketAddr → List ℕ → Datagram → Type 0
+abbrev pub brings_plain : ℕ → List Address → SocketAddr → List ℕ → Incoming → Type 0
 brings_plain own stations sender bytes d = IsFrom own stations sender d.sender bytes × (d.bytes.items ≡ bytes)
 
 -- a packet is sent as it is, where the addressee has an address

@@ -4,7 +4,7 @@ use Rattle.std.specs.declared.net.socket_addr.SocketAddr.{SocketAddr}
 use Rattle.wire.specs.declared.reason.Reason.{Reason}
 use Rattle.wire.specs.declared.reason.Reason.TheVariants as reasons
 use Rattle.wire.specs.declared.strangers.Strangers.{Strangers}
-use Rattle.wire.specs.declared.strangers.Tally.{Tally}
+use Rattle.wire.specs.declared.strangers.ReasonTally.{ReasonTally}
 
 -- how many were counted, and one more, as far as there are numbers
 abbrev pub count_with : Option Strangers → ℕ
@@ -16,11 +16,11 @@ abbrev pub kept_with : Reason → SocketAddr → Option Strangers → Option Str
 kept_with reason sender kept = Some (record { reason = reason; count = count_with kept; last = sender })
 
 -- one datagram more
-abbrev pub counted : Reason → SocketAddr → Tally → Tally
+abbrev pub counted : Reason → SocketAddr → ReasonTally → ReasonTally
 counted reason sender t = record t { kept = kept_with reason sender t.kept }
 
 -- nothing is kept, and nothing was told
-abbrev pub nothing_kept : Tally
+abbrev pub nothing_kept : ReasonTally
 nothing_kept = record { kept = None; due = 0 }
 
 -- the place of a reason among those that there are
@@ -35,7 +35,7 @@ place_of reasons.Elsewhere = 6
 place_of reasons.NoPart = 7
 
 -- of this reason one datagram more was kept, and of the others what was
-abbrev pub with_counted : Reason → SocketAddr → List Tally → List Tally
+abbrev pub with_counted : Reason → SocketAddr → List ReasonTally → List ReasonTally
 with_counted reason sender tallies =
     slice_set tallies (place_of reason) (counted reason sender (slice_index_or tallies (place_of reason) nothing_kept))
 
@@ -44,15 +44,15 @@ abbrev pub later : ℕ → ℕ
 later now = min (now + 1000) (2 ^ 64 - 1)
 
 -- there is something to tell at this moment: some are kept, and the last telling was a second ago at least
-abbrev pub is_due : ℕ → Tally → Bool
+abbrev pub is_due : ℕ → ReasonTally → Bool
 is_due now t = nat_le t.due now && is_some t.kept
 
 -- nothing is kept of what was told, and no more is told within a second
-abbrev pub told_at : ℕ → Tally
+abbrev pub told_at : ℕ → ReasonTally
 told_at now = record { kept = None; due = later now }
 
 -- the first is told of which there is something to tell; where there is none, nothing is told, and all stays
-abbrev pub TellsFirst : ℕ → Option Strangers → List Tally → List Tally → Type 0
+abbrev pub TellsFirst : ℕ → Option Strangers → List ReasonTally → List ReasonTally → Type 0
 TellsFirst now told old new =
     MatchOption (position (is_due now) old) ((told ≡ None) × (new ≡ old))
     (λ place. (told ≡ (slice_index_or old place nothing_kept).kept) × (new ≡ slice_set old place (told_at now)))

@@ -6,7 +6,7 @@ use crate::address::Address;
 use crate::reason::Reason;
 use crate::socket::Socket;
 use ballots::Member;
-use pace::Datagram;
+use pace::Incoming;
 use std::alloc::Global;
 use std::net::SocketAddr;
 
@@ -14,7 +14,7 @@ use std::net::SocketAddr;
 #[derive(Drop)]
 pub enum Brought {
     /// A packet, of this member.
-    Packet(Datagram),
+    Packet(Incoming),
     /// A part of a packet, of which others are missing.
     Part,
     /// Nothing: there is no memory for it.
@@ -27,11 +27,11 @@ pub enum Brought {
 pub trait Door: Drop {
     ghost use Rattle.std.specs.Prelude.{ℕ, List, Bool};
     ghost use Rattle.std.specs.declared.net.socket_addr.SocketAddr.{SocketAddr};
-    ghost use Rattle.pace.specs.declared.share.Datagram.{Datagram};
+    ghost use Rattle.pace.specs.declared.share.Incoming.{Incoming};
     ghost use Rattle.wire.specs.declared.address.Address.{Address};
 
     // A datagram of this sender, with these bytes, brings this packet.
-    ghost brings: { Self → SocketAddr → List ℕ → Datagram → Type 0 };
+    ghost brings: { Self → SocketAddr → List ℕ → Incoming → Type 0 };
 
     // A packet of these bytes is sent to this member, by what the socket is given, and it is answered whether the network took all of it.
     ghost sends: { Self → (Address → List ℕ → Bool → Type 0) → ℕ → List ℕ → Bool → Type 0 };

@@ -8,7 +8,7 @@ use crate::door::{Brought, Door};
 use crate::reason::Reason;
 use crate::socket::Socket;
 use ballots::Member;
-use pace::Datagram;
+use pace::Incoming;
 use std::alloc::Global;
 use std::net::SocketAddr;
 
@@ -55,7 +55,7 @@ fn packet_of(alloc: Global, sender: Member, bytes: &[u8]) -> Brought
     ensures { IsPacketOf sender bytes.now result }
 {
     match Vec::from_slice(alloc, bytes) {
-        Ok(bytes) => Brought::Packet(Datagram { sender, bytes }),
+        Ok(bytes) => Brought::Packet(Incoming { sender, bytes }),
         Err(_) => Brought::Lost,
     }
 }

@@ -34,12 +34,12 @@ impl fmt::Display for Strangers {
 
 /// What is not told yet of one reason, and the moment before which it is not told.
 #[derive(Clone, Copy)]
-pub(crate) struct Tally {
+pub(crate) struct ReasonTally {
     pub(crate) kept: Option<Strangers>,
     pub(crate) due: u64,
 }
 
-impl Tally {
+impl ReasonTally {
     /// Counts a datagram.
     fn add(&mut self, reason: Reason, sender: SocketAddr)
         ensures { self.new ≡ counted reason sender self.old }
@@ -75,7 +75,7 @@ impl Tally {
 }
 
 /// The first place of which there is something to tell at this moment.
-fn first_due(tallies: &[Tally], now: u64) -> Option<usize>
+fn first_due(tallies: &[ReasonTally], now: u64) -> Option<usize>
     ensures place { result ≡ position (is_due now) tallies.now }
     ensures within { IfSome result (λ place. place < length tallies.now) }
 {
@@ -85,7 +85,7 @@ fn first_due(tallies: &[Tally], now: u64) -> Option<usize>
 /// What is not told yet, of each reason.
 #[derive(Clone, Copy)]
 pub(crate) struct Untold {
-    pub(crate) tallies: [Tally; REASONS],
+    pub(crate) tallies: [ReasonTally; REASONS],
 }
 
 impl Untold {
@@ -94,7 +94,7 @@ impl Untold {
         ensures { result.tallies ≡ replicate 8 nothing_kept }
     {
         Untold {
-            tallies: [Tally { kept: None, due: 0 }; REASONS],
+            tallies: [ReasonTally { kept: None, due: 0 }; REASONS],
         }
     }
 

@@ -5,7 +5,7 @@ use command_ends::End;
 use draw_command::{SettingPaths, chart};
 use fixtures::{CODES, WIDTHS};
 use std::alloc::Global;
-use tape_drawing::Page;
+use tape_drawing::DrawingForm;
 
 const PATHS: SettingPaths<'static> = SettingPaths {
     table: "codes.toml",
@@ -16,7 +16,7 @@ const PATHS: SettingPaths<'static> = SettingPaths {
 fn end_of(
     alloc: Global,
     files: (&str, &str),
-    page: Page,
+    page: DrawingForm,
     written: (&str, &str),
     told: &str,
 ) -> Option<End> {
@@ -42,9 +42,9 @@ fn end_of(
     }
 }
 
-const PAGES: &[(Page, (&str, &str))] = &[
-    (Page::Svg, (SVG_HEAD, SVG_TAIL)),
-    (Page::Html, (HTML_HEAD, HTML_TAIL)),
+const PAGES: &[(DrawingForm, (&str, &str))] = &[
+    (DrawingForm::Svg, (SVG_HEAD, SVG_TAIL)),
+    (DrawingForm::Html, (HTML_HEAD, HTML_TAIL)),
 ];
 
 #[test]
@@ -63,7 +63,13 @@ const FAULTS: &[(&str, &str, &str)] = &[
 #[test]
 fn faulty_files_of_a_chart(rt: HostRuntime) {
     for (table, widths, told) in FAULTS {
-        let end = end_of(rt.alloc(), (table, widths), Page::Svg, ("", ""), told);
+        let end = end_of(
+            rt.alloc(),
+            (table, widths),
+            DrawingForm::Svg,
+            ("", ""),
+            told,
+        );
         assert!(rt; end == Some(End::Input), "{told}");
     }
 }

@@ -7,7 +7,7 @@ use draw_command::draw;
 use fixtures::{CODES, FLOOD, LONGEST, OVERSET, WIDTHS};
 use std::alloc::Global;
 use std::io::Write;
-use tape_drawing::Page;
+use tape_drawing::DrawingForm;
 
 const PATHS: TapePaths<'static> = TapePaths {
     table: "codes.toml",
@@ -20,7 +20,7 @@ fn end_of<W: Write>(
     alloc: Global,
     files: (&str, &str),
     mut tape: &[u8],
-    page: Page,
+    page: DrawingForm,
     out: &mut W,
     err: &str,
 ) -> Option<End> {
@@ -48,7 +48,7 @@ fn draws(
     alloc: Global,
     files: (&str, &str),
     tape: &[u8],
-    page: Page,
+    page: DrawingForm,
     end: End,
     document: &str,
     err: &str,
@@ -66,7 +66,7 @@ fn a_story_that_sets(rt: HostRuntime) {
             rt.alloc(),
             files,
             FLOOD,
-            Page::Svg,
+            DrawingForm::Svg,
             End::Done,
             FLOOD_SVG,
             ""
@@ -83,7 +83,7 @@ fn a_story_that_is_overset(rt: HostRuntime) {
             rt.alloc(),
             files,
             OVERSET,
-            Page::Svg,
+            DrawingForm::Svg,
             End::Input,
             OVERSET_SVG,
             err
@@ -100,7 +100,7 @@ fn a_story_that_is_loose(rt: HostRuntime) {
             rt.alloc(),
             files,
             &[1, 3, 1, 4],
-            Page::Svg,
+            DrawingForm::Svg,
             End::Input,
             LOOSE_SVG,
             err
@@ -117,7 +117,7 @@ fn a_story_that_is_never_cut(rt: HostRuntime) {
             rt.alloc(),
             files,
             &[1],
-            Page::Html,
+            DrawingForm::Html,
             End::Input,
             UNFINISHED_HTML,
             err
@@ -131,7 +131,15 @@ fn names_are_escaped(alloc: Global, document: &str) -> Option<bool> {
     let widths = WIDTHS.replace(alloc, "\na = ", "\n\"<&>\\\"'\" = ").ok()?;
     let tape = &[8, 1, 9, 10, 1, 7, 4];
     let files = (table.as_str(), widths.as_str());
-    Some(draws(alloc, files, tape, Page::Html, End::Done, document, ""))
+    Some(draws(
+        alloc,
+        files,
+        tape,
+        DrawingForm::Html,
+        End::Done,
+        document,
+        "",
+    ))
 }
 
 #[test]
@@ -154,7 +162,7 @@ fn faulty_files(rt: HostRuntime) {
                 rt.alloc(),
                 (table, widths),
                 tape,
-                Page::Svg,
+                DrawingForm::Svg,
                 End::Input,
                 "",
                 err
@@ -167,7 +175,14 @@ fn faulty_files(rt: HostRuntime) {
 /// The longest tape, with all its holes: how many bytes its drawing has.
 fn longest(alloc: Global) -> usize {
     let mut out = Vec::new(alloc);
-    let end = end_of(alloc, (CODES, WIDTHS), LONGEST, Page::Svg, &mut out, "");
+    let end = end_of(
+        alloc,
+        (CODES, WIDTHS),
+        LONGEST,
+        DrawingForm::Svg,
+        &mut out,
+        "",
+    );
     if end == Some(End::Done) { out.len() } else { 0 }
 }
 
@@ -184,7 +199,7 @@ fn front(alloc: Global, room: usize) -> Option<usize> {
         alloc,
         (CODES, WIDTHS),
         FLOOD,
-        Page::Svg,
+        DrawingForm::Svg,
         &mut out,
         "cannot write\n",
     );

@@ -5,15 +5,15 @@ use Rattle.std.proofs.lemmas.Grind.{flat_map-append}
 use Rattle.wire.specs.Passing.{Passed, Passes, Trace}
 use Rattle.wire.proofs.Passing.{Passes-then}
 use Rattle.driver.specs.Driving.{sends, sending_of}
-use Rattle.driver.specs.declared.sink.Step.{Step}
+use Rattle.driver.specs.declared.sink.TakenStep.{TakenStep}
 use Rattle.driver.proofs.group.send_each.Goals as goal
 
-one_more : {N : Type 0} (passed : N → Trace) (was mid is : N) (steps : List Step) (i : ℕ) (d : Step) → i < length steps → d ≡ get_or steps i d
+one_more : {N : Type 0} (passed : N → Trace) (was mid is : N) (steps : List TakenStep) (i : ℕ) (d : TakenStep) → i < length steps → d ≡ get_or steps i d
     → Passes (passed was) (passed mid) (sends (take i steps)) → Passes (passed mid) (passed is) (sending_of d) → Passes (passed was) (passed is) (sends (take (i + 1) steps))
 one_more passed was mid is steps i d low at before p =
     subst (λ (l : List Passed). Passes (passed was) (passed is) l)
     (sym (ap sends (take_more steps i d low) ∙ flat_map-append sending_of (take i steps) (get_or steps i d ∷ [])
-    ∙ ap (λ (l : List Passed). sends (take i steps) ++ l) (append-nil (sending_of (get_or steps i d))) ∙ ap (λ (x : Step). sends (take i steps) ++ sending_of x) (sym at)))
+    ∙ ap (λ (l : List Passed). sends (take i steps) ++ l) (append-nil (sending_of (get_or steps i d))) ∙ ap (λ (x : TakenStep). sends (take i steps) ++ sending_of x) (sym at)))
     (Passes-then (passed was) (passed mid) (passed is) (sends (take i steps)) (sending_of d) before p)
 
 pub loop-step-preserved : goal.loop-step-preserved

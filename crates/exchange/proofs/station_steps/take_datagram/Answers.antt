@@ -5,14 +5,14 @@ use Rattle.saved_rows.specs.declared.rows.Rows.{Ghosts}
 use Rattle.station.specs.declared.station.Station.{Station}
 use Rattle.exchange.specs.Events.{HasMark}
 use Rattle.exchange.specs.Driving.{IsPacketTaken, IsTakenIn}
-use Rattle.exchange.specs.declared.station_steps.Outcome.{Outcome}
-use Rattle.exchange.specs.declared.station_steps.Outcome.TheVariants.{Nothing, Failed, Done, Refused, Heard}
+use Rattle.exchange.specs.declared.station_steps.Received.{Received}
+use Rattle.exchange.specs.declared.station_steps.Received.TheVariants.{Nothing, Failed, Done, Refused, Heard}
 use Rattle.rolls.specs.Asides.{aside_in}
 use Rattle.rolls.specs.declared.aside.Aside.{Aside}
 use Rattle.exchange.proofs.station_steps.take_datagram.Goals as goal
 
 -- what the station took in came
-taken : {R N : Type 0} (g : Ghosts R) (passed : N → Trace) (now : ℕ) (old new : Station R) (was is : N) (bytes : List ℕ) (o : Outcome)
+taken : {R N : Type 0} (g : Ghosts R) (passed : N → Trace) (now : ℕ) (old new : Station R) (was is : N) (bytes : List ℕ) (o : Received)
     → Passes (passed was) (passed is) (came bytes ∷ []) → ¬ HasMark bytes → IsPacketTaken g bytes now old new o → IsTakenIn g passed now old new was is o
 taken g passed now old new was is bytes Nothing p m t = absurd t
 taken g passed now old new was is bytes Failed p m t = absurd t

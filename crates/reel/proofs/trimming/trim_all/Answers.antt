@@ -1,6 +1,6 @@
 use Rattle.std.proofs.Common.{take, get_or}
 use Rattle.std.proofs.lemmas.List.{take_more}
-use Rattle.reel.specs.declared.piece.Piece.{Piece}
+use Rattle.reel.specs.declared.piece.RollPiece.{RollPiece}
 use Rattle.reel.specs.Trimming as trims
 use Rattle.reel.proofs.Trims.{more_left_out, more_trimmed}
 use Rattle.reel.proofs.trimming.trim_all.Goals as goal
@@ -14,7 +14,7 @@ loop-piece-preserved c =
     let frames = c.args.frames.now in
     let pieces = c.args.pieces.now in
     let at = c.loop-piece.piece-index in
-    let none : Piece = record { from = 0; to = 0 } in
+    let none : RollPiece = record { from = 0; to = 0 } in
     let before = c.loop-piece.trimmed.items in
     elim c.match-trim.branch [
       | in-Some+in_ok-push-in-Some w ↦

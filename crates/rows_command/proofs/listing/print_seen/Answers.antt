@@ -2,7 +2,7 @@ use Rattle.std.proofs.Common.{rules, ◌≡◌, ◌⊎◌, inl, inr, refl, ap, s
 use Rattle.acceptor_store.specs.Sqlite.{saved_of}
 use Rattle.saved_rows.specs.declared.identity.Identity.{Identity}
 use Rattle.rows_command.specs.RowsText.{IsFrontPrinted}
-use Rattle.rows_command.specs.declared.printing.Printer.{Printer}
+use Rattle.rows_command.specs.declared.printing.RowPrinter.{RowPrinter}
 use Rattle.rows_command.proofs.PrintLemmas.{front_printed}
 use Rattle.rows_command.proofs.listing.print_seen.Goals as goal
 
@@ -13,7 +13,7 @@ returns-clause-front g c kept =
     let now = c.visit-seen.new.visitor in
     let new = g.W.Write.contents now.out.now in
     let printed : (new ≡ old) ⊎ IsFrontPrinted saved c.identity.result old new = elim (c.visit-seen.ensures.front kept) [
-      | inl same ↦ inl (ap (λ (p : Printer g.row.W.Denot). g.W.Write.contents p.out.now) same)
+      | inl same ↦ inl (ap (λ (p : RowPrinter g.row.W.Denot). g.W.Write.contents p.out.now) same)
       | inr h ↦ front_printed saved c.identity.result old new now.begun now.fault h.0 h.1 (h.2.2 (refl, refl))
     ] in
     let ours : (new ≡ old) ⊎ IsFrontPrinted saved c.args.rows.now.identity old new = subst (λ (i : Identity). (new ≡ old) ⊎ IsFrontPrinted saved i old new) c.identity.ensures printed in

@@ -3,7 +3,7 @@ use Rattle.std.proofs.Common.{◌≡◌, ℕ, List, Option, IfOk, IfSome, ap, sy
 use Rattle.healing.specs.Healing.{HealingValue}
 use Rattle.healing.specs.declared.wanted.Want.{Want}
 use Rattle.healing.specs.declared.wanted.Want.TheVariants.{Recall as Recalls}
-use Rattle.catch_up.specs.declared.wave.Asking.{Asking}
+use Rattle.catch_up.specs.declared.wave.AskedNumbers.{AskedNumbers}
 use Rattle.catch_up.specs.Own.{OwnValue}
 use Rattle.catch_up.specs.Waves.{AreAskedIn}
 use Rattle.catch_up.specs.Lacking.{IsAwaitedBatch, IsWantOf}
@@ -36,7 +36,7 @@ returns-in-Recall-clause-own c =
     let found : IsWantOf c.again.new.healing c.args.now (Recalls c.in-Recall.numbers) = subst (λ (w : Want). IsWantOf c.again.new.healing c.args.now w) c.in-Recall.is first in
     let same : c.again.new.healing ≡ c.self.inside.healing = c.again.ensures.same c.in_default.is in
     let want = subst (λ (h : Option HealingValue). IsWantOf h c.args.now (Recalls c.in-Recall.numbers)) same found in
-    let asked = subst (λ (w : Option Asking). AreAskedIn c.self.inside.wave w c.in-Recall.numbers) (sym (ap (λ (v : CatchUpValue). v.wave) c.self-in-Recall.view_is)) c.recall.ensures.wave in
+    let asked = subst (λ (w : Option AskedNumbers). AreAskedIn c.self.inside.wave w c.in-Recall.numbers) (sym (ap (λ (v : CatchUpValue). v.wave) c.self-in-Recall.view_is)) c.recall.ensures.wave in
     subst (λ (v : CatchUpValue). IfOk r (λ e. IfSome e (IsHealed v c.self-in-Recall.inside.wave c.args.now))) c.self.view_is
     (if_ok r goes (λ e goes. recalled_errand here c.self-in-Recall.inside.wave c.args.now c.in-Recall.numbers _ e want asked goes))
 
@@ -64,5 +64,5 @@ returns-in-Some-clause-own c =
     let goes = subst (λ (o : Option OwnValue). IfOk r (λ e. GoesOnFrom o c.go_on.new.recalling e)) begun c.go_on.ensures.ok in
     let awaited = subst (λ (b : Option (List ℕ)). IfSome b (IsAwaitedBatch c.self.inside.healing c.args.now)) c.in-Some.is c.again.ensures.awaited in
     subst (λ (v : CatchUpValue). IfOk r (λ e. IfSome e (IsHealed v c.self-in-Some.inside.wave c.args.now))) c.self.view_is
-    (subst (λ (w : Option Asking). IfOk r (λ e. IfSome e (IsHealed here w c.args.now))) (sym wave)
+    (subst (λ (w : Option AskedNumbers). IfOk r (λ e. IfSome e (IsHealed here w c.args.now))) (sym wave)
     (if_ok r goes (λ e goes. repeated_errand here c.args.now c.in-Some.batch _ e awaited goes)))

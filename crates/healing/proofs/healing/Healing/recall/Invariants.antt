@@ -1,6 +1,6 @@
 -- The numbers so far are recalled.
 use Rattle.std.proofs.Common.{◌≡◌, ◌+◌, length, take}
-use Rattle.healing.specs.declared.case.Stage.TheVariants.{Recalled}
+use Rattle.healing.specs.declared.case.LackStage.TheVariants.{Recalled}
 use Rattle.healing.specs.Cases.{with_stage}
 use Rattle.healing.proofs.Settling.{AreChanged}
 use Rattle.healing.proofs.healing.Healing.recall.Given as goal

@@ -1,6 +1,6 @@
 use Rattle.std.proofs.Common.{arith, refl}
 use Rattle.offers.specs.Stages.{after}
-use Rattle.offers.specs.declared.stage.News.TheVariants as news
+use Rattle.offers.specs.declared.stage.FileNews.TheVariants as news
 use Rattle.offers.proofs.Marking.{has_room, many_all, landed_marked}
 use Rattle.offers.proofs.Airborne.{held_landed, alone_still, landed_fewer}
 use Rattle.offers.proofs.Flying.{apart_fewer, length_fewer, left}

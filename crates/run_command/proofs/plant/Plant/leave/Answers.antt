@@ -2,7 +2,7 @@
 use Rattle.std.proofs.Common.{ap}
 use Rattle.offers.specs.Order.{rank}
 use Rattle.offers.specs.Stages.{after, changed}
-use Rattle.offers.specs.declared.stage.News.TheVariants.{Moved, PutOff}
+use Rattle.offers.specs.declared.stage.FileNews.TheVariants.{Moved, PutOff}
 use Rattle.run_command.proofs.Looking.{deals_left, follows_of, follows_same, follows_then}
 use Rattle.run_command.proofs.Wishes.{moved_still, put_off_still}
 use Rattle.run_command.proofs.plant.Plant.leave.Goals as goal

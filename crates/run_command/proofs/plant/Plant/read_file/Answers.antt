@@ -3,7 +3,7 @@ use Rattle.std.proofs.Common.{ap}
 use Rattle.folders.specs.declared.fault.FolderFault.{FolderFault}
 use Rattle.offers.specs.Order.{rank}
 use Rattle.offers.specs.Stages.{after, changed}
-use Rattle.offers.specs.declared.stage.News.TheVariants.{PutOff}
+use Rattle.offers.specs.declared.stage.FileNews.TheVariants.{PutOff}
 use Rattle.run_command.specs.Working.{Always}
 use Rattle.run_command.proofs.Looking.{deals_read, deals_looked, follows_of}
 use Rattle.run_command.proofs.Wishes.{put_off_still}
