@@ -1,7 +1,8 @@
 //! Ballots, in order of round and then owner.
 
-ghost use Rattle.std.specs.Prelude.{◌≡◌, ◌≤◌, IsSome, IfSome, ◌↔◌, IsTrue};
+ghost use Rattle.std.specs.Prelude.{◌≡◌, ◌≤◌, Some, IsSome, IfSome, ◌↔◌, IsTrue};
 ghost use Rattle.protocol.specs.Ballots.{IsBallot, is_below, is_same, next};
+ghost use Rattle.ballots.specs.Texts.{ballot_text};
 
 use crate::member::Member;
 use std::fmt;
@@ -90,6 +91,8 @@ impl Ballot {
 }
 
 impl fmt::Display for Ballot {
+    ghost output = { λ b. Some (ballot_text b) };
+
     fn fmt<W: fmt::Write>(&self, f: &mut fmt::Formatter<W>) -> fmt::Result {
         write!(f, "{}.{}", self.round, self.owner.get())
     }

@@ -11,7 +11,7 @@ ghost use Rattle.command_ends.specs.declared.end.End.TheVariants.{Done};
 
 use code_table::CodeTable;
 use command_ends::{End, Fault, TapePaths, read_table, read_tape, read_widths};
-use line_check::{SetError, galley, set};
+use line_check::{SetError, Setting, galley, set};
 use std::alloc::Global;
 use std::io::{Read, Write};
 use std::str;
@@ -52,13 +52,6 @@ fn put_galley<'a, W: Write>(
         return Err(Fault::CannotWrite);
     }
     Ok(())
-}
-
-/// What a tape is set by.
-#[derive(Drop)]
-struct Setting {
-    table: CodeTable,
-    widths: Widths,
 }
 
 /// Reads the code table, and then the widths.

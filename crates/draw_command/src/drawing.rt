@@ -11,27 +11,18 @@ ghost use Rattle.draw_command.specs.Drawing.{WasDrawnAs, WasDrawn, BreaksOffText
 ghost use Rattle.command_ends.specs.Ends.{end_of, IsOfInput};
 ghost use Rattle.command_ends.specs.declared.end.End.TheVariants.{Done};
 
-use code_table::CodeTable;
 use command_ends::{End, Fault, TapePaths, read_table, read_tape, read_widths};
-use line_check::SetFault;
+use line_check::{SetFault, Setting};
 use std::alloc::Global;
 use std::io::{Read, Write};
 use streams::put_all;
 use tape_drawing::{DrawingForm, DrawingOrder, Names, draw_tape};
-use widths::Widths;
 
 /// Where the files lie by which a tape is set.
 #[derive(Clone, Copy)]
 pub struct SettingPaths<'a> {
     pub table: &'a str,
     pub widths: &'a str,
-}
-
-/// What a tape is set by.
-#[derive(Drop)]
-pub(crate) struct Setting {
-    pub(crate) table: CodeTable,
-    pub(crate) widths: Widths,
 }
 
 /// Reads the code table, and then the widths.

@@ -16,11 +16,11 @@ use crate::outputs::put_whole;
 use crate::report::{faults_in, report};
 use code_table::CodeTable;
 use command_ends::{End, Fault, TapePaths, read_table, read_widths};
+use line_check::Setting;
 use line_fit::fit as fit_lines;
 use std::alloc::Global;
 use std::io::{Read, Write};
 use tape_frames::{Tape, Version};
-use widths::Widths;
 
 /// How a story is given.
 #[derive(Clone, Copy, PartialEq, Eq)]
@@ -29,13 +29,6 @@ pub enum Given {
     Tape,
     /// As a text, which is punched first.
     Text,
-}
-
-/// What a tape is set by.
-#[derive(Drop)]
-struct Setting {
-    table: CodeTable,
-    widths: Widths,
 }
 
 /// Reads the code table, and then the widths.

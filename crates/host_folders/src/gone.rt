@@ -4,7 +4,7 @@ ghost use Rattle.std.specs.Prelude.{◌≡◌, IfOk};
 ghost use Rattle.folders.specs.GoneOut.{StartsWith};
 
 use crate::copies::free_path;
-use crate::held::{Held, HeldFile, find, path_in};
+use crate::held::{GoneFile, Held, find, path_in};
 use crate::looks::{id_at, within};
 use crate::maker::Maker;
 use crate::part::Part;
@@ -143,9 +143,9 @@ impl GoneKeeper {
         &mut self,
         rt: &HostRuntime,
         folder: &str,
-        found: HeldFile,
+        found: GoneFile,
     ) -> Result<(), FolderFault> {
-        let HeldFile { held, kept } = found;
+        let GoneFile { held, kept } = found;
         let Some(Kept { numbers, has_head }) = kept else {
             return set_aside(rt, folder);
         };
@@ -260,7 +260,7 @@ impl GoneOut {
         let found = find(plant.maker.rt, plant.releases.path(), own)?;
         let is_other = found.is_some();
         if let Some(
-            HeldFile {
+            GoneFile {
                 held,
                 kept: Some(kept),
             },

@@ -18,7 +18,7 @@ pub(crate) struct Held {
 
 /// The file as it was found, and what it holds for the station; `None` where it is not this station's.
 #[derive(Drop)]
-pub(crate) struct HeldFile {
+pub(crate) struct GoneFile {
     pub(crate) held: Held,
     pub(crate) kept: Option<Kept>,
 }
@@ -44,7 +44,7 @@ pub(crate) fn path_in(rt: &HostRuntime, folder: &str) -> Result<String, FolderFa
 }
 
 /// Opens the plain file at a path and reads it for a station; `None` where it is empty.
-fn read(rt: &HostRuntime, path: &str, own: &Origin) -> Result<Option<HeldFile>, FolderFault> {
+fn read(rt: &HostRuntime, path: &str, own: &Origin) -> Result<Option<GoneFile>, FolderFault> {
     if plain_file(rt, path)?.length > MOST {
         return Err(FolderFault::TooLong);
     }
@@ -58,7 +58,7 @@ fn read(rt: &HostRuntime, path: &str, own: &Origin) -> Result<Option<HeldFile>, 
     }
     let kept = kept_of(rt.alloc(), &bytes, own)?;
     let held = Held { file, id };
-    Ok(Some(HeldFile { held, kept }))
+    Ok(Some(GoneFile { held, kept }))
 }
 
 /// What lies under the name in a folder of releases; `None` where nothing does, or an empty file.
@@ -66,7 +66,7 @@ pub(crate) fn find(
     rt: &HostRuntime,
     folder: &str,
     own: &Origin,
-) -> Result<Option<HeldFile>, FolderFault> {
+) -> Result<Option<GoneFile>, FolderFault> {
     let path = path_in(rt, folder)?;
     if id_at(rt, &path)?.is_none() {
         return Ok(None);

@@ -10,7 +10,7 @@ ghost use Rattle.offers.specs.Turns.{deeds_left};
 ghost use Rattle.offers.specs.UnderWay.{AreHeld, AreAlone, asked_count};
 
 use crate::edits::index_of;
-use crate::known::FileFacts;
+use crate::known::RuleFacts;
 use crate::look::merge;
 use crate::marks::{Marks, mark_all};
 use crate::offer::{FoundOffer, Offer};
@@ -43,7 +43,7 @@ pub struct Book {
     pub(crate) alloc: Global,
     pub(crate) offers: Vec<Offer>,
     /// The numbers that are under way, what was released, and the last look.
-    pub(crate) known: FileFacts,
+    pub(crate) known: RuleFacts,
     /// From which file on it is left to see whether it leaves the offers.
     pub(crate) moves: usize,
     /// From which place on it is left to see whether its file is read or refused: those that are no searches come first, then the searches.
@@ -100,7 +100,7 @@ impl Book {
         Book {
             alloc,
             offers: Vec::new(alloc),
-            known: FileFacts {
+            known: RuleFacts {
                 window: Window::new(),
                 released: BTreeMap::new(alloc),
                 looked: 0,

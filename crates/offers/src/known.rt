@@ -6,7 +6,7 @@ use tape_frames::Entry;
 
 /// What the rules ask about a file beside the file. Times are in milliseconds.
 #[derive(Drop)]
-pub(crate) struct FileFacts {
+pub(crate) struct RuleFacts {
     /// The numbers that are under way.
     pub(crate) window: Window,
     /// The entries of the numbers that were released.

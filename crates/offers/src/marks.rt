@@ -7,7 +7,7 @@ ghost use Rattle.offers.specs.Order.{rank, Rises};
 ghost use Rattle.offers.specs.Rules.{only_of};
 
 use crate::edits::{index_of, request_of};
-use crate::known::FileFacts;
+use crate::known::RuleFacts;
 use crate::moments::Moments;
 use crate::offer::Offer;
 use crate::order::{is_search, rank};
@@ -56,7 +56,7 @@ fn only_of(searches: bool, is_search: bool, moment: Option<u64>) -> Option<u64>
 }
 
 /// What may be done with a file.
-fn mark_of(offer: &Offer, known: &FileFacts) -> FileMark
+fn mark_of(offer: &Offer, known: &RuleFacts) -> FileMark
     ensures moves { result.moves ≡ move_mark known.now.released.entries known.now.still known.now.looked offer.now }
     ensures others { result.others ≡ other_mark false known.now.window known.now.still known.now.looked offer.now }
     ensures sought { result.sought ≡ other_mark true known.now.window known.now.still known.now.looked offer.now }
@@ -162,7 +162,7 @@ impl Marks {
 }
 
 /// Marks all files, of which none is marked.
-pub(crate) fn mark_all(marks: &mut Marks, offers: &[Offer], known: &FileFacts)
+pub(crate) fn mark_all(marks: &mut Marks, offers: &[Offer], known: &RuleFacts)
     requires room { HasRoom offers.now marks.old }
     requires no_moves { AreNone marks.old.moves }
     requires no_others { AreNone marks.old.others }
@@ -182,7 +182,7 @@ pub(crate) fn mark_all(marks: &mut Marks, offers: &[Offer], known: &FileFacts)
 }
 
 /// Marks the file of a place anew, if it is there.
-fn remark_at(marks: &mut Marks, offers: &[Offer], known: &FileFacts, place: u32)
+fn remark_at(marks: &mut Marks, offers: &[Offer], known: &RuleFacts, place: u32)
     requires rises { Rises offers.now }
     requires room { HasRoom offers.now marks.old }
     ensures moves { RemarksPlace (move_mark known.now.released.entries known.now.still known.now.looked) offers.now place marks.old.moves marks.new.moves }
@@ -198,7 +198,7 @@ fn remark_at(marks: &mut Marks, offers: &[Offer], known: &FileFacts, place: u32)
 }
 
 /// Marks the files of a number anew.
-pub(crate) fn remark(marks: &mut Marks, offers: &[Offer], known: &FileFacts, number: Number)
+pub(crate) fn remark(marks: &mut Marks, offers: &[Offer], known: &RuleFacts, number: Number)
     requires rises { Rises offers.now }
     requires room { HasRoom offers.now marks.old }
     ensures moves { RemarksNumber (move_mark known.now.released.entries known.now.still known.now.looked) offers.now number marks.old.moves marks.new.moves }

@@ -6,7 +6,7 @@ ghost use Rattle.std.specs.BTreeMap.{get};
 ghost use Rattle.offers.specs.Rules.{is_whole, is_leaving, leaves_now, moment_of, ask_moment, is_other, has_other, is_under_way, IsLeaving, IsMoveFor, IsOther};
 
 use crate::deed::Deed;
-use crate::known::FileFacts;
+use crate::known::RuleFacts;
 use crate::offer::Offer;
 use crate::stage::Stage;
 use crate::under_way::is_under_way;
@@ -15,7 +15,7 @@ use std::collections::BTreeMap;
 use tape_frames::Entry;
 
 /// Whether two looks found a file as it is, so long apart as is asked: the first that did, and the last look.
-fn is_whole(offer: &Offer, known: &FileFacts) -> bool
+fn is_whole(offer: &Offer, known: &RuleFacts) -> bool
     ensures { result ≡ is_whole known.now.still known.now.looked offer.now }
 {
     has_passed(offer.since, known.still, known.looked)
@@ -49,7 +49,7 @@ fn leave_answered(offer: &Offer) -> Deed
 }
 
 /// How a file leaves the offers that was released under its number, or is a search that was answered, if its moment has come.
-pub(crate) fn leaving(offer: &Offer, known: &FileFacts) -> Option<Deed>
+pub(crate) fn leaving(offer: &Offer, known: &RuleFacts) -> Option<Deed>
     ensures some { IfSome result (IsLeaving (get nat_cmp known.now.released offer.now.request.number) known.now.still known.now.looked offer.now) }
     ensures none { result ≡ None → is_leaving (get nat_cmp known.now.released offer.now.request.number) known.now.still known.now.looked offer.now ≡ false }
 {
@@ -86,7 +86,7 @@ fn moment_of(stage: &Stage, looked: u64) -> Option<u64>
 }
 
 /// Whether the number of a file was released.
-fn is_released(offer: &Offer, known: &FileFacts) -> bool
+fn is_released(offer: &Offer, known: &RuleFacts) -> bool
     ensures { result ≡ is_some (get nat_cmp known.now.released offer.now.request.number) }
 {
     let key = offer.request.number.get();
@@ -94,7 +94,7 @@ fn is_released(offer: &Offer, known: &FileFacts) -> bool
 }
 
 /// Whether a file in its state leaves the offers. What was released is asked only where its moment has come.
-fn leaves_now(offer: &Offer, known: &FileFacts) -> bool
+fn leaves_now(offer: &Offer, known: &RuleFacts) -> bool
     ensures { result ≡ leaves_now (is_some (get nat_cmp known.now.released offer.now.request.number)) known.now.looked offer.now.stage }
 {
     let looked = known.looked;
@@ -106,28 +106,28 @@ fn leaves_now(offer: &Offer, known: &FileFacts) -> bool
 }
 
 /// Whether a file leaves the offers now, whatever its way.
-pub(crate) fn is_leaving(offer: &Offer, known: &FileFacts) -> bool
+pub(crate) fn is_leaving(offer: &Offer, known: &RuleFacts) -> bool
     ensures { result ≡ is_leaving (get nat_cmp known.now.released offer.now.request.number) known.now.still known.now.looked offer.now }
 {
     is_whole(offer, known) && leaves_now(offer, known)
 }
 
 /// Whether the number of a file is under way.
-fn flies(offer: &Offer, known: &FileFacts) -> bool
+fn flies(offer: &Offer, known: &RuleFacts) -> bool
     ensures { result ≡ is_under_way offer.now.request.number known.now.window }
 {
     is_under_way(known.window.numbers(), offer.request.number)
 }
 
 /// Whether the station may be asked for a file, once its moment has come.
-fn is_free(offer: &Offer, known: &FileFacts) -> bool
+fn is_free(offer: &Offer, known: &RuleFacts) -> bool
     ensures { result ≡ (is_whole known.now.still known.now.looked offer.now && not (is_some (get nat_cmp known.now.released offer.now.request.number)) && not (is_under_way offer.now.request.number known.now.window)) }
 {
     is_whole(offer, known) && !is_released(offer, known) && !flies(offer, known)
 }
 
 /// The moment since which the station may be asked for a file.
-pub(crate) fn ask_moment(offer: &Offer, known: &FileFacts) -> Option<u64>
+pub(crate) fn ask_moment(offer: &Offer, known: &RuleFacts) -> Option<u64>
     ensures { result ≡ ask_moment (get nat_cmp known.now.released offer.now.request.number) (is_under_way offer.now.request.number known.now.window) known.now.still known.now.looked offer.now }
 {
     let moment = moment_of(&offer.stage, known.looked);
@@ -139,7 +139,7 @@ pub(crate) fn ask_moment(offer: &Offer, known: &FileFacts) -> Option<u64>
 }
 
 /// Whether a file in its state was not read and is to be, or is to be refused. What is under way is asked only where its moment has come.
-fn is_other(offer: &Offer, known: &FileFacts) -> bool
+fn is_other(offer: &Offer, known: &RuleFacts) -> bool
     ensures { result ≡ is_other (is_under_way offer.now.request.number known.now.window) known.now.looked offer.now.stage }
 {
     let looked = known.looked;
@@ -151,14 +151,14 @@ fn is_other(offer: &Offer, known: &FileFacts) -> bool
 }
 
 /// Whether a file is read or refused now.
-pub(crate) fn has_other(offer: &Offer, known: &FileFacts) -> bool
+pub(crate) fn has_other(offer: &Offer, known: &RuleFacts) -> bool
     ensures { result ≡ has_other (is_under_way offer.now.request.number known.now.window) known.now.still known.now.looked offer.now }
 {
     is_whole(offer, known) && is_other(offer, known)
 }
 
 /// How a file is read or refused now.
-pub(crate) fn other(offer: &Offer, known: &FileFacts) -> Option<Deed>
+pub(crate) fn other(offer: &Offer, known: &RuleFacts) -> Option<Deed>
     ensures some { IfSome result (IsOther (is_under_way offer.now.request.number known.now.window) known.now.still known.now.looked offer.now) }
     ensures none { result ≡ None → has_other (is_under_way offer.now.request.number known.now.window) known.now.still known.now.looked offer.now ≡ false }
 {

@@ -1,6 +1,6 @@
 -- The lines of the log.
 use Rattle.std.specs.Prelude.{ℕ, List, ◌++◌, Option, Some, None, codes, decimal}
-use Rattle.protocol.specs.Ballots.{Ballot}
+use Rattle.ballots.specs.Texts.{ballot_text}
 use Rattle.text_tape.specs.FaultTexts.{error_text}
 use Rattle.refusals.specs.declared.refusal.StepRefusal.{StepRefusal}
 use Rattle.command_ends.specs.RefusalWords.{refusal_text}
@@ -14,10 +14,6 @@ use Rattle.plant_log.specs.declared.event.LogEvent.{LogEvent}
 use Rattle.plant_log.specs.declared.event.LogEvent.TheVariants.{Began, GaveUp, Nothing, Released, Sent, Lost, Done, Replaced}
 use Rattle.plant_log.specs.declared.line.LogLine.{LogLine}
 use Rattle.plant_log.specs.declared.line.LogLine.TheVariants as lines
-
--- a ballot, as `round.owner`
-abbrev pub ballot_text : Ballot → List ℕ
-ballot_text b = decimal b.round ++ (codes "." ++ decimal b.owner)
 
 -- a number and what befell it, as `12 began 1.2`; of a search that was answered its file
 abbrev pub event_text : LogEvent → List ℕ

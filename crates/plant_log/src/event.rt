@@ -1,7 +1,7 @@
 //! What befalls the numbers of a plant.
 
 ghost use Rattle.std.specs.Prelude.{◌≡◌, Some};
-ghost use Rattle.plant_log.specs.Words.{ballot_text, event_text};
+ghost use Rattle.plant_log.specs.Words.{event_text};
 
 use ballots::Ballot;
 use std::fmt;
@@ -27,38 +27,14 @@ pub enum LogEvent {
     Replaced { number: u32 },
 }
 
-/// A ballot, as `1.2`.
-#[derive(Clone, Copy)]
-struct BallotText(Ballot);
-
-impl fmt::Display for BallotText {
-    ghost output = { λ b. Some (ballot_text b.0) };
-
-    fn fmt<W: fmt::Write>(&self, f: &mut fmt::Formatter<W>) -> fmt::Result {
-        write!(f, "{}.{}", self.0.round(), self.0.owner().get())
-    }
-}
-
 impl fmt::Display for LogEvent {
     ghost output = { λ e. Some (event_text e) };
 
     fn fmt<W: fmt::Write>(&self, f: &mut fmt::Formatter<W>) -> fmt::Result {
         match *self {
-            LogEvent::Began { number, ballot } => write!(
-                f,
-                "{number} began {}",
-                BallotText(ballot)
-            ),
-            LogEvent::GaveUp { number, ballot } => write!(
-                f,
-                "{number} gave-up {}",
-                BallotText(ballot)
-            ),
-            LogEvent::Nothing { number, ballot } => write!(
-                f,
-                "{number} nothing {}",
-                BallotText(ballot)
-            ),
+            LogEvent::Began { number, ballot } => write!(f, "{number} began {ballot}"),
+            LogEvent::GaveUp { number, ballot } => write!(f, "{number} gave-up {ballot}"),
+            LogEvent::Nothing { number, ballot } => write!(f, "{number} nothing {ballot}"),
             LogEvent::Released { number } => write!(f, "{number} released"),
             LogEvent::Sent { number } => write!(f, "{number} sent"),
             LogEvent::Lost { number } => write!(f, "{number} lost"),

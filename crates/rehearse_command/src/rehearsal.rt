@@ -39,7 +39,7 @@ struct Rehearsal {
 
 /// What each member sets tapes by.
 #[derive(Clone, Copy)]
-struct Setting<'a> {
+struct MemberSetting<'a> {
     table: &'a CodeTable,
     widths: &'a Widths,
 }
@@ -47,7 +47,7 @@ struct Setting<'a> {
 /// So many members, each with a copy of this table and of these widths.
 fn members_of(
     alloc: Global,
-    setting: Setting<'_>,
+    setting: MemberSetting<'_>,
     count: u8,
 ) -> Result<Vec<(CodeTable, Widths)>, AllocError>
     ensures { IfOk result (λ members. All (λ member. member ≡ (setting.entry.table.now, setting.entry.widths.now)) members.items) }
@@ -64,7 +64,7 @@ fn members_of(
 /// A circuit of so many members in this version, in which nothing has happened yet.
 fn stage_of<'a>(
     alloc: Global,
-    setting: Setting<'_>,
+    setting: MemberSetting<'_>,
     line: usize,
     count: u8,
     version: Version,
@@ -167,7 +167,7 @@ impl Rehearsal {
     fn turn_to<'a>(
         &mut self,
         alloc: Global,
-        setting: Setting<'_>,
+        setting: MemberSetting<'_>,
         line: usize,
         version: Version,
     ) -> Result<(), Fault<'a>>
@@ -216,7 +216,7 @@ impl Rehearsal {
 /// Sets the stage by the first line that is not ignored. Its members are in version 1 until the next line says else.
 fn set_stage<'a>(
     alloc: Global,
-    setting: Setting<'_>,
+    setting: MemberSetting<'_>,
     line: usize,
     order: Result<Order, ScriptFault>,
 ) -> Result<Rehearsal, Fault<'a>>
@@ -235,7 +235,7 @@ fn set_stage<'a>(
 /// Plays a line on the stage that is set.
 fn play_order<'a, W: Write>(
     alloc: Global,
-    setting: Setting<'_>,
+    setting: MemberSetting<'_>,
     stage: &mut Rehearsal,
     line: usize,
     order: Result<Order, ScriptFault>,
@@ -259,7 +259,7 @@ fn play_order<'a, W: Write>(
 /// Plays one line that is not ignored. The first such line sets the stage.
 fn play_line<'a, W: Write>(
     alloc: Global,
-    setting: Setting<'_>,
+    setting: MemberSetting<'_>,
     stage: &mut Option<Rehearsal>,
     line: usize,
     words: &[u8],
@@ -289,7 +289,7 @@ fn lines_of<'a>(alloc: Global, script: &'a [u8]) -> Result<Vec<&'a [u8]>, AllocE
 /// Plays lines, up to the first fault. Where there is none, the memory of the circuit is not given back.
 fn play_lines<'a, W: Write>(
     alloc: Global,
-    setting: Setting<'_>,
+    setting: MemberSetting<'_>,
     lines: &[&[u8]],
     out: &mut W,
 ) -> Result<(), Fault<'a>>
@@ -314,7 +314,7 @@ fn play_lines<'a, W: Write>(
 /// Plays all lines, up to the first fault.
 fn play_all<'a, W: Write>(
     alloc: Global,
-    setting: Setting<'_>,
+    setting: MemberSetting<'_>,
     script: &[u8],
     out: &mut W,
 ) -> Result<(), Fault<'a>>
@@ -350,7 +350,7 @@ fn rehearsed<'a, R: Read, S: Read, T: Read, W: Write>(
     let table = read_table(alloc, table, paths.table)?;
     let widths = read_widths(alloc, widths, paths.widths)?;
     let script = read_text(alloc, script, paths.script)?;
-    let setting = Setting {
+    let setting = MemberSetting {
         table: &table,
         widths: &widths,
     };

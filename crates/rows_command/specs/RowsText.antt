@@ -4,16 +4,13 @@ use Rattle.std.specs.Io.KnownBytes.{Appends}
 use Rattle.protocol.specs.Ballots.{Ballot}
 use Rattle.protocol.specs.Rows.{Vote, Row}
 use Rattle.protocol.specs.Versions.{Version, Two}
+use Rattle.ballots.specs.Texts.{ballot_text}
 use Rattle.streams.specs.Fronts.{AppendsFront}
 use Rattle.saved_rows.specs.Saved.{Saved, IsListOf}
 use Rattle.saved_rows.specs.declared.identity.Identity.{Identity}
 use Rattle.command_ends.specs.EntryText.{entry_text}
 use Rattle.command_ends.specs.declared.end.End.{End}
 use Rattle.command_ends.specs.declared.end.End.TheVariants.{Done}
-
--- a ballot is its round, a dot and its owner
-abbrev pub ballot_text : Ballot → List ℕ
-ballot_text b = decimal b.round ++ (codes "." ++ decimal b.owner)
 
 -- a promise is its ballot, or a mark where there is none
 abbrev pub promise_text : Option Ballot → List ℕ

@@ -1,7 +1,8 @@
 //! The lines that `rows` writes.
 
 ghost use Rattle.std.specs.Prelude.{◌≡◌, IfOk, option_copied, string_bytes};
-ghost use Rattle.rows_command.specs.RowsText.{ballot_text, promise_text, vote_text, row_line, station_line};
+ghost use Rattle.ballots.specs.Texts.{ballot_text};
+ghost use Rattle.rows_command.specs.RowsText.{promise_text, vote_text, row_line, station_line};
 
 use ballots::{Ballot, Number, Row, Vote};
 use command_ends::entry_text;
@@ -11,9 +12,7 @@ use std::alloc::{AllocError, Global};
 fn ballot_text(alloc: Global, ballot: Ballot) -> Result<String, AllocError>
     ensures { IfOk result (λ t. string_bytes t ≡ ballot_text ballot) }
 {
-    let round = ballot.round();
-    let owner = ballot.owner().get();
-    format!(in alloc; "{round}.{owner}")
+    format!(in alloc; "{ballot}")
 }
 
 fn promise_text(alloc: Global, promise: Option<Ballot>) -> Result<String, AllocError>

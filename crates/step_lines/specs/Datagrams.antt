@@ -5,7 +5,7 @@ use Rattle.protocol.specs.Packets.{Body, Prepare, Promise, Accept, Accepted, Nac
 use Rattle.protocol.specs.Circuit.{Datagram}
 use Rattle.packets.specs.Reading.{packet_at}
 use Rattle.packets.specs.declared.fault.PacketFault.{PacketFault}
-use Rattle.step_lines.specs.Notes.{ballot_text}
+use Rattle.ballots.specs.Texts.{ballot_text}
 
 -- the word for what a packet says
 abbrev pub kind_word : Body → List ℕ

@@ -1,12 +1,9 @@
 -- The words for what a station did in a step.
 use Rattle.std.specs.Prelude.{ℕ, List, ◌++◌, Option, Some, None, codes, decimal}
 use Rattle.protocol.specs.Ballots.{Ballot}
+use Rattle.ballots.specs.Texts.{ballot_text}
 use Rattle.node_core.specs.declared.turn.Note.{Note}
 use Rattle.node_core.specs.declared.turn.Note.TheVariants as notes
-
--- a ballot, as `round.owner`
-abbrev pub ballot_text : Ballot → List ℕ
-ballot_text b = decimal b.round ++ (codes "." ++ decimal b.owner)
 
 -- the word of a note
 abbrev pub note_word : Note → List ℕ

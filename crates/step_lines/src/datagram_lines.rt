@@ -7,7 +7,6 @@ ghost use Rattle.streams.specs.Fronts.{AppendsFront};
 ghost use Rattle.step_lines.specs.Datagrams.{datagram_line, datagrams_text, kind_word, packet_line, route_text};
 
 use crate::lines::put_line;
-use crate::notes::BallotText;
 use command_ends::Fault;
 use packets::{BodyRef, PacketRef, decode};
 use station::Datagram;
@@ -54,7 +53,7 @@ fn packet_line(line: &mut String, k: usize, packet: &PacketRef<'_>) -> Result<()
         to: packet.to().get(),
     };
     let number = packet.number().get();
-    let ballot = BallotText(packet.ballot());
+    let ballot = packet.ballot();
     line.clear();
     write!(line, " #{k} {kind} {route} {number} {ballot}\n")
 }

@@ -1,7 +1,7 @@
 //! The words of notes, as they are printed.
 
 ghost use Rattle.std.specs.Prelude.{◌≡◌, Some};
-ghost use Rattle.step_lines.specs.Notes.{ballot_text, note_ballot, note_text, note_word};
+ghost use Rattle.step_lines.specs.Notes.{note_ballot, note_text, note_word};
 
 use ballots::Ballot;
 use node_core::Note;
@@ -61,18 +61,6 @@ fn ballot_of(note: Note) -> Option<Ballot>
     }
 }
 
-/// A ballot, as `1.2`.
-#[derive(Clone, Copy)]
-pub(crate) struct BallotText(pub Ballot);
-
-impl fmt::Display for BallotText {
-    ghost output = { λ b. Some (ballot_text b.0) };
-
-    fn fmt<W: fmt::Write>(&self, f: &mut fmt::Formatter<W>) -> fmt::Result {
-        write!(f, "{}.{}", self.0.round(), self.0.owner().get())
-    }
-}
-
 /// What a station did in a step, as `began 1.1`.
 #[derive(Clone, Copy)]
 pub struct NoteText(pub Note);
@@ -83,7 +71,7 @@ impl fmt::Display for NoteText {
     fn fmt<W: fmt::Write>(&self, f: &mut fmt::Formatter<W>) -> fmt::Result {
         let word = word_of(self.0);
         match ballot_of(self.0) {
-            // The ballot as `BallotText` has it, in one piece: of a rehearsal this is the line that is written most.
+            // The ballot as it is shown, in one piece: of a rehearsal this is the line that is written most.
             Some(ballot) => write!(f, "{word} {}.{}", ballot.round(), ballot.owner().get()),
             None => f.write_str(word),
         }
