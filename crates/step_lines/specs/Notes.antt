@@ -1,5 +1,5 @@
 -- The words for what a station did in a step.
-use Rattle.std.specs.Prelude.{ℕ, List, ◌++◌, Option, Some, None, codes, decimal}
+use Rattle.std.specs.Prelude.{ℕ, List, ◌++◌, Option, Some, None, codes}
 use Rattle.protocol.specs.Ballots.{Ballot}
 use Rattle.ballots.specs.Texts.{ballot_text}
 use Rattle.node_core.specs.declared.turn.Note.{Note}
