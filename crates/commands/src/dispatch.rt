@@ -18,7 +18,6 @@ use command_ends::{End, ScriptPaths, TapePaths};
 use command_line::{Asked, Telling, print_version};
 use draw_command::{SettingPaths, chart, draw};
 use editor_commands::StoryPaths;
-use opened_files::InputFile;
 use plant_commands::{check_config, stop};
 use reel_commands::ChartPaths;
 use rehearse_command::rehearse;
@@ -26,6 +25,7 @@ use row_files::RowFiles;
 use station_commands::{create, run, serve};
 use status_command::{Shape, status};
 use std::io::{Read, Write};
+use streams::InputFile;
 use tape_drawing::DrawingForm;
 
 /// Checks the tape at its path by the table and the widths at theirs.

@@ -4,9 +4,9 @@ use crate::story::Story;
 use code_table::Name;
 use command_ends::{End, Fault, TapePaths};
 use editor_commands::{Form, Given, StoryPaths, fit, punch, spell};
-use opened_files::InputFile;
 use std::alloc::Global;
 use std::io::{Read, Write};
+use streams::InputFile;
 use tape_frames::Version;
 use text_words::{LigatureError, ligatures_of};
 

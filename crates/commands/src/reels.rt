@@ -4,11 +4,11 @@ use crate::story::Story;
 use crate::tapes::HostTapes;
 use command_ends::{End, Fault};
 use command_line::ReelPlan;
-use opened_files::InputFile;
 use reel::{Cutting, Levels, LevelsFault, levels_of, mask_of};
 use reel_commands::{ChartPaths, Reel, ReelFault, Survey, end_by, import, put_import};
 use std::alloc::Global;
 use std::io::{Read, Write};
+use streams::InputFile;
 
 /// What is told where a mask has not six bits.
 const NO_MASK: &str = "usage: --mask takes a byte of which six bits are set, as 0x3f";

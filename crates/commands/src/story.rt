@@ -1,8 +1,8 @@
 //! The tape or the text that a command is given.
 
-use opened_files::InputFile;
 use std::io;
 use std::io::Read;
+use streams::InputFile;
 
 /// A tape or a text: of a file, or of standard input.
 #[derive(Drop)]

@@ -6,10 +6,10 @@ use crate::folders_check::put_folders;
 use crate::key_check::put_key;
 use command_ends::{End, Fault, read_text};
 use configuration::{Config, ConfigFault, Resolver, faults_of, find_hosts};
-use opened_files::InputFile;
 use std::alloc::Global;
 use std::io::Write;
 use std::str;
+use streams::InputFile;
 
 /// Writes all that is found about the configuration at a path; whether nothing of it is a fault.
 fn put_all<'a, W: Write>(

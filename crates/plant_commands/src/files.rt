@@ -4,9 +4,9 @@ use code_table::CodeTable;
 use command_ends::{Fault, read_table, read_widths};
 use config_check::{elevate_frame, fitting_frame};
 use configuration::Config;
-use opened_files::InputFile;
 use std::io::{ErrorKind, Write};
 use std::{fs, io};
+use streams::InputFile;
 use widths::Widths;
 
 /// What a file was read as, or the fault that is told of it. Want of memory is none of the file's.

@@ -6,8 +6,8 @@ use command_ends::{End, Fault};
 use configuration::{Config, ConfigInput, NoLookUp, read_config};
 use folders::FolderFault;
 use host_folders::{await_end, lay_stop};
-use opened_files::InputFile;
 use std::io::Write;
+use streams::InputFile;
 
 /// How many seconds it is waited for a station to end. It copies its log into its row file, which has a thousand pages at most.
 const SECONDS: u32 = 30;

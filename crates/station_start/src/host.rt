@@ -6,10 +6,10 @@ ghost use Rattle.seals.specs.declared.opening.Keys.{Keys as KeysValue};
 ghost use Rattle.station_start.specs.Wires.{IsHostWire};
 
 use crate::host_wire::HostWire;
-use opened_files::InputFile;
 use seals::Keys;
 use std::io;
 use std::io::Read;
+use streams::InputFile;
 use wire::{Address, Wire};
 
 /// A machine with files of texts, and a network on which wires are opened.

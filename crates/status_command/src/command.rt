@@ -10,9 +10,9 @@ use crate::shown::shown;
 use crate::watching::{FRESH, watch};
 use command_ends::End;
 use configuration::{Config, ConfigInput, NoLookUp, read_config};
-use opened_files::InputFile;
 use plant_status::{Health, Status, ages_of, health_of, seconds_now};
 use std::io::{IsTerminal, Write};
+use streams::InputFile;
 
 /// How a status is printed.
 #[derive(Clone, Copy)]

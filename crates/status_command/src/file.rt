@@ -3,10 +3,10 @@
 use crate::fault::StatusFault;
 use command_ends::{Fault, read_text};
 use configuration::Config;
-use opened_files::InputFile;
 use plant_status::{Status, read};
 use std::io::ErrorKind;
 use std::{fs, str};
+use streams::InputFile;
 
 /// Whether there is a plain file at a path.
 fn look_at(rt: &HostRuntime, path: &str) -> Result<(), StatusFault> {

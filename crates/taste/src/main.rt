@@ -3,9 +3,9 @@
 #![tactic(auto)]
 
 use command_ends::ScriptPaths;
-use opened_files::InputFile;
 use rehearse_command::rehearse;
 use std::process::ExitCode;
+use streams::InputFile;
 
 const STORY: ScriptPaths<'static> = ScriptPaths {
     table: "codes.toml",
