@@ -112,8 +112,7 @@ impl Healing {
     pub fn tell(&mut self, number: Number, news: NumberNews, now: u64) -> Result<(), AllocError>
         ensures ok { OnOk result (IsTold self.old self.new number news now) }
         ensures err { OnErr result ((n : ℕ) → case_at self.new n ≡ case_at self.old n) }
-        ensures gone { self.new.gone ≡ self.old.gone }
-        ensures own { self.new.own ≡ self.old.own }
+        ensures rest { self.new ≡ record self.old { cases = self.new.cases; waiting = self.new.waiting } }
     {
         if self.gone.contains(number) {
             return Ok(());
@@ -155,9 +154,7 @@ impl Healing {
         ensures some { IfSome result (λ number. StageIsPut self.old.cases self.new.cases number Sought) }
         ensures none { result ≡ None → self.new.cases ≡ self.old.cases }
         ensures rests { result ≡ None → (8 ≤ length self.new.sought) ⊎ NoneIsRipe self.old.cases now }
-        ensures gone { self.new.gone ≡ self.old.gone }
-        ensures own { self.new.own ≡ self.old.own }
-        ensures asked { self.new.asked ≡ self.old.asked }
+        ensures rest { self.new ≡ record self.old { cases = self.new.cases; sought = self.new.sought } }
     {
         let sought = still_sought(&self.cases, &self.sought);
         self.sought = sought;
@@ -173,11 +170,7 @@ impl Healing {
     /// A number that was recalled and that nobody has a vote of after 2 s is left.
     fn settle_one(&mut self, number: u32, now: u64)
         ensures cases { CaseIsPut self.old.cases self.new.cases number (option_map (settled now) (case_at self.old number)) }
-        ensures gone { self.new.gone ≡ self.old.gone }
-        ensures own { self.new.own ≡ self.old.own }
-        ensures asked { self.new.asked ≡ self.old.asked }
-        ensures recalled { self.new.recalled ≡ self.old.recalled }
-        ensures sought { self.new.sought ≡ self.old.sought }
+        ensures rest { self.new ≡ record self.old { cases = self.new.cases } }
     {
         if let Some(case) = case_of(&self.cases, number)
             && case.is_over(now)
@@ -190,10 +183,7 @@ impl Healing {
     /// Of the numbers that were recalled those that nobody has a vote of after 2 s are left.
     fn settle(&mut self, now: u64)
         ensures cases { (n : ℕ) → case_at self.new n ≡ option_map (settled now) (case_at self.old n) }
-        ensures gone { self.new.gone ≡ self.old.gone }
-        ensures own { self.new.own ≡ self.old.own }
-        ensures asked { self.new.asked ≡ self.old.asked }
-        ensures sought { self.new.sought ≡ self.old.sought }
+        ensures rest { self.new ≡ record self.old { cases = self.new.cases; recalled = self.new.recalled } }
     {
         for place in 0..self.recalled.len() {
             let number = self.recalled[place];
@@ -207,10 +197,7 @@ impl Healing {
     fn recall_one(&mut self, number: u32, now: u64)
         requires { length self.old.recalled < 64 }
         ensures cases { CaseIsPut self.old.cases self.new.cases number (option_map (with_stage (Recalled now)) (case_at self.old number)) }
-        ensures gone { self.new.gone ≡ self.old.gone }
-        ensures own { self.new.own ≡ self.old.own }
-        ensures asked { self.new.asked ≡ self.old.asked }
-        ensures sought { self.new.sought ≡ self.old.sought }
+        ensures rest { self.new ≡ record self.old { cases = self.new.cases; waiting = self.new.waiting; recalled = self.new.recalled } }
         ensures len { length self.new.recalled ≡ length self.old.recalled + 1 }
     {
         self.recalled.push(number);
@@ -224,10 +211,7 @@ impl Healing {
         ensures fits { IfOk result (λ r. IfSome r (λ batch. Rise 0 batch × (1 ≤ length batch) × (length batch ≤ 64))) }
         ensures cases { IfOk result (λ r. IfSome r (λ batch. AreRecalled batch now self.old.cases self.new.cases)) }
         ensures none { IfOk result (λ r. r ≡ None → self.new.cases ≡ self.old.cases) }
-        ensures gone { self.new.gone ≡ self.old.gone }
-        ensures own { self.new.own ≡ self.old.own }
-        ensures asked { self.new.asked ≡ self.old.asked }
-        ensures sought { self.new.sought ≡ self.old.sought }
+        ensures rest { self.new ≡ record self.old { cases = self.new.cases; waiting = self.new.waiting; recalled = self.new.recalled } }
     {
         let room = MOST_RECALLED - self.recalled.len();
         let mut few = take_due(&self.cases, &mut self.queue, room, now)?;
@@ -254,9 +238,7 @@ impl Healing {
         ensures becomes { is_held self.old waits ≡ false → IfOk result (λ w. Becomes self.old self.new now w) }
         ensures seeks { is_held self.old waits ≡ false → IfOk result (λ w. SeeksAll self.old self.new now w) }
         ensures held { is_held self.old waits ≡ true → (result ≡ Ok None) × (self.new ≡ self.old) }
-        ensures gone { self.new.gone ≡ self.old.gone }
-        ensures own { self.new.own ≡ self.old.own }
-        ensures asked { self.new.asked ≡ self.old.asked }
+        ensures rest { self.new ≡ record self.old { cases = self.new.cases; waiting = self.new.waiting; recalled = self.new.recalled; sought = self.new.sought; taken = self.new.taken } }
     {
         if waits && self.taken < MOST_BEFORE_NEXT {
             return Ok(None);

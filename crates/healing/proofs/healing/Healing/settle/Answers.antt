@@ -14,11 +14,7 @@ loop-place-preserved c =
       changed = next_changed (settled c.args.now) (settled_twice c.args.now) c.args.self.now.recalled place _ _ _ _
           (omega (arith, test, c.len-place-end.ensures.value, all))
           (ap (λ (l : List ℕ). get_or l place 0)
-          (c.deref.ensures.0 ∙ ap (λ (h : HealingValue). h.recalled) c.self-in-loop-place.view_is ∙ c.loop-place.invariant.recalled))
+          (c.deref.ensures.0 ∙ ap (λ (h : HealingValue). h.recalled) c.self-in-loop-place.view_is ∙ ap (λ (h : HealingValue). h.recalled) c.loop-place.invariant.rest))
           c.loop-place.invariant.changed c.settle_one.ensures.cases;
-      gone = c.settle_one.ensures.gone ∙ c.loop-place.invariant.gone;
-      own = c.settle_one.ensures.own ∙ c.loop-place.invariant.own;
-      asked = c.settle_one.ensures.asked ∙ c.loop-place.invariant.asked;
-      sought = c.settle_one.ensures.sought ∙ c.loop-place.invariant.sought;
-      recalled = c.settle_one.ensures.recalled ∙ c.loop-place.invariant.recalled;
+      rest = c.settle_one.ensures.rest ∙ ap (λ (h : HealingValue). record h { cases = c.settle_one.new.self.cases }) c.loop-place.invariant.rest;
     }
