@@ -101,23 +101,22 @@ fn justified(
     alloc: Global,
     items: &[Item],
     widths: &Widths,
-    fixed: u32,
-    bands: u32,
+    tally: Tally,
 ) -> Result<Slug, LineFault>
-    requires fixed { (fixed ≡ fixed_of items.now) × (fixed ≤ 65535 * most_frames) }
-    requires bands { (bands ≡ bands_of items.now) × (bands ≤ most_frames) }
+    requires fixed { (tally.fixed ≡ fixed_of items.now) × (tally.fixed ≤ 65535 * most_frames) }
+    requires bands { (tally.bands ≡ bands_of items.now) × (tally.bands ≤ most_frames) }
     requires fits { least_width widths.now items.now ≤ widths.now.measure }
     ensures slug { IfOk result (λ slug. IsJustified widths.now items.now slug) }
     ensures fault { IfErr result (λ e. IsMisfit (looseness widths.now items.now None) e) }
 {
     let measure = u32::from(widths.measure());
-    let greatest = fixed + bands * u32::from(widths.band_max());
+    let greatest = tally.fixed + tally.bands * u32::from(widths.band_max());
     if greatest < measure {
         return Err(LineFault::Loose {
             under: measure - greatest,
         });
     }
-    let (width, wider) = share(measure - fixed, bands);
+    let (width, wider) = share(measure - tally.fixed, tally.bands);
     let items = sorts_of(alloc, items, width, wider)?;
     Ok(Slug {
         items,
@@ -127,12 +126,20 @@ fn justified(
     })
 }
 
+/// What a quad fills a line out with: so much blank, in units.
+#[derive(Clone, Copy)]
+struct Margin {
+    quad: Quad,
+    blank: u16,
+}
+
 /// The blank on the left and on the right.
-fn sides(quad: Quad, blank: u16) -> (u16, u16)
-    ensures whole { result.0 + result.1 ≡ blank }
-    ensures stands { StandsAt quad result.0 result.1 }
+fn sides(margin: Margin) -> (u16, u16)
+    ensures whole { result.0 + result.1 ≡ margin.blank }
+    ensures stands { StandsAt margin.quad result.0 result.1 }
 {
-    match quad {
+    let blank = margin.blank;
+    match margin.quad {
         Quad::Left => (0, blank),
         Quad::Center => (blank / 2, blank - blank / 2),
         Quad::Right => (blank, 0),
@@ -144,18 +151,17 @@ fn quadded(
     alloc: Global,
     items: &[Item],
     widths: &Widths,
-    quad: Quad,
-    blank: u16,
+    margin: Margin,
 ) -> Result<Slug, LineFault>
-    requires { blank + least_width widths.now items.now ≡ widths.now.measure }
-    ensures slug { IfOk result (λ slug. (map item_of_sort slug.items ≡ items.now) × Quads widths.now (fixed_of items.now) quad slug) }
+    requires { margin.blank + least_width widths.now items.now ≡ widths.now.measure }
+    ensures slug { IfOk result (λ slug. (map item_of_sort slug.items ≡ items.now) × Quads widths.now (fixed_of items.now) margin.quad slug) }
     ensures memory { IfErr result (λ e. e ≡ OutOfMemory) }
 {
-    let (left, right) = sides(quad, blank);
+    let (left, right) = sides(margin);
     let items = sorts_of(alloc, items, widths.band_min(), 0)?;
     Ok(Slug {
         items,
-        kind: kind_of(quad),
+        kind: kind_of(margin.quad),
         left,
         right,
     })
@@ -182,16 +188,19 @@ pub fn check(alloc: Global, line: &Line, widths: &Widths) -> Result<Slug, LineFa
     ensures fault { IfErr result (λ e. IsMisfit (misfit widths.now line.now) e) }
 {
     let items = line.items.as_slice();
-    let Tally { fixed, bands } = tally_of(items);
+    let tally = tally_of(items);
     let measure = u32::from(widths.measure());
-    let least = fixed + bands * u32::from(widths.band_min());
+    let least = tally.fixed + tally.bands * u32::from(widths.band_min());
     if least > measure {
         return Err(LineFault::Overset {
             over: least - measure,
         });
     }
     match line.quad {
-        None => justified(alloc, items, widths, fixed, bands),
-        Some(quad) => quadded(alloc, items, widths, quad, (measure - least) as u16),
+        None => justified(alloc, items, widths, tally),
+        Some(quad) => {
+            let blank = (measure - least) as u16;
+            quadded(alloc, items, widths, Margin { quad, blank })
+        }
     }
 }

@@ -11,9 +11,9 @@ returns-clause-slug c =
     let most = rw (c.from-measure.ensures, c.measure.ensures.value, c.requires.fixed.0, c.requires.bands.0, c.from.ensures, c.band_max.ensures.value) at c.if-greatest-measure.false in
     let whole = rw (c.requires.bands.0) at c.share-width.ensures.whole in
     let less = rw (c.requires.bands.0) at c.share-width.ensures.less in
-    let rest : c.from-measure.result - c.args.fixed ≡ widths.measure - fixed_of line = rw (c.from-measure.ensures, c.measure.ensures.value, c.requires.fixed.0) refl in
+    let rest : c.from-measure.result - c.args.tally.fixed ≡ widths.measure - fixed_of line = rw (c.from-measure.ensures, c.measure.ensures.value, c.requires.fixed.0) refl in
     rw c.in_ok-items.ensures (
       rw (le-ltb (greatest_width widths line) widths.measure most) refl,
       items_kept c.share-width.result.0 c.share-width.result.1 line,
-      justifies widths line c.share-width.result.0 c.share-width.result.1 (c.from-measure.result - c.args.fixed) c.requires.fits most rest whole less,
+      justifies widths line c.share-width.result.0 c.share-width.result.1 (c.from-measure.result - c.args.tally.fixed) c.requires.fits most rest whole less,
     )

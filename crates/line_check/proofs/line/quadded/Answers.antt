@@ -9,4 +9,4 @@ returns-clause-slug c =
     let line = c.args.items.now in
     let whole : c.sides-left.result.0 + c.sides-left.result.1 + least_width widths line ≡ widths.measure = omega (arith, c.sides-left.ensures.whole, c.requires) in
     rw (c.in_ok-items.ensures, c.band_min.ensures.value, c.kind_of.ensures)
-    (items_kept widths.band_min 0 line, quads_line widths line c.args.quad c.sides-left.result.0 c.sides-left.result.1 whole c.sides-left.ensures.stands)
+    (items_kept widths.band_min 0 line, quads_line widths line c.args.margin.quad c.sides-left.result.0 c.sides-left.result.1 whole c.sides-left.ensures.stands)
