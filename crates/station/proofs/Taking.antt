@@ -185,9 +185,10 @@ module _ {R : Type 0} (x : Sight R) (e : said.Event) (old : Station R) (marks : 
 
   -- what the save answered, handed out where it is no refusal
   pub handed_on :
-      (r : Result Answer StepRefusal) → is_err r ≡ false → Saves x old.table old.widths n row move mid new r → Ends x e old (record old { rows = new; speaker = speaker }) marks r
-  handed_on (Ok a) is s = done a s
-  handed_on (Err r) is s = let bad : true ≡ false = is in absurd cc
+      (after : Station R) (r : Result Answer StepRefusal) → is_err r ≡ false → after ≡ record old { rows = new; speaker = speaker }
+      → Saves x old.table old.widths n row move mid new r → Ends x e old after marks r
+  handed_on after (Ok a) is same s = subst (λ (t : Station R). Done x e old t marks a) (sym same) (done a s)
+  handed_on after (Err r) is same s = let bad : true ≡ false = is in absurd cc
 
   -- and where it is one, of a station that the code stopped
   pub stopped_at :

@@ -71,6 +71,19 @@ pub record IsFixed {R : Type 0} (old new : Station R) : Type 0 where
   pub table : new.table ≡ old.table
   pub widths : new.widths ≡ old.widths
 
+-- the station forgets what it took in, and takes no step until a restart, or an upgrade that is Ok; its rows stay
+pub record Halts {R : Type 0} (old new : Station R) : Type 0 where
+  pub stands : StandsFor new.speaker.core []
+  pub wire : new.speaker.wire ≡ old.speaker.wire
+  pub fixed : IsFixed old new
+  pub stopped : new ≡ record old { speaker = new.speaker; stopped = true }
+
+-- whatever a step does with its rows: their version stays, what is kept now was kept before, and what was made for the store stays so
+pub record StaysMade {R : Type 0} (g : Ghosts R) (old new : R) : Type 0 where
+  pub version : g.version new ≡ g.version old
+  pub was_kept : g.kept new → g.kept old
+  pub made : g.made old → g.made new
+
 -- the station with these rows
 abbrev pub with_rows : {R : Type 0} → Station R → R → Station R
 with_rows s rows = record s { rows = rows }

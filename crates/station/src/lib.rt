@@ -15,4 +15,4 @@ mod upgrade;
 pub use answer::{Answer, Release};
 pub use datagram::Datagram;
 pub use refusals::StepRefusal;
-pub use station::{BadMember, Station};
+pub use station::{BadMember, Membership, Station};

@@ -7,22 +7,21 @@ ghost use Rattle.tape_frames.specs.Entries.{owned_entry, version_of};
 ghost use Rattle.saved_rows.specs.Saved.{HasPromise, RowFits, Rises};
 ghost use Rattle.node_core.specs.Turns.{sent};
 ghost use Rattle.station.specs.Speaking.{AllFit, TurnSpeaks};
-ghost use Rattle.station.specs.Stations.{sight};
+ghost use Rattle.station.specs.Stations.{StaysMade, sight};
 ghost use Rattle.station.specs.Readiness.{Carries, IsReleased, IsNumbered, RowSaved, RowBalked, Saves, WasChecked};
 ghost use Rattle.station.specs.Steps.{OnStore, IfStore, tears, is_early};
 
 use crate::answer::{Answer, Release};
 use crate::datagram::Datagram;
-use crate::setting::{Checked, set_entry};
+use crate::setting::Checked;
+use crate::station::Station;
 use ballots::{Number, Row};
-use code_table::CodeTable;
 use node_core::{Outgoing, Turn};
 use packets::{PacketRef, encode};
 use refusals::StepRefusal;
 use saved_rows::{Rows, RowsFault};
 use std::alloc::{AllocError, Global};
 use tape_frames::{Entry, Version};
-use widths::Widths;
 
 /// The datagram of a packet, spelled in this version.
 fn spell(alloc: Global, packet: &PacketRef<'_>, version: Version) -> Result<Datagram, AllocError>
@@ -58,38 +57,13 @@ fn spell_all(
     Ok(out)
 }
 
-/// A released entry, set by the code table and the widths. No memory is taken where there is none.
-fn release(
-    alloc: Global,
-    table: &CodeTable,
-    widths: &Widths,
-    number: Number,
-    entry: Option<Entry>,
-    checked: Option<Checked<'_>>,
-) -> Result<Option<Release>, AllocError>
-    requires { WasChecked table.now widths.now checked }
-    ensures released { IfOk result (IsReleased table.now widths.now number (option_map owned_entry entry)) }
-    ensures numbered { IfOk result IsNumbered }
-    ensures memory { OnErr result (entry ≡ None → ⊥) }
-{
-    let Some(entry) = entry else {
-        return Ok(None);
-    };
-    let set = set_entry(alloc, table, widths, &entry, checked)?;
-    // A number is in its range.
-    let _range = number.get();
-    Ok(Some(Release { number, entry, set }))
-}
-
 /// Saves a row, where there is one.
 fn save_row<R: Rows>(rows: &mut R, number: Number, row: &Option<Row>) -> Result<(), RowsFault>
     requires promised { IfSome row.now HasPromise }
     requires fits { IfSome row.now (RowFits (R.version rows.old)) }
     ensures saved { R.kept rows.new → OnOk result (RowSaved (sight R.Rows) number row.now rows.old rows.new) }
     ensures balked { R.kept rows.new → IfErr result (λ fault. RowBalked (sight R.Rows) number row.now fault rows.old rows.new) }
-    ensures version { R.version rows.new ≡ R.version rows.old }
-    ensures was_kept { R.kept rows.new → R.kept rows.old }
-    ensures made { R.made rows.old → R.made rows.new }
+    ensures rows { StaysMade R.Rows rows.old rows.new }
     ensures cause { OnErr result (Rises (R.refusals rows.old) (R.refusals rows.new)) }
     ensures blames { IfErr result (R.blames rows.old rows.new) }
     ensures counts { R.refusals rows.old ≤ R.refusals rows.new }
@@ -100,46 +74,65 @@ fn save_row<R: Rows>(rows: &mut R, number: Number, row: &Option<Row>) -> Result<
     }
 }
 
-/// Makes ready what a turn hands out that was taken at the row `before`, spelled in the version of the rows, and then saves
-/// its row where it has one.
-pub(crate) fn save<R: Rows>(
-    rows: &mut R,
-    alloc: Global,
-    table: &CodeTable,
-    widths: &Widths,
-    number: Number,
-    before: &Row,
-    turn: Turn,
-    checked: Option<Checked<'_>>,
-) -> Result<Answer, StepRefusal>
-    requires promised { IfSome turn.row HasPromise }
-    requires fits { TurnSpeaks (R.version rows.old) before.now turn }
-    requires checked { WasChecked table.now widths.now checked }
-    ensures saves { R.kept rows.new → Saves (sight R.Rows) table.now widths.now number before.now turn rows.old rows.new result }
-    ensures version { R.version rows.new ≡ R.version rows.old }
-    ensures was_kept { R.kept rows.new → R.kept rows.old }
-    ensures made { R.made rows.old → R.made rows.new }
-    ensures many { IfOk result (λ a. length a.out.items ≡ length (sent before.now turn)) }
-    ensures numbered { IfOk result (λ a. IsNumbered a.release) }
-    ensures cause { OnStore result (Rises (R.refusals rows.old) (R.refusals rows.new)) }
-    ensures blames { IfStore result (R.blames rows.old rows.new) }
-    ensures counts { R.refusals rows.old ≤ R.refusals rows.new }
-    ensures tears { IfErr result (λ r. tears r ≡ true) }
-    ensures late { IfErr result (λ r. is_early r ≡ false) }
-{
-    let Ok(out) = spell_all(alloc, &turn.out(before), rows.version()) else {
-        return Err(StepRefusal::OutOfMemory);
-    };
-    let Ok(release) = release(alloc, table, widths, number, turn.release, checked) else {
-        return Err(StepRefusal::OutOfMemory);
-    };
-    if let Err(fault) = save_row(rows, number, &turn.row) {
-        return Err(StepRefusal::Store(fault));
+impl<R: Rows> Station<R> {
+    /// A released entry, set by the code table and the widths. No memory is taken where there is none.
+    fn release(
+        &self,
+        number: Number,
+        entry: Option<Entry>,
+        checked: Option<Checked<'_>>,
+    ) -> Result<Option<Release>, AllocError>
+        requires { WasChecked self.now.table self.now.widths checked }
+        ensures released { IfOk result (IsReleased self.now.table self.now.widths number (option_map owned_entry entry)) }
+        ensures numbered { IfOk result IsNumbered }
+        ensures memory { OnErr result (entry ≡ None → ⊥) }
+    {
+        let Some(entry) = entry else {
+            return Ok(None);
+        };
+        let set = self.set_entry(&entry, checked)?;
+        // A number is in its range.
+        let _range = number.get();
+        Ok(Some(Release { number, entry, set }))
     }
-    Ok(Answer {
-        number: Some(number),
-        out,
-        release,
-        note: turn.note,
-    })
+
+    /// Makes ready what a turn hands out that was taken at the row `before`, spelled in the version of the rows, and then saves
+    /// its row where it has one.
+    pub(crate) fn save(
+        &mut self,
+        number: Number,
+        before: &Row,
+        turn: Turn,
+        checked: Option<Checked<'_>>,
+    ) -> Result<Answer, StepRefusal>
+        requires promised { IfSome turn.row HasPromise }
+        requires fits { TurnSpeaks (R.version self.old.rows) before.now turn }
+        requires checked { WasChecked self.old.table self.old.widths checked }
+        ensures saves { R.kept self.new.rows → Saves (sight R.Rows) self.old.table self.old.widths number before.now turn self.old.rows self.new.rows result }
+        ensures rest { self.new ≡ record self.old { rows = self.new.rows } }
+        ensures rows { StaysMade R.Rows self.old.rows self.new.rows }
+        ensures many { IfOk result (λ a. length a.out.items ≡ length (sent before.now turn)) }
+        ensures numbered { IfOk result (λ a. IsNumbered a.release) }
+        ensures cause { OnStore result (Rises (R.refusals self.old.rows) (R.refusals self.new.rows)) }
+        ensures blames { IfStore result (R.blames self.old.rows self.new.rows) }
+        ensures counts { R.refusals self.old.rows ≤ R.refusals self.new.rows }
+        ensures tears { IfErr result (λ r. tears r ≡ true) }
+        ensures late { IfErr result (λ r. is_early r ≡ false) }
+    {
+        let Ok(out) = spell_all(self.alloc, &turn.out(before), self.rows.version()) else {
+            return Err(StepRefusal::OutOfMemory);
+        };
+        let Ok(release) = self.release(number, turn.release, checked) else {
+            return Err(StepRefusal::OutOfMemory);
+        };
+        if let Err(fault) = save_row(&mut self.rows, number, &turn.row) {
+            return Err(StepRefusal::Store(fault));
+        }
+        Ok(Answer {
+            number: Some(number),
+            out,
+            release,
+            note: turn.note,
+        })
+    }
 }

@@ -13,10 +13,9 @@ ghost use Rattle.node_core.specs.Standing.{StandsFor, OfItsMarks, IsSameSeat};
 ghost use Rattle.node_core.specs.Turns.{event_value, note_value, is_quiet, HandsNothing, sent};
 ghost use Rattle.station.specs.Speaking.{is_lower, TurnSpeaks};
 
-use ballots::{Member, Row};
+use ballots::Row;
 use node_core::{CoreRefusal, Event, NodeCore, Turn};
 use packets::{PacketFault, PacketRef, decode};
-use std::alloc::Global;
 use std::marker::Model;
 use tape_frames::{EntryRef, Version};
 
@@ -51,22 +50,14 @@ fn is_lower(version: Version, other: Version) -> bool
 }
 
 impl Speaker {
-    /// The core of a member that just started, in this version.
+    /// A core that took nothing in, in this version.
     #[tactic(auto, using(crate::proofs::Remembering::nothing_speaks))]
-    pub fn new(alloc: Global, circuit: u16, me: Member, members: u8, wire: Version) -> Speaker
-        requires low { 1 ≤ members }
-        requires high { members ≤ most_members }
-        requires member { me ≤ members }
-        ensures circuit { result.core.circuit ≡ circuit }
-        ensures me { result.core.me ≡ me }
-        ensures members { result.core.members ≡ members }
-        ensures stands { StandsFor result.core [] }
+    pub fn new(core: NodeCore, wire: Version) -> Speaker
+        requires { StandsFor core [] }
+        ensures core { result.core ≡ core }
         ensures wire { result.wire ≡ version_of wire }
     {
-        Speaker {
-            core: NodeCore::new(alloc, circuit, me, members),
-            wire,
-        }
+        Speaker { core, wire }
     }
 
     /// The core.

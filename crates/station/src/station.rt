@@ -12,6 +12,8 @@ ghost use Rattle.station.specs.contracts.station.Station.{the_row};
 use crate::speaker::Speaker;
 use ballots::{Ballot, Member, Number};
 use code_table::CodeTable;
+use line_check::Setting;
+use node_core::NodeCore;
 use saved_rows::Rows;
 use std::alloc::Global;
 use widths::Widths;
@@ -28,6 +30,14 @@ pub struct Station<R: Rows> {
     pub(crate) alloc: Global,
 }
 
+/// Where a station stands: in which circuit, and as which of how many members, which are counted from 1.
+#[derive(Clone, Copy)]
+pub struct Membership {
+    pub circuit: u16,
+    pub me: u8,
+    pub members: u8,
+}
+
 /// What [`Station::new`] was given, handed back: the member is not 1 to the member count, or the count is above 15.
 #[derive(Drop)]
 pub struct BadMember<R: Rows> {
@@ -37,39 +47,40 @@ pub struct BadMember<R: Rows> {
 }
 
 impl<R: Rows> Station<R> {
-    /// Member `me` of the `members` of a circuit, over these rows and in their version. It has taken nothing in.
+    /// The member at a place of a circuit, over these rows and in their version. It has taken nothing in.
     ///
     /// Refused unless `1 <= me <= members <= 15`.
     pub fn new(
         alloc: Global,
-        circuit: u16,
-        me: u8,
-        members: u8,
-        table: CodeTable,
-        widths: Widths,
+        place: Membership,
+        setting: Setting,
         rows: R,
     ) -> Result<Station<R>, BadMember<R>>
-        ensures some { IsOk result ↔ ((1 ≤ me) × (me ≤ members) × (members ≤ most_members)) }
-        ensures circuit { IfOk result (λ s. s.speaker.core.circuit ≡ circuit) }
-        ensures me { IfOk result (λ s. s.speaker.core.me ≡ me) }
-        ensures members { IfOk result (λ s. s.speaker.core.members ≡ members) }
-        ensures table { IfOk result (λ s. s.table ≡ table) }
-        ensures widths { IfOk result (λ s. s.widths ≡ widths) }
+        ensures some { IsOk result ↔ ((1 ≤ place.me) × (place.me ≤ place.members) × (place.members ≤ most_members)) }
+        ensures circuit { IfOk result (λ s. s.speaker.core.circuit ≡ place.circuit) }
+        ensures me { IfOk result (λ s. s.speaker.core.me ≡ place.me) }
+        ensures members { IfOk result (λ s. s.speaker.core.members ≡ place.members) }
+        ensures table { IfOk result (λ s. s.table ≡ setting.table) }
+        ensures widths { IfOk result (λ s. s.widths ≡ setting.widths) }
         ensures rows { IfOk result (λ s. s.rows ≡ rows) }
         ensures stopped { IfOk result (λ s. s.stopped ≡ false) }
         ensures stands { IfOk result (λ s. StandsFor s.speaker.core []) }
         ensures wire { IfOk result (λ s. s.speaker.wire ≡ R.version rows) }
-        ensures back { IfErr result (λ b. b ≡ record { table = table; widths = widths; rows = rows }) }
+        ensures back { IfErr result (λ b. b ≡ record { table = setting.table; widths = setting.widths; rows = rows }) }
     {
-        match Member::new(me) {
-            Some(member) if me <= members && members <= Member::LAST => Ok(Station {
-                speaker: Speaker::new(alloc, circuit, member, members, rows.version()),
-                table,
-                widths,
-                rows,
-                stopped: false,
-                alloc,
-            }),
+        let Setting { table, widths } = setting;
+        match Member::new(place.me) {
+            Some(me) if place.me <= place.members && place.members <= Member::LAST => {
+                let core = NodeCore::new(alloc, place.circuit, me, place.members);
+                Ok(Station {
+                    speaker: Speaker::new(core, rows.version()),
+                    table,
+                    widths,
+                    rows,
+                    stopped: false,
+                    alloc,
+                })
+            }
             _ => Err(BadMember {
                 table,
                 widths,

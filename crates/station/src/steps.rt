@@ -15,18 +15,17 @@ ghost use Rattle.node_core.specs.Calls.{MayCome};
 ghost use Rattle.node_core.specs.Turns.{event_value};
 ghost use Rattle.station.specs.Readiness.{WasChecked, IsNumbered};
 ghost use Rattle.station.specs.Refusing.{ChecksNumber, ChecksOffer};
-ghost use Rattle.station.specs.Stations.{sight, IsFixed};
+ghost use Rattle.station.specs.Stations.{Halts, StaysMade, sight};
 ghost use Rattle.station.specs.Steps.{Ends, IsFree, IsStep, OnStore, IfStore, IsBlamed, tears, is_early, stopped_after};
 
 use crate::answer::Answer;
 use crate::checks::{check_packet, check_recall};
-use crate::save::save;
-use crate::setting::{Checked, setting};
+use crate::setting::Checked;
 use crate::station::Station;
 use ballots::Number;
 use node_core::{CoreRefusal, Event};
 use refusals::StepRefusal;
-use saved_rows::{Rows, RowsFault};
+use saved_rows::Rows;
 use tape_frames::{Entry, EntryRef, Tape};
 
 impl<R: Rows> Station<R> {
@@ -42,7 +41,7 @@ impl<R: Rows> Station<R> {
         }
         self.follow_rows();
         let number = self.check_offer(number, EntryRef::Plain(tape.lend()))?;
-        let slugs = match setting(self.alloc, &self.table, &self.widths, tape) {
+        let slugs = match self.setting(tape) {
             Ok(Ok(slugs)) => slugs,
             Ok(Err(fault)) => return Err(StepRefusal::TapeFaulty(fault)),
             Err(_) => return Err(self.stop(StepRefusal::OutOfMemory)),
@@ -196,32 +195,21 @@ impl<R: Rows> Station<R> {
 
         // What is refused early is so before the turn.
         ensures late { IfErr result (λ r. is_early r ≡ false) }
-        ensures was_kept { R.kept self.new.rows → R.kept self.old.rows }
-        ensures made { R.made self.old.rows → R.made self.new.rows }
+        ensures rows { StaysMade R.Rows self.old.rows self.new.rows }
         ensures few { IfOk result (λ a. length a.out.items ≤ most_sent) }
         ensures numbered { IfOk result (λ a. IsNumbered a.release) }
         ensures cause { OnStore result (Rises (R.refusals self.old.rows) (R.refusals self.new.rows)) }
         ensures blames { IfStore result (IsBlamed (sight R.Rows) self.old.rows self.new.rows) }
-        ensures version { R.version self.new.rows ≡ R.version self.old.rows }
         ensures wire { self.new.speaker.wire ≡ self.old.speaker.wire }
         ensures stops { self.new.stopped ≡ stopped_after self.old.stopped result }
     {
         let row = match self.rows.get(number) {
             Ok(row) => row,
-            Err(fault) => return Err(self.stop_for(fault)),
+            Err(fault) => return Err(self.stop(StepRefusal::Store(fault))),
         };
         match self.speaker.handle(event, &row) {
             Ok(turn) => {
-                let answer = save(
-                    &mut self.rows,
-                    self.alloc,
-                    &self.table,
-                    &self.widths,
-                    number,
-                    &row,
-                    turn,
-                    checked,
-                );
+                let answer = self.save(number, &row, turn, checked);
                 if answer.is_err() {
                     self.halt();
                 }
@@ -235,23 +223,9 @@ impl<R: Rows> Station<R> {
         }
     }
 
-    /// Stops, where the store refused with this fault.
-    fn stop_for(&mut self, fault: RowsFault) -> StepRefusal
-        ensures same { result ≡ StepRefusal.Store fault }
-        ensures stands { StandsFor self.new.speaker.core [] }
-        ensures wire { self.new.speaker.wire ≡ self.old.speaker.wire }
-        ensures fixed { IsFixed self.old self.new }
-        ensures stopped { self.new ≡ record self.old { speaker = self.new.speaker; stopped = true } }
-    {
-        self.stop(StepRefusal::Store(fault))
-    }
-
     /// It forgets what it took in, and takes no step until a restart, or an upgrade that is Ok.
     fn halt(&mut self)
-        ensures stands { StandsFor self.new.speaker.core [] }
-        ensures wire { self.new.speaker.wire ≡ self.old.speaker.wire }
-        ensures fixed { IsFixed self.old self.new }
-        ensures stopped { self.new ≡ record self.old { speaker = self.new.speaker; stopped = true } }
+        ensures halts { Halts self.old self.new }
     {
         self.speaker.clear();
         self.stopped = true;
@@ -260,10 +234,7 @@ impl<R: Rows> Station<R> {
     /// The same, with the refusal that stops it.
     pub(crate) fn stop(&mut self, refusal: StepRefusal) -> StepRefusal
         ensures same { result ≡ refusal }
-        ensures stands { StandsFor self.new.speaker.core [] }
-        ensures wire { self.new.speaker.wire ≡ self.old.speaker.wire }
-        ensures fixed { IsFixed self.old self.new }
-        ensures stopped { self.new ≡ record self.old { speaker = self.new.speaker; stopped = true } }
+        ensures halts { Halts self.old self.new }
     {
         self.halt();
         refusal

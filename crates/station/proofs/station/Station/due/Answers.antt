@@ -29,4 +29,4 @@ returns-in-Some g c =
     (λ goes. took g.R.Rows call mid (Came_due c.in-Some.number c.args.now) c.take.new.self c.take.result
     (λ marks stands. came_due mid marks c.in-Some.number c.args.now goes
     (due_at mid marks c.args.now c.core.result.now c.next_due.result c.core.ensures (c.next_due.ensures.value marks) stands ∙ c.in-Some.is))
-    t.takes t.late t.was_kept t.made t.few t.numbered t.cause t.blames t.version t.wire t.stops)
+    t.takes t.late t.rows.was_kept t.rows.made t.few t.numbered t.cause t.blames t.rows.version t.wire t.stops)

@@ -41,10 +41,10 @@ returns-in-Err g c =
     let entry = Taped c.args.tape.now in
     let call = Offering c.args.number entry c.args.now in
     from_found g.R.Rows call c.args.self.now mid c.stop.new.self _ c.if-self.false c.follow_rows.ensures.same c.follow_rows.ensures.follows
-    (λ goes. wanted g.R.Rows call mid c.stop.new.self c.stop.result c.stop.ensures.same c.stop.ensures.stopped c.stop.ensures.wire
+    (λ goes. wanted g.R.Rows call mid c.stop.new.self c.stop.result c.stop.ensures.same c.stop.ensures.halts.stopped c.stop.ensures.halts.wire
     (λ marks stands. torn_early x call (Offered c.args.number entry c.args.now) mid c.stop.new.self marks c.stop.result c.stop.ensures.same
     (offered_early mid marks c.args.number entry c.args.now goes (offer_of mid marks c.args.number c.args.now _ _ c.lend.ensures (c.in_ok-number.ensures.checks marks stands)))
-    (offer_stirs x mid marks c.args.number entry c.args.now) c.stop.ensures.fixed c.stop.ensures.stopped c.stop.ensures.stands))
+    (offer_stirs x mid marks c.args.number entry c.args.now) c.stop.ensures.halts.fixed c.stop.ensures.halts.stopped c.stop.ensures.halts.stands))
 
 pub returns-in-Ok : goal.returns-in-Ok
 returns-in-Ok g c =
@@ -57,7 +57,7 @@ returns-in-Ok g c =
     (λ marks stands. offered mid marks c.args.number c.in_ok-number.number entry (Taped c.in-Ok.tape) c.args.now goes
     (offer_of mid marks c.args.number c.args.now _ _ c.lend.ensures (c.in_ok-number.ensures.checks marks stands))
     (ap unless_faulty (rw c.in-Ok-Ok.field-0-is at c.in-Ok-Ok.ensures).0) c.in_ok-number.ensures.value (ap Taped c.in-Ok.ensures))
-    t.takes t.late t.was_kept t.made t.few t.numbered t.cause t.blames t.version t.wire t.stops)
+    t.takes t.late t.rows.was_kept t.rows.made t.few t.numbered t.cause t.blames t.rows.version t.wire t.stops)
 
 pub returns-in-Err-copy : goal.returns-in-Err-copy
 returns-in-Err-copy g c =
@@ -67,7 +67,7 @@ returns-in-Err-copy g c =
     let call = Offering c.args.number entry c.args.now in
     let stop = c.stop-in-Err-copy in
     from_found g.R.Rows call c.args.self.now mid stop.new.self _ c.if-self.false c.follow_rows.ensures.same c.follow_rows.ensures.follows
-    (λ goes. wanted g.R.Rows call mid stop.new.self stop.result stop.ensures.same stop.ensures.stopped stop.ensures.wire
+    (λ goes. wanted g.R.Rows call mid stop.new.self stop.result stop.ensures.same stop.ensures.halts.stopped stop.ensures.halts.wire
     (λ marks stands. torn_early x call (Offered c.args.number entry c.args.now) mid stop.new.self marks stop.result stop.ensures.same
     (offered_early mid marks c.args.number entry c.args.now goes (offer_of mid marks c.args.number c.args.now _ _ c.lend.ensures (c.in_ok-number.ensures.checks marks stands)))
-    (offer_stirs x mid marks c.args.number entry c.args.now) stop.ensures.fixed stop.ensures.stopped stop.ensures.stands))
+    (offer_stirs x mid marks c.args.number entry c.args.now) stop.ensures.halts.fixed stop.ensures.halts.stopped stop.ensures.halts.stands))

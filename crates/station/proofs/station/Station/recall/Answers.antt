@@ -28,4 +28,4 @@ returns g c =
     (λ goes. took g.R.Rows call mid (Recalled c.in_ok-number.number c.in_ok-number.to) c.take.new.self c.take.result
     (λ marks stands. recalled mid marks c.members.result c.args.number c.in_ok-number.number c.args.to c.in_ok-number.to goes
     (c.members.ensures.value ∙ ap (λ k. k.members) c.core.ensures) c.in_ok-number.ensures.checks c.in_ok-number.ensures.number c.in_ok-number.ensures.to)
-    t.takes t.late t.was_kept t.made t.few t.numbered t.cause t.blames t.version t.wire t.stops)
+    t.takes t.late t.rows.was_kept t.rows.made t.few t.numbered t.cause t.blames t.rows.version t.wire t.stops)

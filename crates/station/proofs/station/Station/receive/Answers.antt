@@ -40,4 +40,4 @@ returns g c =
     (sym c.read.ensures.exact ∙ c.in-Ok.is)
     (c.circuit-circuit.ensures ∙ ap (λ k. k.circuit) c.core-core.ensures) (c.members-members.ensures.value ∙ ap (λ k. k.members) c.core-core.ensures)
     (c.me-me.ensures.value ∙ ap (λ k. k.me) c.core-core.ensures) c.in_ok-check_packet.ensures.checks refl)
-    t.takes t.late t.was_kept t.made t.few t.numbered t.cause t.blames t.version t.wire t.stops)
+    t.takes t.late t.rows.was_kept t.rows.made t.few t.numbered t.cause t.blames t.rows.version t.wire t.stops)

@@ -13,7 +13,7 @@ returns-in-Ok-handle-clause-takes g c = λ kept marks stands.
     let l = c.in-Ok-handle.ensures.ok marks stands in
     elim c.if-is_err.branch [
       | then-is_err w ↦
-          let here : g.R.Rows.kept c.save-answer.new.rows = rw (w.self-is, w.halt.ensures.stopped) at kept in
+          let here : g.R.Rows.kept c.save-answer.new.self.rows = rw (w.self-is, w.halt.ensures.halts.stopped) at kept in
           let k : Taking x (event_value c.args.event) c.args.self.now marks c.get.new.self c.handle.new.self c.in-Ok-handle.turn c.in-Ok.row c.args.number = record {
             number = c.requires.number;
             goes = c.requires.goes;
@@ -29,11 +29,11 @@ returns-in-Ok-handle-clause-takes g c = λ kept marks stands.
             version = c.get.ensures.version ∙ sym c.requires.wire;
           } in
           rw w.self-is
-          (stopped_at x (event_value c.args.event) c.args.self.now marks c.get.new.self c.save-answer.new.rows c.handle.new.self c.in-Ok-handle.turn c.in-Ok.row c.args.number k
-          (record c.args.self.now { speaker = c.handle.new.self; rows = c.save-answer.new.rows }) w.halt.new.self c.save-answer.result (sym c.is_err.ensures.value ∙ w.if-is_err.true) refl
-          w.halt.ensures.fixed w.halt.ensures.stopped w.halt.ensures.stands (c.save-answer.ensures.saves here))
+          (stopped_at x (event_value c.args.event) c.args.self.now marks c.get.new.self c.save-answer.new.self.rows c.handle.new.self c.in-Ok-handle.turn c.in-Ok.row c.args.number k
+          c.save-answer.new.self w.halt.new.self c.save-answer.result (sym c.is_err.ensures.value ∙ w.if-is_err.true) c.save-answer.ensures.rest
+          w.halt.ensures.halts.fixed w.halt.ensures.halts.stopped w.halt.ensures.halts.stands (c.save-answer.ensures.saves here))
       | else-is_err w ↦
-          let here : g.R.Rows.kept c.save-answer.new.rows = rw w.self-is at kept in
+          let here : g.R.Rows.kept c.save-answer.new.self.rows = rw w.self-is at kept in
           let k : Taking x (event_value c.args.event) c.args.self.now marks c.get.new.self c.handle.new.self c.in-Ok-handle.turn c.in-Ok.row c.args.number = record {
             number = c.requires.number;
             goes = c.requires.goes;
@@ -49,16 +49,16 @@ returns-in-Ok-handle-clause-takes g c = λ kept marks stands.
             version = c.get.ensures.version ∙ sym c.requires.wire;
           } in
           rw w.self-is
-          (handed_on x (event_value c.args.event) c.args.self.now marks c.get.new.self c.save-answer.new.rows c.handle.new.self c.in-Ok-handle.turn c.in-Ok.row c.args.number k
-          c.save-answer.result (sym c.is_err.ensures.value ∙ w.if-is_err.false) (c.save-answer.ensures.saves here))
+          (handed_on x (event_value c.args.event) c.args.self.now marks c.get.new.self c.save-answer.new.self.rows c.handle.new.self c.in-Ok-handle.turn c.in-Ok.row c.args.number k
+          c.save-answer.new.self c.save-answer.result (sym c.is_err.ensures.value ∙ w.if-is_err.false) c.save-answer.ensures.rest (c.save-answer.ensures.saves here))
     ]
 
 pub returns-clause-takes : goal.returns-clause-takes
 returns-clause-takes g c = λ kept marks stands.
     let x = sight g.R.Rows in
-    let here : g.R.Rows.kept c.get.new.self = rw c.stop-in-Err-OutOfMemory.ensures.stopped at kept in
+    let here : g.R.Rows.kept c.get.new.self = rw c.stop-in-Err-OutOfMemory.ensures.halts.stopped at kept in
     wanted x c.args.event c.args.self.now c.stop-in-Err-OutOfMemory.new.self marks c.get.new.self c.handle.new.self c.in-Ok.row c.args.number c.stop-in-Err-OutOfMemory.result
-    c.stop-in-Err-OutOfMemory.ensures.same c.handle.ensures.seat c.stop-in-Err-OutOfMemory.ensures.fixed c.stop-in-Err-OutOfMemory.ensures.stopped c.stop-in-Err-OutOfMemory.ensures.stands
+    c.stop-in-Err-OutOfMemory.ensures.same c.handle.ensures.seat c.stop-in-Err-OutOfMemory.ensures.halts.fixed c.stop-in-Err-OutOfMemory.ensures.halts.stopped c.stop-in-Err-OutOfMemory.ensures.halts.stands
     (search rules) c.requires.number (search rules) (c.in-Err-OutOfMemory.ensures.memory c.in-Err-OutOfMemory.field-0-is marks stands)
 
 pub returns-in-Err-AlreadyReleased-clause-late : goal.returns-in-Err-AlreadyReleased-clause-late

@@ -32,4 +32,4 @@ returns g c =
     from_found g.R.Rows call c.args.self.now mid c.take.new.self c.take.result c.if-self.false c.follow_rows.ensures.same c.follow_rows.ensures.follows
     (λ goes. took g.R.Rows call mid (Offered c.in_ok-number.number Void c.args.now) c.take.new.self c.take.result
     (λ marks stands. offered mid marks c.args.number c.in_ok-number.number Void Void c.args.now goes (c.in_ok-number.ensures.checks marks stands) refl c.in_ok-number.ensures.value refl)
-    t.takes t.late t.was_kept t.made t.few t.numbered t.cause t.blames t.version t.wire t.stops)
+    t.takes t.late t.rows.was_kept t.rows.made t.few t.numbered t.cause t.blames t.rows.version t.wire t.stops)
