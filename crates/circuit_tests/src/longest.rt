@@ -11,7 +11,7 @@ use station::Datagram;
 use station_fixtures::Noted::{Began, Heard, Promised, Proposed, Voted};
 use std::alloc::Global;
 use tape_frames::Version;
-use world::{Played, play_in_memory};
+use world::{Founders, Played, play_in_memory};
 
 /// Member 1 of three offers it, and all three release it.
 const LINES: &[Line] = &[
@@ -57,7 +57,12 @@ fn has_gone_round<R: Rows>(alloc: Global, played: &Played<R>) -> bool {
 fn goes_round(alloc: Global) -> Option<bool> {
     let members = settings(alloc, 3, LastWidths::Whole)?;
     let steps = steps_of(alloc, LINES)?;
-    let played = play_in_memory(alloc, 7, Version::Two, members, steps.as_slice()).ok()?;
+    let founders = Founders {
+        circuit: 7,
+        version: Version::Two,
+        members,
+    };
+    let played = play_in_memory(alloc, founders, steps.as_slice()).ok()?;
     Some(has_gone_round(alloc, &played))
 }
 

@@ -3,15 +3,22 @@
 use days::release_of_two;
 use fixtures::Given::Flood;
 use fixtures::{FLOOD, OVERSET, WIDTHS};
+use line_check::Setting;
 use station_fixtures::{is_given, setting};
 use std::alloc::Global;
 use tape_frames::Tape;
 
+/// The code table and the widths of the examples.
+fn whole_setting(alloc: Global) -> Option<Setting> {
+    let (table, widths) = setting(alloc, WIDTHS)?;
+    Some(Setting { table, widths })
+}
+
 /// The number under which the first of two members releases these frames, and how many slugs they set as.
 fn released(alloc: Global, frames: &[u8]) -> Option<(u32, usize)> {
     let tape = Tape::from_bytes(alloc, frames).ok()?;
-    let first = setting(alloc, WIDTHS)?;
-    let second = setting(alloc, WIDTHS)?;
+    let first = whole_setting(alloc)?;
+    let second = whole_setting(alloc)?;
     let release = release_of_two(alloc, first, second, &tape)?;
     let slugs = match &release.set {
         Ok(slugs) => slugs.len(),

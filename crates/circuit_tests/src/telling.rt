@@ -12,7 +12,7 @@ use station_fixtures::{is_given, is_note};
 use std::alloc::Global;
 use tape_frames::{Tape, Version};
 use world::{
-    NewWorldFault, OfferLog, Outcome, PlayFault, Played, ReleaseLog, Seen, Step, World,
+    Founders, NewWorldFault, OfferLog, Outcome, PlayFault, Played, ReleaseLog, Seen, Step, World,
     play_in_memory,
 };
 
@@ -287,14 +287,24 @@ fn has_played<R: Rows>(alloc: Global, played: &Played<R>, story: &Story) -> bool
 pub fn plays(alloc: Global, story: &Story) -> Option<bool> {
     let members = settings(alloc, story.members, story.last)?;
     let steps = steps_of(alloc, story.lines)?;
-    let played = play_in_memory(alloc, 7, story.versions.0, members, steps.as_slice()).ok()?;
+    let founders = Founders {
+        circuit: 7,
+        version: story.versions.0,
+        members,
+    };
+    let played = play_in_memory(alloc, founders, steps.as_slice()).ok()?;
     Some(has_played(alloc, &played, story))
 }
 
 /// Whether a circuit of this many members is not played, for their count.
 pub fn is_unplayed(alloc: Global, members: u8) -> Option<bool> {
     let members = settings(alloc, members, LastWidths::Whole)?;
-    match play_in_memory(alloc, 7, Version::One, members, &[]) {
+    let founders = Founders {
+        circuit: 7,
+        version: Version::One,
+        members,
+    };
+    match play_in_memory(alloc, founders, &[]) {
         Err(fault) => Some(fault == PlayFault::BadCount),
         Ok(_) => Some(false),
     }

@@ -10,7 +10,7 @@ use station::Datagram;
 use std::alloc::Global;
 use tape_frames::{Tape, Version};
 use widths::Widths;
-use world::{OfferLog, Played, ReleaseLog, Step, World, play_in_memory};
+use world::{Founders, OfferLog, Played, ReleaseLog, Step, World, play_in_memory};
 
 /// A withdrawal: the member, and the number.
 type Withdrawn = (u8, u32);
@@ -188,7 +188,12 @@ fn in_databases(alloc: Global, story: &Story, plain: &World<MemoryRows>) -> Opti
 fn logged(alloc: Global, story: &Story) -> Option<[usize; 3]> {
     let steps = steps(alloc, story)?;
     let members = members(alloc)?;
-    match play_in_memory(alloc, 7, story.version, members, steps.as_slice()) {
+    let founders = Founders {
+        circuit: 7,
+        version: story.version,
+        members,
+    };
+    match play_in_memory(alloc, founders, steps.as_slice()) {
         Ok(played) if played.run.is_ok() => in_databases(alloc, story, &played.world),
         _ => None,
     }

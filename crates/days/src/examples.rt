@@ -4,13 +4,12 @@ ghost use Rattle.std.specs.Prelude.{IfSome};
 ghost use Rattle.protocol.specs.Entries.{Taped};
 ghost use Rattle.days.specs.Examples.{DayOfTwo, OfferedBoth, Received, TookIn};
 
-use code_table::CodeTable;
+use line_check::Setting;
 use row_groups::{Grouped, Settles};
 use saved_rows::{MemoryRows, Rows};
-use station::{Answer, Release, Station};
+use station::{Answer, Membership, Release, Station};
 use std::alloc::Global;
 use tape_frames::Tape;
-use widths::Widths;
 
 /// Offers a tape for the numbers 12 and 13, and stores by one call what was saved for both. Only then may the answer for 12 go out.
 fn offer_both<R: Settles>(station: &mut Station<R>, tape: &Tape, now: u64) -> Option<Answer>
@@ -61,23 +60,34 @@ fn take_in<R: Settles>(station: &mut Station<R>, me: u8, sent: &Answer, now: u64
     }
 }
 
+/// Where one of the two members of circuit 7 stands.
+fn seat_of_two(me: u8) -> Membership
+    ensures { result ≡ record { circuit = 7; me = me; members = 2 } }
+{
+    Membership {
+        circuit: 7,
+        me,
+        members: 2,
+    }
+}
+
 /// Plays two members of circuit 7, over rows in memory that are stored in groups, to the first release: the first is offered a
 /// tape for the numbers 12 and 13, and what they send each other of 12 comes. What a member saved is stored before it sends. Between
 /// its promise and its vote the second starts again. `None` where there is no memory, or the tape does not set at the first.
 pub fn release_of_two(
     alloc: Global,
-    first: (CodeTable, Widths),
-    second: (CodeTable, Widths),
+    first: Setting,
+    second: Setting,
     tape: &Tape,
 ) -> Option<Release>
     ensures { IfSome result (DayOfTwo ⟦<Grouped<MemoryRows> as Rows>⟧ ⟦<Grouped<MemoryRows> as Settles>⟧.is_settled) }
 {
     let rows = Grouped::new(alloc, MemoryRows::new(alloc));
-    let Ok(mut one) = Station::new(alloc, 7, 1, 2, first.0, first.1, rows) else {
+    let Ok(mut one) = Station::new(alloc, seat_of_two(1), first, rows) else {
         return None;
     };
     let rows = Grouped::new(alloc, MemoryRows::new(alloc));
-    let Ok(mut two) = Station::new(alloc, 7, 2, 2, second.0, second.1, rows) else {
+    let Ok(mut two) = Station::new(alloc, seat_of_two(2), second, rows) else {
         return None;
     };
     let prepare = offer_both(&mut one, tape, 0)?;

@@ -3,8 +3,9 @@
 use ballots::{Ballot, Member, Number, Row, Vote};
 use code_table::CodeTable;
 use fixtures::{CODES, FLOOD, WIDTHS};
+use line_check::Setting;
 use saved_rows::{MemoryRows, Rows};
-use station::Station;
+use station::{Membership, Station};
 use std::alloc::Global;
 use tape_frames::{Entry, Tape, Version};
 use widths::Widths;
@@ -19,7 +20,12 @@ pub fn setting(alloc: Global, widths: &str) -> Option<(CodeTable, Widths)> {
 /// A station of circuit 7 over these rows.
 pub fn station_over<R: Rows>(alloc: Global, me: u8, members: u8, rows: R) -> Option<Station<R>> {
     let (table, widths) = setting(alloc, WIDTHS)?;
-    Station::new(alloc, 7, me, members, table, widths, rows).ok()
+    let place = Membership {
+        circuit: 7,
+        me,
+        members,
+    };
+    Station::new(alloc, place, Setting { table, widths }, rows).ok()
 }
 
 pub fn ballot(round: u32, owner: u8) -> Option<Ballot> {

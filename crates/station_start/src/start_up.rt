@@ -12,11 +12,12 @@ use crate::host::Host;
 use code_table::CodeTable;
 use command_ends::{End, Fault};
 use configuration::Config;
+use line_check::Setting;
 use row_files::{RefusedRows, RowFiles, create_rows};
 use row_groups::Grouped;
 use saved_rows::{Identity, Rows};
 use seals::Keys;
-use station::Station;
+use station::{Membership, Station};
 use std::alloc::Global;
 use std::io;
 use std::io::{ErrorKind, Write};
@@ -154,7 +155,12 @@ fn station_of<R: Rows>(
         member,
         members,
     } = identity;
-    match Station::new(alloc, circuit, member, members, table, widths, rows) {
+    let place = Membership {
+        circuit,
+        me: member,
+        members,
+    };
+    match Station::new(alloc, place, Setting { table, widths }, rows) {
         Ok(station) => station,
         Err(_) => unreachable!(),
     }

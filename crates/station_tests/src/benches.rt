@@ -4,8 +4,9 @@ use crate::datagrams::{Message, bytes_of};
 use crate::turns::{Act, Ends, Handed, Open, Turn};
 use ballots::{Number, Row};
 use fixtures::{Given, WIDTHS, frames_of};
+use line_check::Setting;
 use saved_rows::{Balky, MemoryRows, Rows};
-use station::{Answer, BadMember, Datagram, Release, Station, StepRefusal};
+use station::{Answer, BadMember, Datagram, Membership, Release, Station, StepRefusal};
 use station_fixtures::{
     Noted, Unread, ballot, is_given, is_note, rows_with, setting, station_over,
 };
@@ -283,7 +284,17 @@ fn handed_back<R: Rows>(
     (me, members): (u8, u8),
     parts: BadMember<R>,
 ) -> Option<BadMember<R>> {
-    Station::new(alloc, 7, me, members, parts.table, parts.widths, parts.rows).err()
+    let place = Membership {
+        circuit: 7,
+        me,
+        members,
+    };
+    let BadMember {
+        table,
+        widths,
+        rows,
+    } = parts;
+    Station::new(alloc, place, Setting { table, widths }, rows).err()
 }
 
 /// Whether stations over these rows that are no members of their circuits are refused, each made of what the one before handed

@@ -12,7 +12,7 @@ mod upgrade;
 mod world;
 
 pub use logs::{OfferLog, ReleaseLog};
-pub use plays::{PlayFault, Played, circuit_in_memory, play, play_in_memory};
+pub use plays::{Founders, PlayFault, Played, circuit_in_memory, play, play_in_memory};
 pub use slugs::Slugs;
 pub use step::{Outcome, RunStop, Seen, Step, WorldRefusal};
 pub use world::{NewWorldFault, World, member_count};

@@ -2,7 +2,6 @@
 
 ghost use Rattle.std.specs.Prelude.{◌≡◌, ◌+◌, ◌<◌, ◌≤◌, ◌∷◌, [], ◌++◌, OnOk, IfErr, length, vec_len, vec_capacity};
 ghost use Rattle.protocol.specs.Limits.{most_sent};
-ghost use Rattle.tape_frames.specs.Entries.{owned_entry};
 ghost use Rattle.world.specs.Taking.{was_taken};
 ghost use Rattle.world.specs.Logging.{HasRoom, logged, offered_of, out_of, outcome_of, released_of, seen_of};
 ghost use Rattle.world.specs.Worlds.{IsSame};
@@ -12,7 +11,6 @@ use crate::step::{Outcome, Seen, WorldRefusal};
 use crate::world::World;
 use saved_rows::Rows;
 use station::{Answer, Datagram, Release, StepRefusal};
-use tape_frames::Entry;
 
 /// The greatest number of datagrams that a station sends in one step.
 const MOST: usize = 28;
@@ -65,19 +63,17 @@ fn is_taken(step: &Result<Answer, StepRefusal>) -> bool
     }
 }
 
-/// Logs an offer where it was taken up. There is room for it.
+/// Logs an offer that ended so where it was taken up. There is room for it.
 pub(crate) fn log_offer(
     offers: &mut Vec<OfferLog>,
-    member: u8,
-    number: u32,
-    entry: Entry,
+    offer: OfferLog,
     step: &Result<Answer, StepRefusal>,
 )
     requires { vec_len offers.old < vec_capacity offers.old }
-    ensures { offers.new.items ≡ offers.old.items ++ offered_of member number (owned_entry entry) (outcome_of step.now) }
+    ensures { offers.new.items ≡ offers.old.items ++ offered_of offer.member offer.number offer.entry (outcome_of step.now) }
 {
     if is_taken(step) {
-        log(offers, OfferLog::new(member, number, entry));
+        log(offers, offer);
     }
 }
 

@@ -24,6 +24,14 @@ pub struct Played<R: Rows> {
     pub run: Result<(), RunStop>,
 }
 
+/// What a circuit in memory begins with: its number, the version of its rows, and its members by what they set tapes by, in order.
+#[derive(Drop)]
+pub struct Founders {
+    pub circuit: u16,
+    pub version: Version,
+    pub members: Vec<(CodeTable, Widths)>,
+}
+
 /// Why a circuit was not played.
 #[derive(Clone, Copy, PartialEq, Eq)]
 pub enum PlayFault {
@@ -92,7 +100,7 @@ fn with_memory(
 }
 
 /// The members of a circuit, each with empty rows in memory at this version.
-fn founders(
+fn newly_made(
     alloc: Global,
     version: Version,
     members: Vec<(CodeTable, Widths)>,
@@ -128,15 +136,15 @@ pub fn circuit_in_memory(
     ensures fresh { IfOk result (IsFresh ⟦<MemoryRows as Rows>⟧ circuit members.items (λ _. version_of version)) }
     ensures reached { IfOk result (IsReached ⟦<MemoryRows as Rows>⟧) }
 {
-    let parts = founders(alloc, version, members)?;
+    let parts = newly_made(alloc, version, members)?;
     match World::new(alloc, circuit, parts) {
         Ok(world) => Ok(world),
         Err(_) => Err(PlayFault::OutOfMemory),
     }
 }
 
-/// Plays a circuit from its beginning, its members over empty rows in memory at this version: takes the steps in order,
-/// up to the first that is refused.
+/// Plays a circuit from its beginning, its members over empty rows in memory: takes the steps in order, up to the first that
+/// is refused.
 ///
 /// Whatever the steps are, the releases agree: no two of one number differ, each released entry was offered for its
 /// number, and the slugs of a tape are what its member's code table and widths make of it.
@@ -144,17 +152,20 @@ pub fn circuit_in_memory(
 /// It is not played as `BadCount` where there are no members or more than 15; `OutOfMemory`.
 pub fn play_in_memory(
     alloc: Global,
-    circuit: u16,
-    version: Version,
-    members: Vec<(CodeTable, Widths)>,
+    by: Founders,
     steps: &[Step],
 ) -> Result<Played<MemoryRows>, PlayFault>
-    ensures unplayed { IfErr result (IsUnplayed (length members.items)) }
-    ensures plays { IfOk result (λ p. Plays ⟦<MemoryRows as Rows>⟧ circuit members.items (λ _. version_of version) steps.now p.world p.run) }
+    ensures unplayed { IfErr result (IsUnplayed (length by.members.items)) }
+    ensures plays { IfOk result (λ p. Plays ⟦<MemoryRows as Rows>⟧ by.circuit by.members.items (λ _. version_of by.version) steps.now p.world p.run) }
     ensures stops { IfOk result (λ p. IfErr p.run (StopsAt steps.now p.world)) }
     ensures agreed { IfOk result (λ p. Agreed ⟦<MemoryRows as Rows>⟧ p.world) }
 {
-    let members = founders(alloc, version, members)?;
+    let Founders {
+        circuit,
+        version,
+        members,
+    } = by;
+    let members = newly_made(alloc, version, members)?;
     match play(alloc, circuit, members, steps) {
         Ok(played) => Ok(played),
         Err(_) => Err(PlayFault::OutOfMemory),

@@ -8,6 +8,7 @@ ghost use Rattle.world.specs.Worlds.{count_of};
 
 use crate::laws;
 use crate::log_growth::log_offer;
+use crate::logs::OfferLog;
 use crate::step::{Outcome, RunStop, Seen, Step, WorldRefusal};
 use crate::upgrade::go_over;
 use crate::world::World;
@@ -137,7 +138,8 @@ impl<R: Rows> World<R> {
         };
         self.make_room()?;
         let step = self.stations[place].offer(number, tape, now);
-        log_offer(&mut self.offers, member, number, Entry::Tape(copy), &step);
+        let offer = OfferLog::new(member, number, Entry::Tape(copy));
+        log_offer(&mut self.offers, offer, &step);
         Ok(self.take_in(member, step))
     }
 
@@ -153,7 +155,8 @@ impl<R: Rows> World<R> {
         let place = self.place(member)?;
         self.make_room()?;
         let step = self.stations[place].withdraw(number, now);
-        log_offer(&mut self.offers, member, number, Entry::Void, &step);
+        let offer = OfferLog::new(member, number, Entry::Void);
+        log_offer(&mut self.offers, offer, &step);
         Ok(self.take_in(member, step))
     }
 

@@ -12,8 +12,9 @@ use crate::laws;
 use crate::logs::{OfferLog, ReleaseLog};
 use ballots::Member;
 use code_table::CodeTable;
+use line_check::Setting;
 use saved_rows::{Balky, Rows};
-use station::{Datagram, Station};
+use station::{Datagram, Membership, Station};
 use std::alloc::{AllocError, Global};
 use widths::Widths;
 
@@ -48,23 +49,19 @@ pub fn member_count(members: usize) -> Option<u8>
     }
 }
 
-/// The station of a member of so many, with rows that can be armed.
+/// The station of a member, with rows that can be armed.
 fn station_of<R: Rows>(
     alloc: Global,
-    circuit: u16,
-    me: u8,
-    count: u8,
-    table: CodeTable,
-    widths: Widths,
+    place: Membership,
+    setting: Setting,
     rows: R,
 ) -> Station<Balky<R>>
-    requires low { 1 ≤ me }
-    requires high { me ≤ count }
-    requires few { count ≤ most_members }
-    ensures { IsNew R.version (sits circuit me count) (table, widths, rows) result }
+    requires low { 1 ≤ place.me }
+    requires high { place.me ≤ place.members }
+    requires few { place.members ≤ most_members }
+    ensures { IsNew R.version (sits place.circuit place.me place.members) (setting.table, setting.widths, rows) result }
 {
-    let rows = Balky::new(rows);
-    match Station::new(alloc, circuit, me, count, table, widths, rows) {
+    match Station::new(alloc, place, setting, Balky::new(rows)) {
         Ok(station) => station,
         Err(_) => unreachable!(),
     }
@@ -86,7 +83,12 @@ fn stations_of<R: Rows>(
     let mut me = 0;
     for (table, widths, rows) in members {
         me += 1;
-        let station = station_of(alloc, circuit, me, count, table, widths, rows);
+        let place = Membership {
+            circuit,
+            me,
+            members: count,
+        };
+        let station = station_of(alloc, place, Setting { table, widths }, rows);
         stations.push(station)?;
     }
     Ok(stations)

@@ -4,10 +4,11 @@ use crate::examples::{RELEASE, read_files};
 use crate::rows::samples::is_entry;
 use ballots::Member;
 use command_ends::End;
+use line_check::Setting;
 use row_groups::{Grouped, SavesAll, Settles};
 use saved_rows::Rows;
 use serve_command::serve_run;
-use station::{Answer, Station, StepRefusal};
+use station::{Answer, Membership, Station, StepRefusal};
 use std::alloc::Global;
 use tape_frames::Tape;
 use wire::{Arrival, Wire};
@@ -15,7 +16,12 @@ use wire::{Arrival, Wire};
 /// The one station of circuit 7.
 fn station_over<R: Rows>(alloc: Global, rows: R) -> Option<Station<R>> {
     let (table, widths) = read_files(alloc)?;
-    Station::new(alloc, 7, 1, 1, table, widths, rows).ok()
+    let place = Membership {
+        circuit: 7,
+        me: 1,
+        members: 1,
+    };
+    Station::new(alloc, place, Setting { table, widths }, rows).ok()
 }
 
 /// Whether a step released the tape of these frames.

@@ -32,7 +32,7 @@ returns-clause-steps g c =
     let same = c.make_room.ensures.same in
     let t = c.take_in.ensures in
     let ch = changed_in v v1 v' c.in_ok-place.place c.args.member s s' same o.place o.within c.index_mut.ensures.value (ap (λ q. q.items) t.stations) in
-    let offers = ap (λ q. q.items) t.offers ∙ (c.log_offer.ensures ∙ ap (λ (tape : List ℕ). v1.offers.items ++ offered_of c.args.member c.args.number (Taped tape) (outcome_of c.offer-step.result)) c.in-Ok.ensures) in
+    let offers = ap (λ q. q.items) t.offers ∙ ((rw c.new-offer.ensures at c.log_offer.ensures) ∙ ap (λ (tape : List ℕ). v1.offers.items ++ offered_of c.args.member c.args.number (Taped tape) (outcome_of c.offer-step.result)) c.in-Ok.ensures) in
     let brings = offer_brings v c.args.member c.args.number c.args.now c.args.tape.now o.found in
     asked v v1 v' (steps.Offer c.args.member c.args.number c.args.tape.now c.args.now) c.args.member (Offering c.args.number (Taped c.args.tape.now) c.args.now) brings same c.offer-step.result c.take_in.result t.sent offers t.releases t.seen x g.R.Rows.refusals c.in_ok-place.place s s' ch
     c.one_setting.ensures c.offer-step.ensures.version c.offer-step.ensures.wire c.offer-step.ensures.steps
@@ -49,7 +49,7 @@ returns-clause-was_kept g c =
     let same = c.make_room.ensures.same in
     let t = c.take_in.ensures in
     let ch = changed_in v v1 v' c.in_ok-place.place c.args.member s s' same o.place o.within c.index_mut.ensures.value (ap (λ q. q.items) t.stations) in
-    let offers = ap (λ q. q.items) t.offers ∙ (c.log_offer.ensures ∙ ap (λ (tape : List ℕ). v1.offers.items ++ offered_of c.args.member c.args.number (Taped tape) (outcome_of c.offer-step.result)) c.in-Ok.ensures) in
+    let offers = ap (λ q. q.items) t.offers ∙ ((rw c.new-offer.ensures at c.log_offer.ensures) ∙ ap (λ (tape : List ℕ). v1.offers.items ++ offered_of c.args.member c.args.number (Taped tape) (outcome_of c.offer-step.result)) c.in-Ok.ensures) in
     let brings = offer_brings v c.args.member c.args.number c.args.now c.args.tape.now o.found in
     asked_kept v v1 v' (steps.Offer c.args.member c.args.number c.args.tape.now c.args.now) c.args.member (Offering c.args.number (Taped c.args.tape.now) c.args.now) brings same c.offer-step.result c.take_in.result t.sent offers t.releases t.seen x g.R.Rows.refusals c.in_ok-place.place s s' ch
     c.offer-step.ensures.was_kept

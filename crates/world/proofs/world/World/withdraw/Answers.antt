@@ -31,7 +31,7 @@ returns-clause-steps g c =
     let same = c.make_room.ensures.same in
     let t = c.take_in.ensures in
     let ch = changed_in v v1 v' c.in_ok-place.place c.args.member s s' same o.place o.within c.index_mut.ensures.value (ap (λ q. q.items) t.stations) in
-    let offers = ap (λ q. q.items) t.offers ∙ c.log_offer.ensures in
+    let offers = ap (λ q. q.items) t.offers ∙ (rw c.new-offer.ensures at c.log_offer.ensures) in
     asked v v1 v' (steps.Withdraw c.args.member c.args.number c.args.now) c.args.member (Offering c.args.number Void c.args.now) (withdraw_brings v c.args.member c.args.number c.args.now o.found) same c.withdraw-step.result c.take_in.result t.sent offers t.releases t.seen x g.R.Rows.refusals c.in_ok-place.place s s' ch
     c.one_setting.ensures c.withdraw-step.ensures.version c.withdraw-step.ensures.wire c.withdraw-step.ensures.steps
 
@@ -47,7 +47,7 @@ returns-clause-was_kept g c =
     let same = c.make_room.ensures.same in
     let t = c.take_in.ensures in
     let ch = changed_in v v1 v' c.in_ok-place.place c.args.member s s' same o.place o.within c.index_mut.ensures.value (ap (λ q. q.items) t.stations) in
-    let offers = ap (λ q. q.items) t.offers ∙ c.log_offer.ensures in
+    let offers = ap (λ q. q.items) t.offers ∙ (rw c.new-offer.ensures at c.log_offer.ensures) in
     asked_kept v v1 v' (steps.Withdraw c.args.member c.args.number c.args.now) c.args.member (Offering c.args.number Void c.args.now) (withdraw_brings v c.args.member c.args.number c.args.now o.found) same c.withdraw-step.result c.take_in.result t.sent offers t.releases t.seen x g.R.Rows.refusals c.in_ok-place.place s s' ch
     c.withdraw-step.ensures.was_kept
 
