@@ -1,0 +1,465 @@
+#!/usr/bin/env python3
+"""Counts from the sources how far the house is in order, a line for each figure.
+
+usage: house.py [--list | --check]
+
+Counted are all crates but those of tests.
+  clauses   Each `ensures` and `requires` of a function, on however many lines. It is repeated where one of the same word, name and text
+            stands before it in another place; white space does not count. So of three that are alike two are repeated. It is long where
+            its text, which is what stands between its braces, has more than 160 characters.
+  functions of more than four parameters. `self` is not counted.
+  types     Names of structs, enums, traits and types, private ones too, that stand in more than one crate.
+  the walk  What a reader passes from the call `take_datagram`, by which an Accept is taken in, to the file of its galley. LEGS are the calls
+            that the loop makes for it, each with the calls in which it ends. A function lies on the way where a leg begins with it, or calls
+            it, be it through others, and it is an end of that leg, or calls one in the same manner. The walk are the functions on the way,
+            and those that they call. Functions of a file `laws.rt`, which do nothing, are not counted.
+
+Who calls whom is told from names, without a type checker. A call on a parameter or on one of its fields goes to the methods of that type, any
+other call on a value to those of all types that the function has in hand: those that it names, those of the fields that it names, and those
+that what it calls answers. In place of a trait stands the type that a station under `run` has. Left out are the arms of a `match` that an
+Accept does not come by, and what a `let` does else. Operators, conversions and what a macro writes are no calls.
+
+  what it gives                                    0.2.0    29 November 2026
+  clauses                                          2,698               6,022
+  repeated                                           791               1,626
+  long                                                22                  78
+  functions                                          130                 105
+  types                                               16                  76
+  functions, files and crates of the walk    154, 52, 21         189, 69, 27
+
+0.2.0 is 504be7e1, and that day c260e571. 0.2.0 had no groups of steps: its legs were `take_datagram`, `hand_on`, and then `prepare` and `put` of
+the folders of the host.
+
+With --list the items behind each figure are printed as well. With --check it ends with 1 where a figure is above what it may be.
+"""
+import collections
+import functools
+import glob
+import os
+import re
+import sys
+
+TOP = os.path.dirname(os.path.dirname(os.path.abspath(__file__)))
+
+# What the figures may be at most. They may go down, and never up.
+MOST_REPEATED, MOST_LONG, MOST_FUNCTIONS, MOST_TYPES = 1626, 78, 105, 0
+MOST_CALLS, MOST_FILES, MOST_CRATES = 190, 69, 27
+MOST_CHARACTERS, MOST_PARAMETERS = 160, 4
+# names of types that may stand in more than one crate
+ALLOWED = set()
+
+# where the walk goes: a crate's function, and those of its calls in which the leg ends
+LEGS = [
+    (
+        "exchange/take_datagram",
+        ["wire/receive", "packets/body_of", "acceptor/accept", "learner/hear", "line_check/check", "packets/put_body", "row_groups/put"],
+    ),
+    ("driver/hold", ["line_check/galley"]),
+    ("driver/settle_group", ["row_table/stage_entry", "wire/send", "host_folders/put_all"]),
+    ("host_folders/put_all", ["host_folders/fill", "host_folders/name_as"]),
+]
+# what stands in place of a trait there
+IN_PLACE_OF = {
+    ("saved_rows", "Rows"): ("row_groups", "Grouped"),
+    ("row_groups", "Settles"): ("row_groups", "Grouped"),
+    ("row_groups", "SavesAll"): ("acceptor_store", "SqliteRows"),
+    ("wire", "Wire"): ("wire", "GuardedWire"),
+    ("wire", "Door"): ("wire", "PlainDoor"),
+    ("wire", "Socket"): ("wire", "UdpSocket"),
+    ("folders", "Folders"): ("host_folders", "HostFolders"),
+    ("driver", "Sink"): ("run_command", "PlantDesk"),
+    ("driver", "Desk"): ("run_command", "PlantDesk"),
+}
+# the arms that are not walked: other packets, other events, no tape, the first layout, and what is refused
+ASIDE = set("Prepare Promise Accepted Nack Offer Seek Due Recall Void One First Err Failed Nothing Refused Silent Again".split())
+
+UNREAD = re.compile(r"""//[^\n]*|b?"(?:\\.|[^"\\])*"|b?'(?:\\(?:x\w\w|u\{\w+\}|.)|[^'\\\n])'""", re.DOTALL)
+CLAUSE = re.compile(r"\b(ensures\*?|requires) *(\w*) *(?=\{)")
+ANGLES = r"<(?:[^<>]|<(?:[^<>]|<[^<>]*>)*>)*>"
+FUNCTION = re.compile(rf"\bfn (\w+)({ANGLES})?(?=\()")
+BLOCK = re.compile(rf"^(?:pub(?:\(crate\))? )?(impl|trait)({ANGLES})? ([^{{;]*)(?=\{{)", re.MULTILINE)
+TYPE = re.compile(rf"^(?:pub(?:\(crate\))? )?(struct|enum|trait|type) (\w+)({ANGLES})?", re.MULTILINE)
+ARM = re.compile(r"^ *(\S[^\n]*?) =>\s*", re.MULTILINE)
+CALL = re.compile(r"(\.\s*|(?:\w+(?:::<[^()]*?>)?::)+)?\b([a-z_]\w*)(?:::<[^()]*?>)?\(")
+CHAIN = re.compile(r"(?<![\w.)\]?])((?:\w+\s*\.\s*)*\w+)\s*$")
+
+
+# A text
+
+
+def blank(text):
+    return re.sub(r"[^\n]", " ", text)
+
+
+def without(text, begin, end):
+    """The text, with blanks in place of what stands between these places."""
+    return text[:begin] + blank(text[begin:end]) + text[end:]
+
+
+def outside(text, place, ends):
+    """The first place from this one at which one of the ends stands, outside of brackets that are opened on the way."""
+    depth = 0
+    for at in range(place, len(text)):
+        if depth == 0 and text[at] in ends:
+            return at
+        depth += (text[at] in "([{") - (text[at] in ")]}")
+    return len(text)
+
+
+def behind(text, place):
+    """The place behind the bracket that closes the one at this place."""
+    return outside(text, place + 1, ")]}") + 1
+
+
+def parts(text):
+    """What stands between the commas of a text, outside of brackets."""
+    plain, depth, found = text.replace("->", "  "), 0, [""]
+    for at, character in enumerate(plain):
+        depth += (character in "([{<") - (character in ")]}>")
+        if character == "," and depth == 0:
+            found.append("")
+        else:
+            found[-1] += text[at]
+    return [part.strip() for part in found if part.strip()]
+
+
+def words_of(text):
+    return set(re.findall(r"\w+", text))
+
+
+# A file
+
+
+Clause = collections.namedtuple("Clause", "place keyword name text")
+
+
+class Function:
+    """A function: where it stands, of which trait and type it is, its parameters as texts, what it answers, and its body."""
+
+    def __init__(self, source, match):
+        text, (self.name, generics) = source.text, match.groups()
+        close = behind(text, match.end())
+        begin = outside(text, close, "{;")
+        self.source, self.place = source, source.place_of(match.start())
+        outer, self.trait, self.type = source.block_at(match.start())
+        self.bounds = {**bounds_of(outer), **bounds_of(generics)}
+        self.parameters, self.answer = parts(text[match.end() + 1 : close - 1]), text[close:begin]
+        self.body = walked(text[begin : behind(text, begin)]) if text[begin] == "{" else ""
+        self.owner, self.is_law = None, source.path.endswith("/laws.rt")
+
+    def __str__(self):
+        return f"{self.place}: {self.type + '::' if self.type else ''}{self.name}"
+
+
+class Type:
+    """A type: where it stands, its kind, and what stands in its brackets."""
+
+    def __init__(self, source, match):
+        text, (self.kind, name, generics) = source.text, match.groups()
+        begin = outside(text, match.end(), "{(=;")
+        end = outside(text, begin + 1, "})") if text[begin] in "{(" else outside(text, begin, ";")
+        self.source, self.place, self.key = source, source.place_of(match.start()), (source.crate, name)
+        self.bounds, self.body = bounds_of(generics), text[begin + 1 : end]
+
+    def members(self):
+        """The fields of a struct, or the variants of an enum, each with a text that has its types."""
+        for number, part in enumerate(parts(self.body) if self.kind in ("struct", "enum") else []):
+            part = re.sub(r"\bpub(\([^)]*\))? ?", "", part)
+            name = re.match(r"\w+(?=:)" if self.kind == "struct" else r"\w+", part)
+            yield (name.group(0) if name else str(number)), part
+
+
+def bounds_of(generics):
+    """The words that bound each type of a list of generics, if there is one."""
+    pairs = [part.partition(":") for part in parts((generics or "<>")[1:-1])]
+    return {name.strip(): words_of(text) for name, _, text in pairs if text}
+
+
+def walked(body):
+    """A body without the arms that are not walked, and without what a `let` does else."""
+    for arm in ARM.finditer(body):
+        if all(words_of(way) & ASIDE for way in arm.group(1).partition(" if ")[0].strip("| ").split("|")):
+            begin = arm.end()
+            body = without(body, begin, behind(body, begin) if body[begin] == "{" else outside(body, begin, ",}"))
+    for other in re.finditer(r"(?<=[^}\s])\s+else (?=\{)", body):
+        body = without(body, other.end(), behind(body, other.end()))
+    return body
+
+
+class Source:
+    """A file of a crate: what it declares, and what it uses of other files."""
+
+    def __init__(self, path):
+        self.path, self.crate = path, path.split("/")[1]
+        with open(os.path.join(TOP, path), encoding="utf-8") as file:
+            written = file.read()
+        self.text = UNREAD.sub(lambda match: blank(match.group(0)), written)
+        self.clauses = [self.clause_at(match, written) for match in CLAUSE.finditer(self.text)]
+        for match in CLAUSE.finditer(self.text):
+            self.text = without(self.text, match.start(), behind(self.text, match.end()))
+        for match in re.finditer(r"\bghost\b", self.text):
+            self.text = without(self.text, match.start(), outside(self.text, match.start(), ";") + 1)
+        self.text = re.sub(r"#!?\[[^\]]*\]", lambda match: blank(match.group(0)), self.text)
+        self.uses = {}
+        for match in re.finditer(r"\buse ([^;]+);", self.text):
+            self.use("", match.group(1))
+        self.blocks = [self.block_of(match) for match in BLOCK.finditer(self.text)]
+        self.types = [Type(self, match) for match in TYPE.finditer(self.text)]
+        self.functions = [Function(self, match) for match in FUNCTION.finditer(self.text)]
+
+    def clause_at(self, match, written):
+        text = written[match.end() + 1 : behind(self.text, match.end()) - 1]
+        return Clause(self.place_of(match.start()), match.group(1), match.group(2), " ".join(text.split()))
+
+    def place_of(self, at):
+        return f"{self.path}:{self.text.count(chr(10), 0, at) + 1}"
+
+    def use(self, before, used):
+        """Notes what is used: for each name the crate and its path."""
+        path, brace, _ = used.strip().partition("{")
+        if brace:
+            for part in parts(used[used.index("{") + 1 : used.rindex("}")]):
+                self.use(before + path.strip(), part)
+        else:
+            path, _, name = (before + path).partition(" as ")
+            names = path.removesuffix("::self").split("::")
+            crate = names[0] if os.path.isdir(os.path.join(TOP, "crates", names[0])) else self.crate
+            self.uses[name or names[-1]] = (crate, names)
+
+    def block_of(self, match):
+        """Where the block of a type or a trait begins and ends, and then its generics, its trait, and the type that has it."""
+        trait, _, name = re.sub(ANGLES, "", f" for {match.group(3)}").rpartition(" for ")
+        last = [re.match(r"\W*(?:\w+::)*(\w*)", path.removeprefix(" for ")).group(1) for path in (trait, name)]
+        return match.start(), behind(self.text, match.end()), match.group(2), *last
+
+    def block_at(self, at):
+        return next((block[2:] for block in self.blocks if block[0] < at < block[1]), (None, "", ""))
+
+
+def is_of_tests(crate):
+    return crate.endswith("_tests") or crate in ("fixtures", "station_fixtures")
+
+
+def read_sources():
+    paths = sorted(glob.glob("crates/*/src/**/*.rt", root_dir=TOP, recursive=True))
+    return [Source(path) for path in paths if not is_of_tests(path.split("/")[1])]
+
+
+# Who calls whom
+
+
+class Calls:
+    """Which functions each function calls."""
+
+    def __init__(self, sources):
+        self.types = {declared.key: declared for source in sources for declared in source.types}
+        self.handed_on = {source.crate: source.uses for source in sources if source.path.endswith("/src/lib.rt")}
+        self.free, self.methods, self.traits = (collections.defaultdict(list) for _ in range(3))
+        for source in sources:
+            for function in source.functions:
+                self.note(source, function)
+
+    def note(self, source, function):
+        if not function.type:
+            self.free[source.crate, function.name].append(function)
+            return
+        function.owner = next(iter(self.types_in(function.type, source, {})), (source.crate, function.type))
+        self.methods[function.owner, function.name].append(function)
+        self.traits[function.owner].extend(self.types_in(function.trait, source, {}))
+
+    def home_of(self, source, name):
+        """The crate from which a file has a name, and its name there; a crate may hand on what is of another."""
+        crate, names = source.uses.get(name, (source.crate, [name]))
+        while crate != (further := self.handed_on.get(crate, {}).get(names[-1], (crate, names)))[0]:
+            crate, names = further
+        return crate, names[-1]
+
+    def types_in(self, text, source, bounds, owner=None):
+        """The types that a text of a file names: of a generic one its bounds, of another name what it stands for."""
+        found = set()
+        for word in words_of(text):
+            declared = self.types.get(self.home_of(source, word))
+            if word == "Self" and owner:
+                found.add(owner)
+            elif word in bounds:
+                found |= self.types_in(" ".join(bounds[word]), source, {})
+            elif declared and declared.kind == "type":
+                found |= self.types_in(declared.body, declared.source, {})
+            elif declared:
+                found.add(declared.key)
+        return found
+
+    @functools.cache
+    def members(self, key):
+        """The types of each field or variant of a type."""
+        declared = self.types.get(key)
+        return {name: self.types_in(text, declared.source, declared.bounds, key) for name, text in declared.members()} if declared else {}
+
+    def methods_of(self, keys, name):
+        found = []
+        for key in {IN_PLACE_OF.get(key, key) for key in keys}:
+            found += self.methods[key, name] or [method for trait in set(self.traits[key]) for method in self.methods[trait, name]]
+        return [function for function in found if function.body]
+
+    def within(self, keys, names):
+        """The types of a value's field, of the field of that one, and so on."""
+        for name in names:
+            keys = set().union(*(self.members(IN_PLACE_OF.get(key, key)).get(name, set()) for key in keys))
+        return keys
+
+    def plain(self, function, name):
+        """The functions of this name that a file declares, or uses."""
+        source = function.source
+        if name not in source.uses:
+            return [other for other in self.free[source.crate, name] if other.source is source]
+        return self.in_module(*self.home_of(source, name), source.uses[name][1][-2])
+
+    def in_module(self, crate, name, module):
+        found = self.free[crate, name]
+        return [other for other in found if module in re.split(r"[/.]", other.source.path)] or found
+
+    def by_path(self, function, path, name):
+        """What a call by the path of a type, of a module or of a crate goes to."""
+        names = [part for part in re.sub(ANGLES, "", path).split("::") if part]
+        keys = self.types_in(names[-1], function.source, function.bounds, function.owner) or {tuple(names[-2:])} & self.types.keys()
+        if keys:
+            return self.methods_of(keys, name)
+        source = function.source
+        crate, _ = source.uses.get(names[-1], (names[0], names))
+        return self.in_module(source.crate if crate in ("crate", "super", "self") else crate, name, names[-1])
+
+    def on_value(self, function, before, name, known, in_hand):
+        chain = CHAIN.search(before)
+        names = re.split(r"\s*\.\s*", chain.group(1)) if chain else [""]
+        return self.methods_of(self.within(known[names[0]], names[1:]) if names[0] in known else in_hand, name)
+
+    def callees(self, function, known, in_hand):
+        for call in CALL.finditer(function.body):
+            path, name = call.groups()
+            if not path:
+                yield from self.plain(function, name)
+            elif path.startswith("."):
+                yield from self.on_value(function, function.body[: call.start()], name, known, in_hand)
+            else:
+                yield from self.by_path(function, path, name)
+
+    def parameters_of(self, function):
+        """The types of each parameter."""
+        pairs = [part.partition(":") for part in function.parameters]
+        known = {name.split()[-1]: self.types_in(text, function.source, function.bounds, function.owner) for name, _, text in pairs if text}
+        return {**known, "self": {function.owner}} if len(known) < len(pairs) else known
+
+    @functools.cache
+    def of(self, function):
+        """The functions that a function calls."""
+        known = self.parameters_of(function)
+        named = self.types_in(function.answer + function.body, function.source, function.bounds, function.owner)
+        in_hand = named.union(*known.values())
+        words, found, count = words_of(function.body), set(), -1
+        while count < len(in_hand):
+            count = len(in_hand)
+            for key in list(in_hand):
+                in_hand.update(*(keys for name, keys in self.members(key).items() if name in words))
+            found.update(self.callees(function, known, in_hand))
+            for other in found:
+                in_hand |= self.types_in(other.answer, other.source, other.bounds, other.owner)
+        return found
+
+    def named(self, place):
+        """The functions of a crate's function's name."""
+        crate, name = place.split("/")
+        lists = [self.free[crate, name], *(found for (key, word), found in list(self.methods.items()) if key[0] == crate and word == name)]
+        found = [function for functions in lists for function in functions if function.body]
+        return found or sys.exit(f"house.py: no function {place}")
+
+
+def reached(starts, step):
+    found, todo = set(starts), list(starts)
+    while todo:
+        new = set(step(todo.pop())) - found
+        found |= new
+        todo += new
+    return found
+
+
+def way_of(calls, start, ends):
+    """The functions on the way of a leg."""
+    below = reached(calls.named(start), calls.of)
+    above = collections.defaultdict(set)
+    for function in below:
+        for other in calls.of(function):
+            above[other].add(function)
+    goals = [[function for function in calls.named(end) if function in below] or sys.exit(f"house.py: {start} calls no {end}") for end in ends]
+    return reached([function for functions in goals for function in functions], above.__getitem__)
+
+
+def walk_of(sources):
+    calls = Calls(sources)
+    way = set().union(*(way_of(calls, start, ends) for start, ends in LEGS))
+    walk = way.union(*(calls.of(function) for function in way))
+    return sorted((function for function in walk if not function.is_law), key=str)
+
+
+# The figures
+
+
+def repeated_clauses(clauses):
+    """The places of all clauses that stand in several places, by their texts, most of them first."""
+    places = collections.defaultdict(list)
+    for clause in clauses:
+        places[f"{clause.keyword} {clause.name} {{ {clause.text} }}"].append(clause.place)
+    several = [(text, found) for text, found in places.items() if len(found) > 1]
+    return sorted(several, key=lambda pair: -len(pair[1]))
+
+
+def wide_functions(sources):
+    for source in sources:
+        for function in source.functions:
+            count = len([part for part in function.parameters if not re.search(r"\bself$", part)])
+            if count > MOST_PARAMETERS:
+                yield f"{function}: {count}"
+
+
+def shared_types(sources):
+    """The places of each name that several crates give a type."""
+    places = collections.defaultdict(dict)
+    for source in sources:
+        for declared in source.types:
+            places[declared.key[1]].setdefault(source.crate, f"{declared.place}: {declared.kind} {declared.key[1]}")
+    return {name: list(found.values()) for name, found in sorted(places.items()) if len(found) > 1 and name not in ALLOWED}
+
+
+def figures_of(sources):
+    """Each figure: what it is, how many there are, how many there may be, and the items behind it."""
+    clauses = [clause for source in sources for clause in source.clauses]
+    repeated = repeated_clauses(clauses)
+    long = [f"{clause.place}: {clause.keyword} {clause.name}: {len(clause.text)}" for clause in clauses if len(clause.text) > MOST_CHARACTERS]
+    wide, shared, walk = list(wide_functions(sources)), shared_types(sources), walk_of(sources)
+    told = [f"{len(places)} times {text}\n    " + "\n    ".join(places) for text, places in repeated]
+    files = sorted({function.source.path for function in walk})
+    crates = sorted({function.source.crate for function in walk})
+    return [
+        ("clauses", len(clauses), None, []),
+        ("repeated clauses", sum(len(places) - 1 for _, places in repeated), MOST_REPEATED, told),
+        (f"clauses of more than {MOST_CHARACTERS} characters", len(long), MOST_LONG, long),
+        (f"functions of more than {MOST_PARAMETERS} parameters", len(wide), MOST_FUNCTIONS, wide),
+        ("names of types that stand in several crates", len(shared), MOST_TYPES, ["\n    ".join([name, *places]) for name, places in shared.items()]),
+        ("functions on the walk", len(walk), MOST_CALLS, walk),
+        ("files on the walk", len(files), MOST_FILES, files),
+        ("crates on the walk", len(crates), MOST_CRATES, crates),
+    ]
+
+
+def main():
+    if sys.argv[1:] not in ([], ["--list"], ["--check"]):
+        sys.exit(__doc__)
+    figures = figures_of(read_sources())
+    for text, count, most, items in figures:
+        print(f"{text:45}{count:7,}" + (f"  at most {most}" if most is not None else ""))
+        if sys.argv[1:] == ["--list"]:
+            print("".join(f"  {item}\n" for item in items), end="")
+    if sys.argv[1:] == ["--check"] and any(most is not None and count > most for _, count, most, _ in figures):
+        sys.exit(1)
+
+
+main()
