@@ -60,17 +60,6 @@ fn take_in<R: Settles>(station: &mut Station<R>, me: u8, sent: &Answer, now: u64
     }
 }
 
-/// Where one of the two members of circuit 7 stands.
-fn seat_of_two(me: u8) -> Membership
-    ensures { result ≡ record { circuit = 7; me = me; members = 2 } }
-{
-    Membership {
-        circuit: 7,
-        me,
-        members: 2,
-    }
-}
-
 /// Plays two members of circuit 7, over rows in memory that are stored in groups, to the first release: the first is offered a
 /// tape for the numbers 12 and 13, and what they send each other of 12 comes. What a member saved is stored before it sends. Between
 /// its promise and its vote the second starts again. `None` where there is no memory, or the tape does not set at the first.
@@ -83,11 +72,17 @@ pub fn release_of_two(
     ensures { IfSome result (DayOfTwo ⟦<Grouped<MemoryRows> as Rows>⟧ ⟦<Grouped<MemoryRows> as Settles>⟧.is_settled) }
 {
     let rows = Grouped::new(alloc, MemoryRows::new(alloc));
-    let Ok(mut one) = Station::new(alloc, seat_of_two(1), first, rows) else {
+    let here = Membership {
+        circuit: 7,
+        me: 1,
+        members: 2,
+    };
+    let Ok(mut one) = Station::new(alloc, here, first, rows) else {
         return None;
     };
     let rows = Grouped::new(alloc, MemoryRows::new(alloc));
-    let Ok(mut two) = Station::new(alloc, seat_of_two(2), second, rows) else {
+    let there = Membership { me: 2, ..here };
+    let Ok(mut two) = Station::new(alloc, there, second, rows) else {
         return None;
     };
     let prepare = offer_both(&mut one, tape, 0)?;
