@@ -6,14 +6,15 @@ ghost use Rattle.configuration.specs.Reading.{file_of};
 ghost use Rattle.configuration.specs.Stations.{IsCircuit};
 ghost use Rattle.command_ends.specs.Ends.{IsOfRows, IsOfWriting};
 ghost use Rattle.command_ends.specs.declared.end.End.TheVariants.{Done};
-ghost use Rattle.station_start.specs.Starts.{identity_of};
+ghost use Rattle.station_commands.specs.Starts.{identity_of};
 ghost use Rattle.station_commands.specs.Creations.{layout_number, made_line, IsCreated};
 
+use crate::host::{Host, ThisHost};
+use crate::start_up::make_rows;
 use command_ends::{End, Fault};
 use configuration::{Config, ConfigInput, NoLookUp, read_config};
 use row_files::RowFiles;
 use saved_rows::Identity;
-use station_start::{Host, ThisHost, make_rows};
 use std::alloc::{AllocError, Global};
 use std::io::Write;
 use streams::put_all;

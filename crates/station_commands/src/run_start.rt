@@ -5,8 +5,10 @@ ghost use Rattle.configuration.specs.Stations.{IsCircuit};
 ghost use Rattle.row_files.specs.Knowing.{KnowsAll};
 
 use crate::first_line::{saved_of, tell_first};
+use crate::host::{Host, ThisHost};
 use crate::keys::keys_of;
 use crate::plant_start::{OpenPlant, open_plant};
+use crate::start_up::{Ground, Launch, Started, start};
 use crate::status_file::HostStatus;
 use code_table::CodeTable;
 use command_ends::End;
@@ -20,7 +22,6 @@ use row_groups::{Grouped, Settles};
 use run_command::{Terms, run_station};
 use saved_rows::Rows;
 use station::Station;
-use station_start::{Ground, Host, Launch, Started, ThisHost, start};
 use std::alloc::Global;
 use std::io::Write;
 use tape_frames::Version;

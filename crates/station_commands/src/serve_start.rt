@@ -3,14 +3,15 @@
 ghost use Rattle.std.specs.Prelude.{IfOk};
 ghost use Rattle.configuration.specs.Stations.{IsCircuit};
 
+use crate::host::{Host, ThisHost};
 use crate::keys::keys_of;
 use crate::plan::{making_of, offer_of};
+use crate::start_up::{Ground, Launch, Started, start};
 use command_ends::End;
 use command_line::Plan;
 use configuration::{ConfigInput, Resolver, read_config};
 use row_files::{RowFiles, close_rows};
 use serve_command::serve_run;
-use station_start::{Ground, Host, Launch, Started, ThisHost, start};
 use std::io::Write;
 
 /// A station that is to be started, and how it is served.

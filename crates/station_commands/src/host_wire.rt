@@ -1,7 +1,7 @@
 //! The wire of the machine that the program runs on.
 
 ghost use Rattle.std.specs.Prelude.{[], ◌∷◌, IfOk, length};
-ghost use Rattle.station_start.specs.Wires.{IsHostWire, host_passed};
+ghost use Rattle.station_commands.specs.Wires.{IsHostWire, host_passed};
 ghost use Rattle.wire.specs.Arrival.{Fits, came_by};
 ghost use Rattle.wire.specs.Passing.{Passes, sent, told};
 

@@ -1,7 +1,7 @@
 //! The files that a station reads before it starts.
 
 ghost use Rattle.std.specs.Prelude.{◌≡◌, IfOk, IfSome, string_bytes, option_map};
-ghost use Rattle.station_start.specs.Starts.{IsTableAt, AreWidthsAt, IsOffer};
+ghost use Rattle.station_commands.specs.Starts.{IsTableAt, AreWidthsAt, IsOffer};
 
 use crate::host::Host;
 use code_table::CodeTable;

@@ -3,7 +3,7 @@
 ghost use Rattle.std.specs.Prelude.{◌≡◌, ℕ, List, Option, None, Some, IfOk, IfSome};
 ghost use Rattle.wire.specs.declared.address.Address.{Address as AddressValue};
 ghost use Rattle.seals.specs.declared.opening.Keys.{Keys as KeysValue};
-ghost use Rattle.station_start.specs.Wires.{IsHostWire};
+ghost use Rattle.station_commands.specs.Wires.{IsHostWire};
 
 use crate::host_wire::HostWire;
 use seals::Keys;

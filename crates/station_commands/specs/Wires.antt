@@ -9,9 +9,9 @@ use Rattle.wire.specs.Passing.{Trace}
 use Rattle.wire.specs.Plain.{brings_plain, sends_plain}
 use Rattle.seals.specs.declared.opening.Keys.{Keys}
 use Rattle.sealed_door.specs.Admitting.{BringsSealed, sends_sealed}
-use Rattle.station_start.specs.declared.host_door.HostDoor.{HostDoor}
-use Rattle.station_start.specs.declared.host_door.HostDoor.TheVariants as doors
-use Rattle.station_start.specs.declared.host_wire.HostWire.{HostWire}
+use Rattle.station_commands.specs.declared.host_door.HostDoor.{HostDoor}
+use Rattle.station_commands.specs.declared.host_door.HostDoor.TheVariants as doors
+use Rattle.station_commands.specs.declared.host_wire.HostWire.{HostWire}
 
 -- which packet a datagram of a sender brings
 abbrev pub BringsAt : HostDoor → SocketAddr → List ℕ → Incoming → Type 0

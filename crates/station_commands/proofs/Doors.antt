@@ -3,9 +3,9 @@ use Rattle.std.proofs.Common.{◌≡◌, subst, sym}
 use Rattle.wire.specs.Doors.{BringsAlike}
 use Rattle.sealed_door.specs.Admitting.{BringsSealed}
 use Rattle.sealed_door.specs.declared.door.SealedDoor.{SealedDoor}
-use Rattle.station_start.specs.Wires.{BringsAt}
-use Rattle.station_start.specs.declared.host_door.HostDoor.{HostDoor}
-use Rattle.station_start.specs.declared.host_door.HostDoor.TheVariants as doors
+use Rattle.station_commands.specs.Wires.{BringsAt}
+use Rattle.station_commands.specs.declared.host_door.HostDoor.{HostDoor}
+use Rattle.station_commands.specs.declared.host_door.HostDoor.TheVariants as doors
 
 -- a sealed door that brings the same is such a door that does
 pub sealed_alike : (old : HostDoor) (door new : SealedDoor) → old ≡ doors.Sealed door → BringsAlike (BringsSealed door) (BringsSealed new) → BringsAlike (BringsAt old) (BringsSealed new)

@@ -1,7 +1,7 @@
 //! The door of a station on the machine that the program runs on: plain, or sealed.
 
 ghost use Rattle.std.specs.Prelude.{IfOk};
-ghost use Rattle.station_start.specs.Wires.{BringsAt, IsHostDoor, sends_at};
+ghost use Rattle.station_commands.specs.Wires.{BringsAt, IsHostDoor, sends_at};
 ghost use Rattle.wire.specs.Doors.{BringsAlike, BringsOnly};
 
 use ballots::Member;

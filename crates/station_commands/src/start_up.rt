@@ -5,7 +5,7 @@ ghost use Rattle.configuration.specs.Reading.{file_of};
 ghost use Rattle.configuration.specs.Stations.{IsCircuit};
 ghost use Rattle.row_files.specs.Creating.{AreMade};
 ghost use Rattle.saved_rows.specs.Identity.{IsIdentity};
-ghost use Rattle.station_start.specs.Starts.{identity_of, IsStationOf, IsTableAt, AreWidthsAt, IsOffer, AreRowsOf, AreRowsAt, IsWireOf};
+ghost use Rattle.station_commands.specs.Starts.{identity_of, IsStationOf, IsTableAt, AreWidthsAt, IsOffer, AreRowsOf, AreRowsAt, IsWireOf};
 
 use crate::files::{Files, read_files};
 use crate::host::Host;
