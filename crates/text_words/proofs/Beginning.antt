@@ -3,11 +3,12 @@ use Rattle.std.proofs.Common.{◌≡◌, Bool, true, false, cond, nat_le, ◌&&�
 use Rattle.std.specs.Prelude.{IfSome, max}
 use Rattle.std.specs.List.{list_all}
 use Rattle.std.proofs.lemmas.Bool.{and_parts}
+use Rattle.std.proofs.lemmas.Bool.Decides.{nat_tests}
 use Rattle.std.proofs.lemmas.List.{take-append-drop, take_more, length-take}
 use Rattle.text_words.specs.declared.word.Word.{Word}
 use Rattle.text_words.specs.declared.piece.TextPiece.{TextPiece}
-use Rattle.text_words.specs.Words.{IsPiece}
-use Rattle.text_words.specs.Ligatures.{begun_by, longest_len, matrix_word, IsFirst, joined, apart}
+use Rattle.text_words.specs.Words.{BeginsWith}
+use Rattle.text_words.specs.Ligatures.{begun_by, longest_len, matrix_word, IsFirst, IsFirstPiece, joined, apart}
 use Rattle.text_words.specs.Laws.{OneBeginning}
 use Rattle.text_words.proofs.Pieces.{pieces_alike}
 
@@ -16,10 +17,14 @@ take_len len text h = omega (arith, length-take len text)
 
 -- a piece that is read is the first, where no ligature is
 pub apart_first :
-    (ligatures : List (List ℕ)) (text : List ℕ) (o : Option TextPiece) → longest_len ligatures text ≡ 0 → IfSome o (λ piece. (1 ≤ piece.len) × (piece.len ≤ length text))
-    → IfSome o (λ piece. IsPiece (take piece.len text) piece.said) → IfSome o (λ piece. IsFirst ligatures text piece.len piece.said)
-apart_first ligatures text None e within is = tt
-apart_first ligatures text (Some piece) e within is = apart piece.len piece.said e within.1 is
+    (ligatures : List (List ℕ)) (text : List ℕ) (o : Option TextPiece) → longest_len ligatures text ≡ 0 → IfSome o (λ piece. BeginsWith text piece.len piece.said)
+    → IfSome o (λ piece. IsFirstPiece ligatures text piece.len piece.said)
+apart_first ligatures text None e begins = tt
+apart_first ligatures text (Some piece) e begins = record {
+  some = begins.some;
+  within = begins.within;
+  is_first = apart piece.len piece.said e begins.within begins.is_piece;
+}
 
 -- a text is begun by as many bytes, and they say the same
 pub record Begun (m n : ℕ) (x y : Option Word) : Type 0 where
@@ -41,6 +46,10 @@ pub one_beginning : OneBeginning
 one_beginning ligatures text m n x y p q =
     let once = begun_once ligatures text m n x y p q in
     (once.len, once.said)
+
+-- a text is begun by no more bytes than it has
+pub begun_within : (text name : List ℕ) → begun_by text name ≤ length text
+begun_within text name = grind (arith, nat_tests, and_parts)
 
 -- the longest of one name more
 longest_push : (names : List (List ℕ)) (name text : List ℕ) → longest_len (names ++ name ∷ []) text ≡ max (longest_len names text) (begun_by text name)

@@ -24,3 +24,9 @@ matrix_word name = option_map (λ m. Means m) (matrix_of name)
 pub data IsFirst (ligatures : List (List ℕ)) (text : List ℕ) : ℕ → Option Word → Type 0 where
   joined : (len : ℕ) (said : Option Word) → len ≡ longest_len ligatures text → 1 ≤ len → said ≡ matrix_word (take len text) → IsFirst ligatures text len said
   apart : (len : ℕ) (said : Option Word) → longest_len ligatures text ≡ 0 → len ≤ length text → IsPiece (take len text) said → IsFirst ligatures text len said
+
+-- the first piece of a text has so many bytes, one at least and no more than there are, and says this word, if any
+pub record IsFirstPiece (ligatures : List (List ℕ)) (text : List ℕ) (len : ℕ) (said : Option Word) : Type 0 where
+  pub some : 1 ≤ len
+  pub within : len ≤ length text
+  pub is_first : IsFirst ligatures text len said

@@ -1,5 +1,5 @@
 -- The words of a text: what a byte says, and what a name in braces says.
-use Rattle.std.specs.Prelude.{◌≡◌, ℕ, zero, suc, ◌+◌, ◌-◌, ◌*◌, List, [], ◌∷◌, ◌++◌, Bool, false, Option, Some, None, IsTrue, option_map, not, nat_le, ◌==◌, ◌&&◌, if◌then◌else◌}
+use Rattle.std.specs.Prelude.{◌≡◌, ℕ, zero, suc, ◌+◌, ◌-◌, ◌*◌, List, [], ◌∷◌, ◌++◌, Bool, false, Option, Some, None, IsTrue, length, take, ◌≤◌, option_map, not, nat_le, ◌==◌, ◌&&◌, if◌then◌else◌}
 use Rattle.std.specs.List.{list_all}
 use Rattle.code_table.specs.Names.{is_printed}
 use Rattle.code_table.specs.Texts.{matrix_of, meaning_of}
@@ -56,6 +56,12 @@ inner_len (byte ∷ rest) = if is_inner byte then suc (inner_len rest) else zero
 pub data IsPiece : List ℕ → Option Word → Type 0 where
   lone : (b : ℕ) (said : Option Word) → (b ≡ 123 → ⊥) → said ≡ byte_word b → IsPiece (b ∷ []) said
   braced : (name : List ℕ) (said : Option Word) → IsTrue (is_in_braces name) → said ≡ named_word name → IsPiece (123 ∷ name ++ 125 ∷ []) said
+
+-- a text begins with a piece of so many bytes, which says this word, if any
+pub record BeginsWith (text : List ℕ) (len : ℕ) (said : Option Word) : Type 0 where
+  pub some : 1 ≤ len
+  pub within : len ≤ length text
+  pub is_piece : IsPiece (take len text) said
 
 -- a text begins with no name and a closing brace behind it
 abbrev pub IsUnclosed : List ℕ → Type 0

@@ -48,8 +48,7 @@ pub fn ligatures_of(alloc: Global, names: &str) -> Result<Vec<Name>, LigatureErr
 
 /// How many bytes of the text the name takes, where the text begins with it.
 fn begun_by(text: &[u8], name: &[u8]) -> usize
-    ensures value { result ≡ begun_by text.now name.now }
-    ensures within { result ≤ length text.now }
+    ensures { result ≡ begun_by text.now name.now }
 {
     let len = name.len();
     if len <= text.len() && &text[..len] == name {

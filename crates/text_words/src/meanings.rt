@@ -1,6 +1,6 @@
 //! What a byte says by itself, and what a name in braces says.
 
-ghost use Rattle.std.specs.Prelude.{◌≡◌, ◌≤◌, IfSome, IsTrue};
+ghost use Rattle.std.specs.Prelude.{◌≡◌, IsTrue};
 ghost use Rattle.code_table.specs.Texts.{function_of, matrix_of, meaning_of};
 ghost use Rattle.text_words.specs.Ligatures.{matrix_word};
 ghost use Rattle.text_words.specs.Words.{byte_word, is_digit, frame_named, named_word, is_in_braces};
@@ -47,8 +47,7 @@ fn is_digit(byte: u8) -> bool
 
 /// The frame that a name in braces gives by its number.
 fn frame_named(name: &[u8]) -> Option<u8>
-    ensures value { result ≡ frame_named name.now }
-    ensures small { IfSome result (λ frame. frame ≤ 63) }
+    ensures { result ≡ frame_named name.now }
 {
     match name {
         [b'@', unit] if is_digit(*unit) => Some(*unit - 48),

@@ -1,6 +1,6 @@
 //! Names in braces: which bytes they have, and where they end.
 
-ghost use Rattle.std.specs.Prelude.{◌≡◌, ◌<◌, ◌≤◌, None, length, take, slice_index, IfSome, IsTrue};
+ghost use Rattle.std.specs.Prelude.{◌≡◌, ◌<◌, None, length, take, slice_index, IfSome, IsTrue};
 ghost use Rattle.std.specs.List.{list_all};
 ghost use Rattle.code_table.specs.Names.{is_printed};
 ghost use Rattle.text_words.specs.Words.{is_inner, is_in_braces, inner_len, IsUnclosed};
@@ -23,8 +23,7 @@ fn is_inner(byte: u8) -> bool
 
 /// How many bytes of a name, behind its first, the text begins with.
 fn inner_len(text: &[u8]) -> usize
-    ensures value { result ≡ inner_len text.now }
-    ensures within { result ≤ length text.now }
+    ensures { result ≡ inner_len text.now }
 {
     for (i, byte) in text.iter().enumerate() {
         if !is_inner(*byte) {

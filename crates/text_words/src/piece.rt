@@ -1,8 +1,8 @@
 //! The first piece of a text.
 
-ghost use Rattle.std.specs.Prelude.{◌≡◌, ◌≤◌, None, length, take, IfSome};
-ghost use Rattle.text_words.specs.Ligatures.{longest_len, IsFirst};
-ghost use Rattle.text_words.specs.Words.{IsPiece, HasNoEnd};
+ghost use Rattle.std.specs.Prelude.{◌≡◌, ◌≤◌, None, length, IfSome};
+ghost use Rattle.text_words.specs.Ligatures.{longest_len, IsFirstPiece};
+ghost use Rattle.text_words.specs.Words.{BeginsWith, HasNoEnd};
 
 use crate::ligatures::longest_len;
 use crate::meanings::{byte_word, matrix_word, named_word};
@@ -23,8 +23,7 @@ pub struct TextPiece {
 /// that does not print.
 fn piece_at(text: &[u8]) -> Option<TextPiece>
     requires { 1 ≤ length text.now }
-    ensures within { IfSome result (λ piece. (1 ≤ piece.len) × (piece.len ≤ length text.now)) }
-    ensures piece { IfSome result (λ piece. IsPiece (take piece.len text.now) piece.said) }
+    ensures piece { IfSome result (λ piece. BeginsWith text.now piece.len piece.said) }
     ensures none { result ≡ None → HasNoEnd text.now }
 {
     let first = text[0];
@@ -48,8 +47,7 @@ fn piece_at(text: &[u8]) -> Option<TextPiece>
 #[tactic(auto, using(crate::proofs::Beginning::apart_first))]
 pub fn first_piece(ligatures: &[Name], text: &[u8]) -> Option<TextPiece>
     requires { 1 ≤ length text.now }
-    ensures within { IfSome result (λ piece. (1 ≤ piece.len) × (piece.len ≤ length text.now)) }
-    ensures first { IfSome result (λ piece. IsFirst ligatures.now text.now piece.len piece.said) }
+    ensures first { IfSome result (λ piece. IsFirstPiece ligatures.now text.now piece.len piece.said) }
     ensures none { result ≡ None → HasNoEnd text.now × (longest_len ligatures.now text.now ≡ 0) }
 {
     let len = longest_len(ligatures, text);
