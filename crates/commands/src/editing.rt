@@ -3,7 +3,9 @@
 use crate::story::Story;
 use code_table::Name;
 use command_ends::{End, Fault, TapePaths};
-use editor_commands::{Form, Given, StoryPaths, fit, punch, spell};
+use editor_commands::{
+    FitOrder, Form, Given, PunchOrder, SpellOrder, StoryPaths, fit, punch, spell,
+};
 use std::alloc::Global;
 use std::io::{Read, Write};
 use streams::InputFile;
@@ -47,18 +49,14 @@ pub fn run_punch<R: Read, W: Write, E: Write>(
         Ok(ligatures) => ligatures,
         Err(error) => return tell_ligatures(error, err),
     };
-    let mut table = InputFile::at(rt, paths.table);
-    let mut text = Story::at(rt, paths.story, input);
-    punch(
-        rt.alloc(),
+    let order = PunchOrder {
         paths,
-        &mut table,
-        &mut text,
-        &ligatures,
+        table: InputFile::at(rt, paths.table),
+        text: Story::at(rt, paths.story, input),
+        ligatures: &ligatures,
         room,
-        out,
-        err,
-    )
+    };
+    punch(rt.alloc(), order, out, err)
 }
 
 /// Spells the tape at its path by the table at its.
@@ -70,10 +68,13 @@ pub fn run_spell<R: Read, W: Write, E: Write>(
     out: &mut W,
     err: &mut E,
 ) -> End {
-    let form = if plain { Form::Plain } else { Form::Punchable };
-    let mut table = InputFile::at(rt, paths.table);
-    let mut tape = Story::at(rt, paths.story, input);
-    spell(rt.alloc(), paths, &mut table, &mut tape, form, out, err)
+    let order = SpellOrder {
+        paths,
+        table: InputFile::at(rt, paths.table),
+        tape: Story::at(rt, paths.story, input),
+        form: if plain { Form::Plain } else { Form::Punchable },
+    };
+    spell(rt.alloc(), order, out, err)
 }
 
 /// Tells how each line fits of the story at its path, by the table and the widths at theirs.
@@ -85,18 +86,12 @@ pub fn run_fit<R: Read, W: Write, E: Write>(
     out: &mut W,
     err: &mut E,
 ) -> End {
-    let given = if text { Given::Text } else { Given::Tape };
-    let mut table = InputFile::at(rt, paths.table);
-    let mut widths = InputFile::at(rt, paths.widths);
-    let mut story = Story::at(rt, paths.tape, input);
-    fit(
-        rt.alloc(),
+    let order = FitOrder {
         paths,
-        &mut table,
-        &mut widths,
-        &mut story,
-        given,
-        out,
-        err,
-    )
+        table: InputFile::at(rt, paths.table),
+        widths: InputFile::at(rt, paths.widths),
+        story: Story::at(rt, paths.tape, input),
+        given: if text { Given::Text } else { Given::Tape },
+    };
+    fit(rt.alloc(), order, out, err)
 }

@@ -1,19 +1,17 @@
 -- How the commands for editors end, by their cause.
-use Rattle.std.proofs.Common.{◌≡◌, ℕ, List, Option, Some, None, inl, inr, refl}
+use Rattle.std.proofs.Common.{◌≡◌, ℕ, List, Option, Some, None, inl, inr, refl, sym, subst}
 use Rattle.std.specs.Io.KnownBytes.{Appends, Keeps}
 use Rattle.std.proofs.KnownBytes.{Appends-kept}
 use Rattle.streams.specs.Fronts.{AppendsFront}
 use Rattle.streams.proofs.Fronts.{front_of_all}
-use Rattle.tape_frames.specs.declared.version.Version.{Version}
-use Rattle.text_tape.specs.Punching.{Ligatures}
+use Rattle.command_ends.specs.Ends.{IsOfInput}
 use Rattle.command_ends.specs.declared.end.End.{End}
 use Rattle.command_ends.specs.declared.end.End.TheVariants.{Done, Input}
-use Rattle.editor_commands.specs.declared.spelling.Form.{Form}
 use Rattle.editor_commands.specs.Ends.{BreaksOff, IfBoth}
 use Rattle.editor_commands.specs.Punched as punched
-use Rattle.editor_commands.specs.Punched.{WasPunched, BreaksOffPunching, Punches}
+use Rattle.editor_commands.specs.Punched.{ToPunch, IsTapeOf, WasPunched, BreaksOffPunching, Punched, Punches}
 use Rattle.editor_commands.specs.SpelledAs as spelled
-use Rattle.editor_commands.specs.SpelledAs.{WasSpelled, BreaksOffSpelling, Spells}
+use Rattle.editor_commands.specs.SpelledAs.{ToSpell, IsTextOf, WasSpelled, BreaksOffSpelling, SpelledAs, Spells}
 
 -- what is not handed on was written
 pub cut : (old mid new : Option (List ℕ)) (text : List ℕ) → Appends old mid text → Keeps mid new → BreaksOff (AppendsFront old new text) Input old new
@@ -25,32 +23,52 @@ both None second P Q f h = tt
 both (Some xs) None P Q f h = tt
 both (Some xs) (Some ys) P Q f h = f xs ys h
 
-pub punched_whole : (table text : Option (List ℕ)) (ligatures : Ligatures) (room : Version) (old new : Option (List ℕ))
-    → IfBoth table text (λ ts xs. WasPunched ts xs ligatures room old new) → IfBoth table text (λ ts xs. Punches ts xs ligatures room Done old new)
-punched_whole table text ligatures room old new h =
-    both table text (λ ts xs. WasPunched ts xs ligatures room old new) (λ ts xs. Punches ts xs ligatures room Done old new) (λ ts xs w. punched.Whole refl w) h
+-- a tape that was written ends the command well
+pub punched_whole : (order : ToPunch) (old new : Option (List ℕ)) → WasPunched order old new → Punches order Done old new
+punched_whole order old new h = record {
+  ends = tt;
+  done = (λ well. h);
+  cause = both order.table order.text (λ ts xs. IsTapeOf order ts xs (Appends old new)) (λ ts xs. Punched order ts xs Done old new) (λ ts xs w. punched.Whole refl w) h;
+}
 
-punching_off : (ts xs : List ℕ) (ligatures : Ligatures) (room : Version) (end : End) (old new : Option (List ℕ)) → ¬ (end ≡ Done) → BreaksOffPunching ts xs ligatures room end old new → Punches ts xs ligatures room end old new
-punching_off ts xs ligatures room end old new fails (inl none) = punched.Unwritten none.0 fails none.1
-punching_off ts xs ligatures room end old new fails (inr some) = punched.Cut some.0 some.1
+punching_off : (order : ToPunch) (ts xs : List ℕ) (end : End) (old new : Option (List ℕ)) → ¬ (end ≡ Done) → BreaksOff (IsTapeOf order ts xs (AppendsFront old new)) end old new → Punched order ts xs end old new
+punching_off order ts xs end old new fails (inl none) = punched.Unwritten none.0 fails none.1
+punching_off order ts xs end old new fails (inr some) = punched.Cut some.0 some.1
 
-pub punching_broken : (table text : Option (List ℕ)) (ligatures : Ligatures) (room : Version) (end : End) (old new : Option (List ℕ)) → ¬ (end ≡ Done)
-    → IfBoth table text (λ ts xs. BreaksOffPunching ts xs ligatures room end old new) → IfBoth table text (λ ts xs. Punches ts xs ligatures room end old new)
-punching_broken table text ligatures room end old new fails h =
-    both table text (λ ts xs. BreaksOffPunching ts xs ligatures room end old new) (λ ts xs. Punches ts xs ligatures room end old new)
-    (λ ts xs b. punching_off ts xs ligatures room end old new fails b) h
+punching_by : (order : ToPunch) (end : End) (old new : Option (List ℕ)) → ¬ (end ≡ Done) → BreaksOffPunching order end old new → Punches order end old new
+punching_by order end old new fails off = record {
+  ends = off.ends;
+  done = (λ well. absurd (fails well));
+  cause =
+      both order.table order.text (λ ts xs. BreaksOff (IsTapeOf order ts xs (AppendsFront old new)) end old new) (λ ts xs. Punched order ts xs end old new)
+      (λ ts xs b. punching_off order ts xs end old new fails b) off.wrote;
+}
 
-pub spelled_whole : (table tape : Option (List ℕ)) (form : Form) (old new : Option (List ℕ))
-    → IfBoth table tape (λ ts xs. WasSpelled ts xs form old new) → IfBoth table tape (λ ts xs. Spells ts xs form Done old new)
-spelled_whole table tape form old new h =
-    both table tape (λ ts xs. WasSpelled ts xs form old new) (λ ts xs. Spells ts xs form Done old new) (λ ts xs w. spelled.Whole refl w) h
+-- a command that breaks off ends by what broke it off
+pub punching_broken : (order : ToPunch) (end told : End) (old new : Option (List ℕ)) → end ≡ told → ¬ (end ≡ Done) → BreaksOffPunching order told old new → Punches order end old new
+punching_broken order end told old new same fails off = punching_by order end old new fails (subst (λ e. BreaksOffPunching order e old new) (sym same) off)
 
-spelling_off : (ts xs : List ℕ) (form : Form) (end : End) (old new : Option (List ℕ)) → ¬ (end ≡ Done) → BreaksOffSpelling ts xs form end old new → Spells ts xs form end old new
-spelling_off ts xs form end old new fails (inl none) = spelled.Unwritten none.0 fails none.1
-spelling_off ts xs form end old new fails (inr some) = spelled.Cut some.0 some.1
+-- a text that was written ends the command well
+pub spelled_whole : (order : ToSpell) (old new : Option (List ℕ)) → WasSpelled order old new → Spells order Done old new
+spelled_whole order old new h = record {
+  ends = tt;
+  done = (λ well. h);
+  cause = both order.table order.tape (λ ts xs. IsTextOf order ts xs (Appends old new)) (λ ts xs. SpelledAs order ts xs Done old new) (λ ts xs w. spelled.Whole refl w) h;
+}
 
-pub spelling_broken : (table tape : Option (List ℕ)) (form : Form) (end : End) (old new : Option (List ℕ)) → ¬ (end ≡ Done)
-    → IfBoth table tape (λ ts xs. BreaksOffSpelling ts xs form end old new) → IfBoth table tape (λ ts xs. Spells ts xs form end old new)
-spelling_broken table tape form end old new fails h =
-    both table tape (λ ts xs. BreaksOffSpelling ts xs form end old new) (λ ts xs. Spells ts xs form end old new)
-    (λ ts xs b. spelling_off ts xs form end old new fails b) h
+spelling_off : (order : ToSpell) (ts xs : List ℕ) (end : End) (old new : Option (List ℕ)) → ¬ (end ≡ Done) → BreaksOff (IsTextOf order ts xs (AppendsFront old new)) end old new → SpelledAs order ts xs end old new
+spelling_off order ts xs end old new fails (inl none) = spelled.Unwritten none.0 fails none.1
+spelling_off order ts xs end old new fails (inr some) = spelled.Cut some.0 some.1
+
+spelling_by : (order : ToSpell) (end : End) (old new : Option (List ℕ)) → ¬ (end ≡ Done) → BreaksOffSpelling order end old new → Spells order end old new
+spelling_by order end old new fails off = record {
+  ends = off.ends;
+  done = (λ well. absurd (fails well));
+  cause =
+      both order.table order.tape (λ ts xs. BreaksOff (IsTextOf order ts xs (AppendsFront old new)) end old new) (λ ts xs. SpelledAs order ts xs end old new)
+      (λ ts xs b. spelling_off order ts xs end old new fails b) off.wrote;
+}
+
+-- a command that breaks off ends by what broke it off
+pub spelling_broken : (order : ToSpell) (end told : End) (old new : Option (List ℕ)) → end ≡ told → ¬ (end ≡ Done) → BreaksOffSpelling order told old new → Spells order end old new
+spelling_broken order end told old new same fails off = spelling_by order end old new fails (subst (λ e. BreaksOffSpelling order e old new) (sym same) off)

@@ -1,12 +1,12 @@
 -- How `fit` ends, by its cause; and that a tape sets where no line has a fault.
-use Rattle.std.proofs.Common.{◌≡◌, ℕ, zero, suc, ◌+◌, cond, List, [], ◌∷◌, Option, Some, None, inl, inr, refl, sym, ◌∙◌, arith}
+use Rattle.std.proofs.Common.{◌≡◌, ℕ, zero, suc, ◌+◌, cond, List, [], ◌∷◌, Option, Some, None, inl, inr, refl, sym, subst, ◌∙◌, arith}
 use Rattle.std.specs.Prelude.{count_by}
 use Rattle.std.proofs.lemmas.List.Sums.{sum_by-cons}
 use Rattle.std.specs.Io.KnownBytes.{Appends}
 use Rattle.slug_reader.specs.Positions.{first}
-use Rattle.widths.specs.Widths.{WidthFile}
-use Rattle.slug_reader.specs.Meanings.{Meanings}
+use Rattle.code_table.specs.Tables.{mean}
 use Rattle.line_check.specs.declared.fault.SetFault.{SetFault}
+use Rattle.line_check.specs.declared.setting.Setting.{Setting}
 use Rattle.line_check.specs.Sets.{first_fault}
 use Rattle.line_fit.specs.declared.verdict.Verdict.TheVariants as verdicts
 use Rattle.line_fit.specs.declared.verdict.LineFit.{LineFit}
@@ -14,10 +14,11 @@ use Rattle.line_fit.specs.declared.fitting.Fitting.{Fitting}
 use Rattle.line_fit.specs.Fitting.{Fits, fault_in, first_told}
 use Rattle.command_ends.specs.declared.end.End.{End}
 use Rattle.command_ends.specs.declared.end.End.TheVariants.{Done, Input}
-use Rattle.editor_commands.specs.declared.fitting.Given.{Given}
-use Rattle.editor_commands.specs.Ends.{BreaksOffText, IfAll}
+use Rattle.command_ends.specs.Ends.{IsOfInput}
+use Rattle.streams.specs.Fronts.{AppendsFront}
+use Rattle.editor_commands.specs.Ends.{BreaksOff, BreaksOffText, IfAll}
 use Rattle.editor_commands.specs.Report.{is_faulty, one_if, faults_in, report_text}
-use Rattle.editor_commands.specs.Fitted.{WasReported, BreaksOffReport, WasFitted, BreaksOffFitting, end_by, FitsStory, Whole, Faulty, Unwritten, Cut}
+use Rattle.editor_commands.specs.Fitted.{ToFit, IsReportOf, WasReported, BreaksOffReport, WasFitted, WasPrefixFitted, BreaksOffFitting, end_by, FitsStory, Whole, Faulty, Unwritten, Cut, FitsWhole}
 
 -- what follows of the texts follows where they are known
 mapped : (table widths story : Option (List ℕ)) (P Q : List ℕ → List ℕ → List ℕ → Type 0) → ((ts ws xs : List ℕ) → P ts ws xs → Q ts ws xs) → IfAll table widths story P → IfAll table widths story Q
@@ -26,40 +27,51 @@ mapped (Some ts) None story P Q f h = tt
 mapped (Some ts) (Some ws) None P Q f h = tt
 mapped (Some ts) (Some ws) (Some xs) P Q f h = f ts ws xs h
 
-fitted_by : (ts ws xs : List ℕ) (given : Given) (faults : ℕ) (end : End) (old new : Option (List ℕ)) → end ≡ end_by faults
-    → WasFitted ts ws xs given faults old new → FitsStory ts ws xs given end old new
-fitted_by ts ws xs given zero end old new is w = Whole is w
-fitted_by ts ws xs given (suc n) end old new is w = Faulty n is w
-
--- a report that was written ends the command by how many lines do not set
-pub fitted : (table widths story : Option (List ℕ)) (given : Given) (faults : ℕ) (end : End) (old new : Option (List ℕ)) → end ≡ end_by faults
-    → IfAll table widths story (λ ts ws xs. WasFitted ts ws xs given faults old new)
-    → IfAll table widths story (λ ts ws xs. FitsStory ts ws xs given end old new)
-fitted table widths story given faults end old new is h =
-    mapped table widths story (λ ts ws xs. WasFitted ts ws xs given faults old new) (λ ts ws xs. FitsStory ts ws xs given end old new) (λ ts ws xs w. fitted_by ts ws xs given faults end old new is w) h
+fitted_by : (order : ToFit) (ts ws xs : List ℕ) (faults : ℕ) (end : End) (old new : Option (List ℕ)) → end ≡ end_by faults
+    → IsReportOf order ts ws xs faults (Appends old new) → FitsStory order ts ws xs end old new
+fitted_by order ts ws xs zero end old new is w = Whole is w
+fitted_by order ts ws xs (suc n) end old new is w = Faulty n is w
 
 input_is_not_done : ¬ (Input ≡ Done)
 input_is_not_done e = cc
 
--- where it ends well each line sets
-pub whole : (table widths story : Option (List ℕ)) (given : Given) (faults : ℕ) (end : End) (old new : Option (List ℕ)) → end ≡ end_by faults → end ≡ Done
-    → IfAll table widths story (λ ts ws xs. WasFitted ts ws xs given faults old new)
-    → IfAll table widths story (λ ts ws xs. WasFitted ts ws xs given 0 old new)
-whole table widths story given zero end old new is well h = h
-whole table widths story given (suc n) end old new is well h = absurd (input_is_not_done (sym is ∙ well))
+-- a report ends a command by how many lines do not set
+report_ends : (faults : ℕ) (end : End) → end ≡ end_by faults → IsOfInput end
+report_ends zero end is = subst IsOfInput (sym is) tt
+report_ends (suc n) end is = subst IsOfInput (sym is) tt
 
-broken_off : (ts ws xs : List ℕ) (given : Given) (end : End) (old new : Option (List ℕ)) → ¬ (end ≡ Done)
-    → BreaksOffFitting ts ws xs given end old new → FitsStory ts ws xs given end old new
-broken_off ts ws xs given end old new fails (inl none) = Unwritten none.0 fails none.1
-broken_off ts ws xs given end old new fails (inr some) = Cut some.1.0 some.0 some.1.1
+-- where it ends well each line sets
+whole : (order : ToFit) (faults : ℕ) (end : End) (old new : Option (List ℕ)) → end ≡ end_by faults → WasFitted order faults old new → end ≡ Done → WasFitted order 0 old new
+whole order zero end old new is h well = h
+whole order (suc n) end old new is h well = absurd (input_is_not_done (sym is ∙ well))
+
+-- a report that was written ends the command by how many lines do not set
+pub fitted : (order : ToFit) (faults : ℕ) (end : End) (old new : Option (List ℕ)) → end ≡ end_by faults → WasFitted order faults old new → FitsWhole order end old new
+fitted order faults end old new is h = record {
+  ends = report_ends faults end is;
+  done = (λ well. whole order faults end old new is h well);
+  cause =
+      mapped order.table order.widths order.story (λ ts ws xs. IsReportOf order ts ws xs faults (Appends old new)) (λ ts ws xs. FitsStory order ts ws xs end old new)
+      (λ ts ws xs w. fitted_by order ts ws xs faults end old new is w) h;
+}
+
+broken_off : (order : ToFit) (ts ws xs : List ℕ) (end : End) (old new : Option (List ℕ)) → ¬ (end ≡ Done)
+    → BreaksOff (WasPrefixFitted order ts ws xs old new) end old new → FitsStory order ts ws xs end old new
+broken_off order ts ws xs end old new fails (inl none) = Unwritten none.0 fails none.1
+broken_off order ts ws xs end old new fails (inr some) = Cut some.1.0 some.0 some.1.1
+
+broken_by : (order : ToFit) (end : End) (old new : Option (List ℕ)) → ¬ (end ≡ Done) → BreaksOffFitting order end old new → FitsWhole order end old new
+broken_by order end old new fails off = record {
+  ends = off.ends;
+  done = (λ well. absurd (fails well));
+  cause =
+      mapped order.table order.widths order.story (λ ts ws xs. BreaksOff (WasPrefixFitted order ts ws xs old new) end old new) (λ ts ws xs. FitsStory order ts ws xs end old new)
+      (λ ts ws xs b. broken_off order ts ws xs end old new fails b) off.wrote;
+}
 
 -- a command that breaks off ends by what broke it off
-pub broken : (table widths story : Option (List ℕ)) (given : Given) (end : End) (old new : Option (List ℕ)) → ¬ (end ≡ Done)
-    → IfAll table widths story (λ ts ws xs. BreaksOffFitting ts ws xs given end old new)
-    → IfAll table widths story (λ ts ws xs. FitsStory ts ws xs given end old new)
-broken table widths story given end old new fails h =
-    mapped table widths story (λ ts ws xs. BreaksOffFitting ts ws xs given end old new) (λ ts ws xs. FitsStory ts ws xs given end old new)
-    (λ ts ws xs b. broken_off ts ws xs given end old new fails b) h
+pub broken : (order : ToFit) (end told : End) (old new : Option (List ℕ)) → end ≡ told → ¬ (end ≡ Done) → BreaksOffFitting order told old new → FitsWhole order end old new
+broken order end told old new same fails off = broken_by order end old new fails (subst (λ e. BreaksOffFitting order e old new) (sym same) off)
 
 -- where no line is faulty, none tells a fault
 sum_none : (a b : ℕ) → a + b ≡ 0 → (a ≡ 0) × (b ≡ 0)
@@ -88,11 +100,11 @@ sets fitting first_one is h =
 
 -- a report that breaks off
 pub report_broken :
-    (means : Meanings) (file : WidthFile) (tape : List ℕ) (fitting : Fitting) (text : List ℕ) (end : End) (old new : Option (List ℕ))
-    → Fits means file tape fitting → first_told fitting ≡ first_fault means file tape → text ≡ report_text file.measure fitting
-    → BreaksOffText text end old new → BreaksOffReport means file tape end old new
-report_broken means file tape fitting text end old new fits first is (inl none) = inl none
-report_broken means file tape fitting text end old new fits first is (inr some) =
+    (setting : Setting) (tape : List ℕ) (fitting : Fitting) (text : List ℕ) (end : End) (old new : Option (List ℕ))
+    → Fits (mean setting.table) setting.widths tape fitting → first_told fitting ≡ first_fault (mean setting.table) setting.widths tape
+    → text ≡ report_text setting.widths.measure fitting → BreaksOffText text end old new → BreaksOffReport setting tape end old new
+report_broken setting tape fitting text end old new fits first is (inl none) = inl none
+report_broken setting tape fitting text end old new fits first is (inr some) =
     inr (
       some.0,
       (
@@ -103,8 +115,8 @@ report_broken means file tape fitting text end old new fits first is (inr some) 
 
 -- and one that was written
 pub report_whole :
-    (means : Meanings) (file : WidthFile) (tape : List ℕ) (fitting : Fitting) (text : List ℕ) (faults : ℕ) (old new : Option (List ℕ))
-    → Fits means file tape fitting → first_told fitting ≡ first_fault means file tape → text ≡ report_text file.measure fitting → faults ≡ faults_in fitting
-    → Appends old new text → WasReported means file tape faults old new
-report_whole means file tape fitting text faults old new fits first is many wrote =
+    (setting : Setting) (tape : List ℕ) (fitting : Fitting) (text : List ℕ) (faults : ℕ) (old new : Option (List ℕ))
+    → Fits (mean setting.table) setting.widths tape fitting → first_told fitting ≡ first_fault (mean setting.table) setting.widths tape
+    → text ≡ report_text setting.widths.measure fitting → faults ≡ faults_in fitting → Appends old new text → WasReported setting tape faults old new
+report_whole setting tape fitting text faults old new fits first is many wrote =
     record { fitting = fitting; fits = fits; is_faults = many; sets = (λ e. sets fitting _ first e); wrote = rw is at wrote }

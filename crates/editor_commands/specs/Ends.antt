@@ -1,5 +1,5 @@
 -- How a command for editors ends, and what it has written then.
-use Rattle.std.specs.Prelude.{◌≡◌, ◌⊎◌, ℕ, List, Option, IfSome}
+use Rattle.std.specs.Prelude.{◌≡◌, ◌⊎◌, ℕ, List, Option, Result, Ok, Err, IfSome}
 use Rattle.streams.specs.Fronts.{AppendsFront}
 use Rattle.command_ends.specs.Ends.{end_of, IsOfInput}
 use Rattle.command_ends.specs.declared.end.End.{End}
@@ -14,6 +14,11 @@ end_in (faults.NoCode piece place) = Input
 end_in (faults.Text fault) = Input
 end_in faults.EmptyText = Input
 end_in (faults.NoFrame at byte) = Input
+
+-- what an act of the command gives is so, or else a fault of an input, of the output or of memory
+abbrev pub Gives : {A : Type 0} → Result A EditorFault → (A → Type 0) → Type 0
+Gives (Ok given) P = P given
+Gives (Err fault) P = IsOfInput (end_in fault)
 
 -- a command that breaks off: an input is not taken or memory is refused before anything is written, or the output took no
 -- more than a prefix

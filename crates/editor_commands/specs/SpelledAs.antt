@@ -12,9 +12,15 @@ use Rattle.text_tape.specs.Spelling.{spelled}
 use Rattle.command_ends.specs.Ends.{IsOfInput}
 use Rattle.command_ends.specs.declared.end.End.{End}
 use Rattle.command_ends.specs.declared.end.End.TheVariants.{Done, Input}
-use Rattle.editor_commands.specs.Ends.{BreaksOff}
+use Rattle.editor_commands.specs.Ends.{BreaksOff, IfBoth}
 use Rattle.editor_commands.specs.declared.spelling.Form.{Form}
 use Rattle.editor_commands.specs.declared.spelling.Form.TheVariants as forms
+
+-- a tape that is to be spelled: the texts of its files as far as they are known, and how it is written
+pub record ToSpell : Type 0 where
+  pub table : Option (List ℕ)
+  pub tape : Option (List ℕ)
+  pub form : Form
 
 -- a tape in a form: spelled so that it is punched again, or as a reader reads it
 abbrev pub text_in : Form → Meanings → List ℕ → List ℕ
@@ -22,29 +28,37 @@ text_in forms.Punchable means tape = spelled means tape
 text_in forms.Plain means tape = read_of means tape
 
 -- a text is a code table, and of the text of a tape by it this was written
-pub record IsTextOf (table tape : List ℕ) (form : Form) (IsWritten : List ℕ → Type 0) : Type 0 where
+pub record IsTextOf (order : ToSpell) (table tape : List ℕ) (IsWritten : List ℕ → Type 0) : Type 0 where
   pub places : Places
   pub is_table : read_table (parse_document table) ≡ Ok places
   pub is_tape : IsTape tape
-  pub wrote : IsWritten (text_in form (mean places) tape)
+  pub wrote : IsWritten (text_in order.form (mean places) tape)
 
--- the text of a tape was written, all of it
-abbrev pub WasSpelled : List ℕ → List ℕ → Form → Option (List ℕ) → Option (List ℕ) → Type 0
-WasSpelled table tape form old new = IsTextOf table tape form (Appends old new)
+-- the text was written, all of it
+abbrev pub WasSpelled : ToSpell → Option (List ℕ) → Option (List ℕ) → Type 0
+WasSpelled order old new = IfBoth order.table order.tape (λ ts xs. IsTextOf order ts xs (Appends old new))
 
--- a prefix of it was
-abbrev pub WasPrefixSpelled : List ℕ → List ℕ → Form → Option (List ℕ) → Option (List ℕ) → Type 0
-WasPrefixSpelled table tape form old new = IsTextOf table tape form (AppendsFront old new)
+-- how `spell` breaks off, and what it has written then
+pub record BreaksOffSpelling (order : ToSpell) (end : End) (old new : Option (List ℕ)) : Type 0 where
+  -- it is a fault of an input, or memory was refused
+  pub ends : IsOfInput end
+  -- nothing was written, or a prefix of the text
+  pub wrote : IfBoth order.table order.tape (λ ts xs. BreaksOff (IsTextOf order ts xs (AppendsFront old new)) end old new)
 
--- how `spell` breaks off
-abbrev pub BreaksOffSpelling : List ℕ → List ℕ → Form → End → Option (List ℕ) → Option (List ℕ) → Type 0
-BreaksOffSpelling table tape form end old new = BreaksOff (WasPrefixSpelled table tape form old new) end old new
-
--- how `spell` ends, by its cause, and what it has written then
-pub data Spells (table tape : List ℕ) (form : Form) (end : End) (old new : Option (List ℕ)) : Type 0 where
+-- what `spell` has written at its end, by its cause
+pub data SpelledAs (order : ToSpell) (table tape : List ℕ) (end : End) (old new : Option (List ℕ)) : Type 0 where
   -- the text was written
-  Whole : end ≡ Done → WasSpelled table tape form old new → Spells table tape form end old new
+  Whole : end ≡ Done → IsTextOf order table tape (Appends old new) → SpelledAs order table tape end old new
   -- an input is not taken, or memory was refused: nothing was written
-  Unwritten : IsOfInput end → ¬ (end ≡ Done) → new ≡ old → Spells table tape form end old new
+  Unwritten : IsOfInput end → ¬ (end ≡ Done) → new ≡ old → SpelledAs order table tape end old new
   -- the output can't be written: a prefix of the text was
-  Cut : end ≡ Input → WasPrefixSpelled table tape form old new → Spells table tape form end old new
+  Cut : end ≡ Input → IsTextOf order table tape (AppendsFront old new) → SpelledAs order table tape end old new
+
+-- what `spell` does: how it ends, and what it has written then
+pub record Spells (order : ToSpell) (end : End) (old new : Option (List ℕ)) : Type 0 where
+  -- it ends well, by a fault of an input, or as memory was refused
+  pub ends : IsOfInput end
+  -- where it ends well, the text was written
+  pub done : end ≡ Done → WasSpelled order old new
+  -- what was written at each end
+  pub cause : IfBoth order.table order.tape (λ ts xs. SpelledAs order ts xs end old new)

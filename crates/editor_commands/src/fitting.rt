@@ -1,26 +1,23 @@
 //! The command `fit`: how each line of a story fits.
 
-ghost use Rattle.std.specs.Prelude.{◌≡◌, Ok, OnOk, IfOk, IfErr, IfSome};
-ghost use Rattle.toml.specs.Parse.{parse_document};
-ghost use Rattle.code_table.specs.Reading.{read_table};
+ghost use Rattle.std.specs.Prelude.{◌≡◌, IfOk, IfErr};
 ghost use Rattle.code_table.specs.Tables.{mean};
-ghost use Rattle.widths.specs.Reading.{read_widths};
-ghost use Rattle.editor_commands.specs.Ends.{end_in, IfAll};
-ghost use Rattle.editor_commands.specs.Fitted.{IsStory, WasReported, BreaksOffReport, WasFitted, BreaksOffFitting, end_by, FitsStory};
-ghost use Rattle.command_ends.specs.Ends.{end_of, IsOfInput};
-ghost use Rattle.command_ends.specs.declared.end.End.TheVariants.{Done};
+ghost use Rattle.editor_commands.specs.Ends.{end_in, Gives};
+ghost use Rattle.editor_commands.specs.Fitted.{IsStory, WasReported, BreaksOffReport, WasFitted, BreaksOffFitting, end_by, FitsWhole};
 
 use crate::cause::EditorFault;
-use crate::inputs::{read_punched, read_tape};
+use crate::inputs::{punched, tape_of};
 use crate::outputs::put_whole;
 use crate::report::{faults_in, report};
 use code_table::CodeTable;
-use command_ends::{End, Fault, TapePaths, read_table, read_widths};
+use command_ends::{End, Fault, TapePaths, read_table, read_text, read_widths};
 use line_check::Setting;
 use line_fit::fit as fit_lines;
 use std::alloc::Global;
 use std::io::{Read, Write};
+use std::marker::Model;
 use tape_frames::{Tape, Version};
+use text_tape::PunchedBy;
 
 /// How a story is given.
 #[derive(Clone, Copy, PartialEq, Eq)]
@@ -31,37 +28,42 @@ pub enum Given {
     Text,
 }
 
-/// Reads the code table, and then the widths.
-fn read_setting<'a, R: Read, S: Read>(
-    alloc: Global,
-    paths: &TapePaths<'a>,
-    table: &mut R,
-    widths: &mut S,
-) -> Result<Setting, Fault<'a>>
-    ensures table { IfOk result (λ s. IfSome (R.remaining table.old) (λ ts. read_table (parse_document ts) ≡ Ok s.table)) }
-    ensures widths { IfOk result (λ s. IfSome (S.remaining widths.old) (λ ws. read_widths (parse_document ws) ≡ Ok s.widths)) }
-    ensures err { IfErr result (λ e. IsOfInput (end_of e)) }
-{
-    let table = read_table(alloc, table, paths.table)?;
-    let widths = read_widths(alloc, widths, paths.widths)?;
-    Ok(Setting { table, widths })
+/// A story of which it is to be told how it fits: where its files lie, what reads them, and how it is given. Clauses see the texts.
+#[derive(Drop)]
+pub struct FitOrder<'a, R: Read + Drop, S: Read + Drop, T: Read + Drop> {
+    pub paths: &'a TapePaths<'a>,
+    pub table: R,
+    pub widths: S,
+    pub story: T,
+    pub given: Given,
 }
 
-/// Reads the tape of a story from the input at a path.
-fn read_story<'a, R: Read>(
+impl<'a, R: Read + Drop, S: Read + Drop, T: Read + Drop> Model for FitOrder<'a, R, S, T> {
+    ghost use Rattle.editor_commands.specs.Fitted.{ToFit};
+
+    ghost Value = { ToFit };
+
+    ghost view = { λ o. record { table = R.remaining o.table; widths = S.remaining o.widths; story = T.remaining o.story; given = o.given } };
+}
+
+/// The tape of a story.
+fn story_of<'a>(
     alloc: Global,
     table: &CodeTable,
-    input: &mut R,
-    path: &'a str,
+    story: &[u8],
     given: Given,
 ) -> Result<Tape, EditorFault<'a>>
-    ensures ok { IfOk result (λ tape. IfSome (R.remaining input.old) (λ xs. IsStory given (mean table.now) xs tape)) }
-    ensures err { IfErr result (λ e. IsOfInput (end_in e)) }
+    ensures { Gives result (λ tape. IsStory given (mean table.now) story.now tape) }
 {
     match given {
-        Given::Tape => read_tape(alloc, input, path),
+        Given::Tape => tape_of(alloc, story),
         Given::Text => {
-            let frames = read_punched(alloc, table, &[], input, path, Version::Two)?;
+            let by = PunchedBy {
+                table,
+                ligatures: &[],
+                room: Version::Two,
+            };
+            let frames = punched(alloc, &by, story)?;
             match Tape::from_vec(alloc, frames) {
                 Ok(tape) => Ok(tape),
                 Err(fault) => Err(EditorFault::Other(Fault::of_tape(fault))),
@@ -77,9 +79,8 @@ fn put_report<'a, W: Write>(
     tape: &Tape,
     out: &mut W,
 ) -> Result<u64, EditorFault<'a>>
-    ensures ok { IfOk result (λ faults. WasReported (mean setting.now.table) setting.now.widths tape.now faults (W.contents out.old) (W.contents out.new)) }
-    ensures err { IfErr result (λ e. BreaksOffReport (mean setting.now.table) setting.now.widths tape.now
-        (end_in e) (W.contents out.old) (W.contents out.new)) }
+    ensures ok { IfOk result (λ faults. WasReported setting.now tape.now faults (W.contents out.old) (W.contents out.new)) }
+    ensures err { IfErr result (λ e. BreaksOffReport setting.now tape.now (end_in e) (W.contents out.old) (W.contents out.new)) }
 {
     let Ok(fitting) = fit_lines(alloc, &setting.table, &setting.widths, tape) else {
         return Err(EditorFault::Other(Fault::OutOfMemory));
@@ -93,27 +94,36 @@ fn put_report<'a, W: Write>(
     }
 }
 
-/// The same, of the three inputs.
-fn fitted<'a, R: Read, S: Read, T: Read, W: Write>(
+/// Writes the report of a story, and answers how many of its lines do not set.
+fn fitted<'a, R: Read + Drop, S: Read + Drop, T: Read + Drop, W: Write>(
     alloc: Global,
-    paths: &TapePaths<'a>,
-    table: &mut R,
-    widths: &mut S,
-    story: &mut T,
-    given: Given,
+    order: FitOrder<'a, R, S, T>,
     out: &mut W,
 ) -> Result<u64, EditorFault<'a>>
-    ensures ok { IfOk result (λ faults. IfAll (R.remaining table.old) (S.remaining widths.old) (T.remaining story.old)
-        (λ ts ws xs. WasFitted ts ws xs given faults (W.contents out.old) (W.contents out.new))) }
-    ensures err { IfErr result (λ e. IfAll (R.remaining table.old) (S.remaining widths.old) (T.remaining story.old)
-        (λ ts ws xs. BreaksOffFitting ts ws xs given (end_in e) (W.contents out.old) (W.contents out.new))) }
-    ensures ends { IfErr result (λ e. IsOfInput (end_in e)) }
+    ensures ok { IfOk result (λ faults. WasFitted order.entry faults (W.contents out.old) (W.contents out.new)) }
+    ensures err { IfErr result (λ e. BreaksOffFitting order.entry (end_in e) (W.contents out.old) (W.contents out.new)) }
 {
-    let setting = match read_setting(alloc, paths, table, widths) {
-        Ok(setting) => setting,
+    let FitOrder {
+        paths,
+        mut table,
+        mut widths,
+        mut story,
+        given,
+    } = order;
+    let table = match read_table(alloc, &mut table, paths.table) {
+        Ok(table) => table,
         Err(fault) => return Err(EditorFault::Other(fault)),
     };
-    let tape = read_story(alloc, &setting.table, story, paths.tape, given)?;
+    let widths = match read_widths(alloc, &mut widths, paths.widths) {
+        Ok(widths) => widths,
+        Err(fault) => return Err(EditorFault::Other(fault)),
+    };
+    let story = match read_text(alloc, &mut story, paths.tape) {
+        Ok(story) => story,
+        Err(fault) => return Err(EditorFault::Other(fault)),
+    };
+    let setting = Setting { table, widths };
+    let tape = story_of(alloc, &setting.table, &story, given)?;
     put_report(alloc, &setting, &tape, out)
 }
 
@@ -129,24 +139,16 @@ fn end_by(faults: u64) -> End
 /// The table is read and taken before the widths are read, and the widths before the story. The first fault of an input ends
 /// it, and nothing was written then. A line that does not set does not keep the others from being told: the report is whole,
 /// and then it ends the command as a fault of an input does.
-#[tactic(auto, using(crate::proofs::FitEnds::whole, crate::proofs::FitEnds::broken))]
-pub fn fit<R: Read, S: Read, T: Read, W: Write, E: Write>(
+#[tactic(auto, using(crate::proofs::FitEnds::broken))]
+pub fn fit<R: Read + Drop, S: Read + Drop, T: Read + Drop, W: Write, E: Write>(
     alloc: Global,
-    paths: &TapePaths<'_>,
-    table: &mut R,
-    widths: &mut S,
-    story: &mut T,
-    given: Given,
+    order: FitOrder<'_, R, S, T>,
     out: &mut W,
     err: &mut E,
 ) -> End
-    ensures done { result ≡ Done → IfAll (R.remaining table.old) (S.remaining widths.old) (T.remaining story.old)
-        (λ ts ws xs. WasFitted ts ws xs given 0 (W.contents out.old) (W.contents out.new)) }
-    ensures cause { IfAll (R.remaining table.old) (S.remaining widths.old) (T.remaining story.old)
-        (λ ts ws xs. FitsStory ts ws xs given result (W.contents out.old) (W.contents out.new)) }
-    ensures ends { IsOfInput result }
+    ensures { FitsWhole order.entry result (W.contents out.old) (W.contents out.new) }
 {
-    match fitted(alloc, paths, table, widths, story, given, out) {
+    match fitted(alloc, order, out) {
         Ok(faults) => end_by(faults),
         Err(fault) => fault.tell(err),
     }

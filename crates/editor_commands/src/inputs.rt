@@ -1,20 +1,16 @@
-//! The texts and tapes of editors: read, and told where they are none.
+//! The texts and tapes of editors: taken, and told where they are none.
 
-ghost use Rattle.std.specs.Prelude.{◌≡◌, ◌≤◌, length, IfOk, IfErr, IfSome};
-ghost use Rattle.code_table.specs.Tables.{mean};
-ghost use Rattle.tape_frames.specs.Frames.{IsTape};
-ghost use Rattle.text_tape.specs.Punching.{most_in, IsPunched};
+ghost use Rattle.std.specs.Prelude.{◌≡◌};
 ghost use Rattle.command_ends.specs.Ends.{IsOfInput};
-ghost use Rattle.editor_commands.specs.Ends.{end_in};
+ghost use Rattle.editor_commands.specs.Ends.{end_in, Gives};
+ghost use Rattle.text_tape.specs.Punching.{IsPunchedBy};
 
 use crate::cause::EditorFault;
-use code_table::{CodeTable, Name};
-use command_ends::{Fault, read_text};
+use command_ends::Fault;
 use std::alloc::{AllocError, Global};
-use std::io::Read;
 use std::str;
-use tape_frames::{Tape, TapeFault, Version};
-use text_tape::{PunchCause, PunchError, PunchFault, punch};
+use tape_frames::{Tape, TapeFault};
+use text_tape::{PunchCause, PunchError, PunchFault, PunchedBy, punch};
 use text_words::TextPlace;
 
 /// The most bytes of a piece that are told. A name of a matrix has 8 and two braces, so no more is read of what has no code.
@@ -56,19 +52,15 @@ fn text_fault<'a>(alloc: Global, text: &[u8], fault: PunchFault) -> EditorFault<
     }
 }
 
-/// The frames of a text with these ligatures.
+/// The frames of a text.
 pub fn punched<'a>(
     alloc: Global,
-    table: &CodeTable,
-    ligatures: &[Name],
+    by: &PunchedBy<'_>,
     text: &[u8],
-    room: Version,
 ) -> Result<Vec<u8>, EditorFault<'a>>
-    ensures punched { IfOk result (λ tape. IsPunched ligatures.now (mean table.now) text.now tape.items) }
-    ensures tape { IfOk result (λ tape. IsTape tape.items × (length tape.items ≤ most_in room)) }
-    ensures err { IfErr result (λ e. IsOfInput (end_in e)) }
+    ensures { Gives result (λ tape. IsPunchedBy by.now text.now tape.items) }
 {
-    match punch(alloc, table, ligatures, text, room) {
+    match punch(alloc, by, text) {
         Ok(tape) => Ok(tape),
         Err(PunchError::Fault(fault)) => Err(text_fault(alloc, text, fault)),
         Err(PunchError::Empty) => Err(EditorFault::EmptyText),
@@ -77,9 +69,8 @@ pub fn punched<'a>(
 }
 
 /// The tape of bytes, one frame a byte.
-fn tape_of<'a>(alloc: Global, bytes: &[u8]) -> Result<Tape, EditorFault<'a>>
-    ensures ok { IfOk result (λ tape. tape ≡ bytes.now) }
-    ensures err { IfErr result (λ e. IsOfInput (end_in e)) }
+pub fn tape_of<'a>(alloc: Global, bytes: &[u8]) -> Result<Tape, EditorFault<'a>>
+    ensures { Gives result (λ tape. tape ≡ bytes.now) }
 {
     match Tape::from_bytes(alloc, bytes) {
         Ok(tape) => Ok(tape),
@@ -91,39 +82,5 @@ fn tape_of<'a>(alloc: Global, bytes: &[u8]) -> Result<Tape, EditorFault<'a>>
             Err(EditorFault::NoFrame { at, byte })
         }
         Err(fault) => Err(EditorFault::Other(Fault::of_tape(fault))),
-    }
-}
-
-/// Reads the tape of a text from the input at a path.
-pub fn read_punched<'a, R: Read>(
-    alloc: Global,
-    table: &CodeTable,
-    ligatures: &[Name],
-    input: &mut R,
-    path: &'a str,
-    room: Version,
-) -> Result<Vec<u8>, EditorFault<'a>>
-    ensures punched { IfOk result (λ tape. IfSome (R.remaining input.old) (λ xs. IsPunched ligatures.now (mean table.now) xs tape.items)) }
-    ensures tape { IfOk result (λ tape. IsTape tape.items × (length tape.items ≤ most_in room)) }
-    ensures err { IfErr result (λ e. IsOfInput (end_in e)) }
-{
-    match read_text(alloc, input, path) {
-        Ok(text) => punched(alloc, table, ligatures, &text, room),
-        Err(fault) => Err(EditorFault::Other(fault)),
-    }
-}
-
-/// Reads a tape from the input at a path, one frame a byte.
-pub fn read_tape<'a, R: Read>(
-    alloc: Global,
-    input: &mut R,
-    path: &'a str,
-) -> Result<Tape, EditorFault<'a>>
-    ensures ok { IfOk result (λ tape. IfSome (R.remaining input.old) (λ xs. tape ≡ xs)) }
-    ensures err { IfErr result (λ e. IsOfInput (end_in e)) }
-{
-    match read_text(alloc, input, path) {
-        Ok(bytes) => tape_of(alloc, &bytes),
-        Err(fault) => Err(EditorFault::Other(fault)),
     }
 }

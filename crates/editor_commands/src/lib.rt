@@ -12,6 +12,6 @@ mod spelling;
 mod verdict_words;
 
 pub use cause::EditorFault;
-pub use fitting::{Given, fit};
-pub use punching::{StoryPaths, punch};
-pub use spelling::{Form, spell};
+pub use fitting::{FitOrder, Given, fit};
+pub use punching::{PunchOrder, StoryPaths, punch};
+pub use spelling::{Form, SpellOrder, spell};

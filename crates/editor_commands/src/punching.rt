@@ -1,19 +1,19 @@
 //! The command `punch`: the tape of a text.
 
-ghost use Rattle.std.specs.Prelude.{◌≡◌, Ok, OnOk, IfErr};
-ghost use Rattle.editor_commands.specs.Ends.{end_in, IfBoth};
+ghost use Rattle.std.specs.Prelude.{OnOk, IfErr};
+ghost use Rattle.editor_commands.specs.Ends.{end_in};
 ghost use Rattle.editor_commands.specs.Punched.{WasPunched, BreaksOffPunching, Punches};
-ghost use Rattle.command_ends.specs.Ends.{IsOfInput};
-ghost use Rattle.command_ends.specs.declared.end.End.TheVariants.{Done};
 
 use crate::cause::EditorFault;
-use crate::inputs::read_punched;
+use crate::inputs::punched;
 use crate::outputs::put_whole;
 use code_table::Name;
-use command_ends::{End, read_table};
+use command_ends::{End, read_table, read_text};
 use std::alloc::Global;
 use std::io::{Read, Write};
+use std::marker::Model;
 use tape_frames::Version;
+use text_tape::PunchedBy;
 
 /// Where a code table is, and a text or a tape.
 #[derive(Clone, Copy)]
@@ -22,27 +22,54 @@ pub struct StoryPaths<'a> {
     pub story: &'a str,
 }
 
+/// A tape that is to be punched: where its files lie, what reads them, and by what else it is punched. Clauses see the texts.
+#[derive(Drop)]
+pub struct PunchOrder<'a, R: Read + Drop, S: Read + Drop> {
+    pub paths: &'a StoryPaths<'a>,
+    pub table: R,
+    pub text: S,
+    pub ligatures: &'a [Name],
+    pub room: Version,
+}
+
+impl<'a, R: Read + Drop, S: Read + Drop> Model for PunchOrder<'a, R, S> {
+    ghost use Rattle.editor_commands.specs.Punched.{ToPunch};
+
+    ghost Value = { ToPunch };
+
+    ghost view = { λ o. record { table = R.remaining o.table; text = S.remaining o.text; ligatures = o.ligatures.now; room = o.room } };
+}
+
 /// Writes the tape of a text, up to the first fault.
-fn write_tape<'a, R: Read, S: Read, W: Write>(
+fn write_tape<'a, R: Read + Drop, S: Read + Drop, W: Write>(
     alloc: Global,
-    paths: &StoryPaths<'a>,
-    table: &mut R,
-    text: &mut S,
-    ligatures: &[Name],
-    room: Version,
+    order: PunchOrder<'a, R, S>,
     out: &mut W,
 ) -> Result<(), EditorFault<'a>>
-    ensures ok { OnOk result (IfBoth (R.remaining table.old) (S.remaining text.old)
-        (λ ts xs. WasPunched ts xs ligatures.now room (W.contents out.old) (W.contents out.new))) }
-    ensures err { IfErr result (λ e. IfBoth (R.remaining table.old) (S.remaining text.old)
-        (λ ts xs. BreaksOffPunching ts xs ligatures.now room (end_in e) (W.contents out.old) (W.contents out.new))) }
-    ensures ends { IfErr result (λ e. IsOfInput (end_in e)) }
+    ensures ok { OnOk result (WasPunched order.entry (W.contents out.old) (W.contents out.new)) }
+    ensures err { IfErr result (λ e. BreaksOffPunching order.entry (end_in e) (W.contents out.old) (W.contents out.new)) }
 {
-    let table = match read_table(alloc, table, paths.table) {
+    let PunchOrder {
+        paths,
+        mut table,
+        mut text,
+        ligatures,
+        room,
+    } = order;
+    let table = match read_table(alloc, &mut table, paths.table) {
         Ok(table) => table,
         Err(fault) => return Err(EditorFault::Other(fault)),
     };
-    let tape = read_punched(alloc, &table, ligatures, text, paths.story, room)?;
+    let text = match read_text(alloc, &mut text, paths.story) {
+        Ok(text) => text,
+        Err(fault) => return Err(EditorFault::Other(fault)),
+    };
+    let by = PunchedBy {
+        table: &table,
+        ligatures,
+        room,
+    };
+    let tape = punched(alloc, &by, &text)?;
     put_whole(&tape, out)
 }
 
@@ -51,23 +78,15 @@ fn write_tape<'a, R: Read, S: Read, W: Write>(
 /// The table is read and taken before the text is read. The first fault ends it, and then nothing was written, unless it is
 /// the output that can't be written.
 #[tactic(auto, using(crate::proofs::Ends::punched_whole, crate::proofs::Ends::punching_broken))]
-pub fn punch<R: Read, S: Read, W: Write, E: Write>(
+pub fn punch<R: Read + Drop, S: Read + Drop, W: Write, E: Write>(
     alloc: Global,
-    paths: &StoryPaths<'_>,
-    table: &mut R,
-    text: &mut S,
-    ligatures: &[Name],
-    room: Version,
+    order: PunchOrder<'_, R, S>,
     out: &mut W,
     err: &mut E,
 ) -> End
-    ensures done { result ≡ Done → IfBoth (R.remaining table.old) (S.remaining text.old)
-        (λ ts xs. WasPunched ts xs ligatures.now room (W.contents out.old) (W.contents out.new)) }
-    ensures cause { IfBoth (R.remaining table.old) (S.remaining text.old)
-        (λ ts xs. Punches ts xs ligatures.now room result (W.contents out.old) (W.contents out.new)) }
-    ensures ends { IsOfInput result }
+    ensures { Punches order.entry result (W.contents out.old) (W.contents out.new) }
 {
-    match write_tape(alloc, paths, table, text, ligatures, room, out) {
+    match write_tape(alloc, order, out) {
         Ok(()) => End::Done,
         Err(fault) => fault.tell(err),
     }

@@ -3,7 +3,7 @@
 ghost use Rattle.std.specs.Prelude.{◌≡◌, ◌≤◌, ◌++◌, ◌+◌, IfOk, OnOk, count_by, length, string_bytes, decimal, codes};
 ghost use Rattle.editor_commands.specs.Report.{is_fault, is_faulty, slugs_in, rows_from, one_if, faults_in, lines_in, head_text, foot_text, report_text};
 
-use crate::row::{put_rest, put_row};
+use crate::row::{RowNumbers, put_rest, put_row};
 use itoa::Buffer;
 use line_check::SetFault;
 use line_fit::{Fitting, LineFit, Verdict};
@@ -62,7 +62,11 @@ fn put_rows(alloc: Global, text: &mut Vec<u8>, lines: &[LineFit]) -> Result<(), 
 {
     let mut slug = 1;
     for (before, line) in lines.iter().enumerate() {
-        put_row(alloc, text, before + 1, slug, line)?;
+        let numbers = RowNumbers {
+            line: before + 1,
+            slug,
+        };
+        put_row(alloc, text, numbers, line)?;
         slug += slugs_in(&line.verdict);
     }
     Ok(())

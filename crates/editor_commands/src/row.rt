@@ -99,20 +99,26 @@ fn put_line_columns(text: &mut Vec<u8>, verdict: &[u8], fit: &LineFit) -> Result
     put_items(text, line.items.as_slice())
 }
 
-/// Writes the row of a line, of these numbers of line and slug.
+/// The number of a line, and the one that its slug has, where it has one.
+#[derive(Clone, Copy)]
+pub struct RowNumbers {
+    pub line: usize,
+    pub slug: usize,
+}
+
+/// Writes the row of a line with its numbers.
 pub fn put_row(
     alloc: Global,
     text: &mut Vec<u8>,
-    number: usize,
-    slug: usize,
+    numbers: RowNumbers,
     fit: &LineFit,
 ) -> Result<(), AllocError>
-    ensures { OnOk result (text.new.items ≡ text.old.items ++ row_text number slug fit.now) }
+    ensures { OnOk result (text.new.items ≡ text.old.items ++ row_text numbers.line numbers.slug fit.now) }
 {
     let verdict = verdict_words(alloc, &fit.verdict)?;
-    put_number(text, number)?;
+    put_number(text, numbers.line)?;
     text.extend_from_slice(b"  ")?;
-    put_slug_column(text, slug, &fit.verdict)?;
+    put_slug_column(text, numbers.slug, &fit.verdict)?;
     text.extend_from_slice(b"  ")?;
     put_line_columns(text, verdict.as_bytes(), fit)?;
     text.extend_from_slice(b"\n")

@@ -1,20 +1,19 @@
 //! The command `spell`: the text of a tape.
 
-ghost use Rattle.std.specs.Prelude.{◌≡◌, Ok, OnOk, IfOk, IfErr};
+ghost use Rattle.std.specs.Prelude.{◌≡◌, OnOk, IfOk, IfErr};
 ghost use Rattle.code_table.specs.Tables.{mean};
-ghost use Rattle.editor_commands.specs.Ends.{end_in, IfBoth};
+ghost use Rattle.editor_commands.specs.Ends.{end_in};
 ghost use Rattle.editor_commands.specs.SpelledAs.{text_in, WasSpelled, BreaksOffSpelling, Spells};
-ghost use Rattle.command_ends.specs.Ends.{IsOfInput};
-ghost use Rattle.command_ends.specs.declared.end.End.TheVariants.{Done};
 
 use crate::cause::EditorFault;
-use crate::inputs::read_tape;
+use crate::inputs::tape_of;
 use crate::outputs::put_whole;
 use crate::punching::StoryPaths;
 use code_table::CodeTable;
-use command_ends::{End, Fault, read_table};
+use command_ends::{End, Fault, read_table, read_text};
 use std::alloc::{AllocError, Global};
 use std::io::{Read, Write};
+use std::marker::Model;
 use tape_frames::Tape;
 use text_tape::{spell as spell_tape, spell_plainly};
 
@@ -25,6 +24,23 @@ pub enum Form {
     Punchable,
     /// As a reader reads it.
     Plain,
+}
+
+/// A tape that is to be spelled: where its files lie, what reads them, and how it is written. Clauses see the texts.
+#[derive(Drop)]
+pub struct SpellOrder<'a, R: Read + Drop, S: Read + Drop> {
+    pub paths: &'a StoryPaths<'a>,
+    pub table: R,
+    pub tape: S,
+    pub form: Form,
+}
+
+impl<'a, R: Read + Drop, S: Read + Drop> Model for SpellOrder<'a, R, S> {
+    ghost use Rattle.editor_commands.specs.SpelledAs.{ToSpell};
+
+    ghost Value = { ToSpell };
+
+    ghost view = { λ o. record { table = R.remaining o.table; tape = S.remaining o.tape; form = o.form } };
 }
 
 /// The text of a tape in a form.
@@ -38,25 +54,29 @@ fn text_of(alloc: Global, table: &CodeTable, tape: &Tape, form: Form) -> Result<
 }
 
 /// Writes the text of a tape, up to the first fault.
-fn write_text<'a, R: Read, S: Read, W: Write>(
+fn write_text<'a, R: Read + Drop, S: Read + Drop, W: Write>(
     alloc: Global,
-    paths: &StoryPaths<'a>,
-    table: &mut R,
-    tape: &mut S,
-    form: Form,
+    order: SpellOrder<'a, R, S>,
     out: &mut W,
 ) -> Result<(), EditorFault<'a>>
-    ensures ok { OnOk result (IfBoth (R.remaining table.old) (S.remaining tape.old)
-        (λ ts xs. WasSpelled ts xs form (W.contents out.old) (W.contents out.new))) }
-    ensures err { IfErr result (λ e. IfBoth (R.remaining table.old) (S.remaining tape.old)
-        (λ ts xs. BreaksOffSpelling ts xs form (end_in e) (W.contents out.old) (W.contents out.new))) }
-    ensures ends { IfErr result (λ e. IsOfInput (end_in e)) }
+    ensures ok { OnOk result (WasSpelled order.entry (W.contents out.old) (W.contents out.new)) }
+    ensures err { IfErr result (λ e. BreaksOffSpelling order.entry (end_in e) (W.contents out.old) (W.contents out.new)) }
 {
-    let table = match read_table(alloc, table, paths.table) {
+    let SpellOrder {
+        paths,
+        mut table,
+        mut tape,
+        form,
+    } = order;
+    let table = match read_table(alloc, &mut table, paths.table) {
         Ok(table) => table,
         Err(fault) => return Err(EditorFault::Other(fault)),
     };
-    let tape = read_tape(alloc, tape, paths.story)?;
+    let bytes = match read_text(alloc, &mut tape, paths.story) {
+        Ok(bytes) => bytes,
+        Err(fault) => return Err(EditorFault::Other(fault)),
+    };
+    let tape = tape_of(alloc, &bytes)?;
     match text_of(alloc, &table, &tape, form) {
         Ok(text) => put_whole(&text, out),
         Err(_) => Err(EditorFault::Other(Fault::OutOfMemory)),
@@ -68,22 +88,15 @@ fn write_text<'a, R: Read, S: Read, W: Write>(
 /// The table is read and taken before the tape is read. The first fault ends it, and then nothing was written, unless it is
 /// the output that can't be written.
 #[tactic(auto, using(crate::proofs::Ends::spelled_whole, crate::proofs::Ends::spelling_broken))]
-pub fn spell<R: Read, S: Read, W: Write, E: Write>(
+pub fn spell<R: Read + Drop, S: Read + Drop, W: Write, E: Write>(
     alloc: Global,
-    paths: &StoryPaths<'_>,
-    table: &mut R,
-    tape: &mut S,
-    form: Form,
+    order: SpellOrder<'_, R, S>,
     out: &mut W,
     err: &mut E,
 ) -> End
-    ensures done { result ≡ Done → IfBoth (R.remaining table.old) (S.remaining tape.old)
-        (λ ts xs. WasSpelled ts xs form (W.contents out.old) (W.contents out.new)) }
-    ensures cause { IfBoth (R.remaining table.old) (S.remaining tape.old)
-        (λ ts xs. Spells ts xs form result (W.contents out.old) (W.contents out.new)) }
-    ensures ends { IsOfInput result }
+    ensures { Spells order.entry result (W.contents out.old) (W.contents out.new) }
 {
-    match write_text(alloc, paths, table, tape, form, out) {
+    match write_text(alloc, order, out) {
         Ok(()) => End::Done,
         Err(fault) => fault.tell(err),
     }

@@ -9,7 +9,7 @@ use code_table::CodeTable;
 use std::alloc::Global;
 use streams::MAX_INPUT;
 use tape_frames::{Tape, Version};
-use text_tape::{PunchError, punch};
+use text_tape::{PunchError, PunchedBy, punch};
 
 /// The most bytes of a text, as of any input.
 pub const MAX_TEXT: usize = MAX_INPUT;
@@ -20,7 +20,12 @@ pub fn tape_of_text(alloc: Global, table: &CodeTable, text: &[u8]) -> Result<Tap
     ensures tape { IfOk result (λ tape. IsPunched [] (mean table.now) text.now tape) }
     ensures fault { IfErr result (λ e. IsError most_frames [] (mean table.now) text.now e) }
 {
-    let frames = punch(alloc, table, &[], text, Version::Two)?;
+    let by = PunchedBy {
+        table,
+        ligatures: &[],
+        room: Version::Two,
+    };
+    let frames = punch(alloc, &by, text)?;
     match Tape::from_vec(alloc, frames) {
         Ok(tape) => Ok(tape),
         Err(_) => Err(PunchError::OutOfMemory),

@@ -1,9 +1,10 @@
 -- What punching a text gives: the frames of its words in order, or the first word that cannot be punched.
 use Rattle.std.specs.Prelude.{◌≡◌, ◌<◌, ◌≤◌, ℕ, ◌+◌, List, [], ◌∷◌, ◌++◌, Option, Some, None, length, take, drop}
 use Rattle.protocol.specs.Limits.{most_frames_one}
-use Rattle.tape_frames.specs.Frames.{most_frames}
+use Rattle.tape_frames.specs.Frames.{most_frames, IsTape}
 use Rattle.tape_frames.specs.declared.version.Version.{Version}
 use Rattle.tape_frames.specs.declared.version.Version.TheVariants as versions
+use Rattle.code_table.specs.Tables.{mean}
 use Rattle.code_table.specs.declared.case.Case.{Case}
 use Rattle.slug_reader.specs.Meanings.{Meanings}
 use Rattle.text_words.specs.Words.{HasNoEnd}
@@ -17,6 +18,7 @@ use Rattle.text_tape.specs.declared.fault.PunchCause.TheVariants.{NoCode, NoEnd,
 use Rattle.text_tape.specs.declared.fault.PunchFault.{PunchFault}
 use Rattle.text_tape.specs.declared.fault.PunchError.{PunchError}
 use Rattle.text_tape.specs.declared.fault.PunchError.TheVariants as errors
+use Rattle.text_tape.specs.declared.punching.PunchedBy.{PunchedBy}
 use Rattle.text_tape.specs.declared.punching.Stop.{Stop}
 use Rattle.text_tape.specs.declared.punching.Stop.TheVariants as stops
 use Rattle.text_tape.specs.declared.punching.Stopped.{Stopped}
@@ -43,6 +45,12 @@ pub data Punches (ligatures : Ligatures) (means : Meanings) (text : List ℕ) : 
 -- the text is punched as this tape, by these words
 abbrev pub IsPunched : Ligatures → Meanings → List ℕ → List ℕ → Type 0
 IsPunched ligatures means text tape = (words : List Word) × Punches ligatures means text (length text) words tape
+
+-- the text is punched as this tape by a table and ligatures, and the version has room for it
+pub record IsPunchedBy (by : PunchedBy) (text tape : List ℕ) : Type 0 where
+  pub is_tape : IsTape tape
+  pub few : length tape ≤ most_in by.room
+  pub punched : IsPunched by.ligatures.now (mean by.table.now) text tape
 
 -- what a piece says has no code where a case holds; nothing has none
 abbrev pub HasNoCode : Meanings → Case → Option Word → Type 0
@@ -90,6 +98,10 @@ abbrev pub IsError : ℕ → Ligatures → Meanings → List ℕ → PunchError 
 IsError most ligatures means text (errors.Fault fault) = IsFirstFault most ligatures means text fault
 IsError most ligatures means text errors.Empty = text ≡ []
 IsError most ligatures means text errors.OutOfMemory = Unit {0}
+
+-- the same, of what is punched by a table and ligatures for a version
+abbrev pub IsErrorBy : PunchedBy → List ℕ → PunchError → Type 0
+IsErrorBy by text e = IsError (most_in by.room) by.ligatures.now (mean by.table.now) text e
 
 -- the first piece of a text was punched, and its frames were added
 pub record AddsPiece (most : ℕ) (ligatures : Ligatures) (means : Meanings) (text old new : List ℕ) (len : ℕ) : Type 0 where

@@ -1,5 +1,5 @@
 -- How a tape is spelled as a text: the word of each frame, which is what it means where punching that word gives it again, else its number.
-use Rattle.std.specs.Prelude.{ℕ, zero, suc, ◌+◌, List, [], Bool, true, false, Option, Some, None, length, not, nat_lt, ◌==◌, ◌&&◌, ◌||◌, flat_map, if◌then◌else◌}
+use Rattle.std.specs.Prelude.{◌≡◌, ◌<◌, ℕ, zero, suc, ◌+◌, List, [], Bool, true, false, Option, Some, None, length, not, nat_lt, ◌==◌, ◌&&◌, ◌||◌, flat_map, if◌then◌else◌}
 use Rattle.code_table.specs.declared.case.Case.{Case}
 use Rattle.code_table.specs.declared.meaning.Meaning.{Meaning}
 use Rattle.slug_reader.specs.Positions.{before}
@@ -9,6 +9,7 @@ use Rattle.text_words.specs.declared.word.Word.{Word}
 use Rattle.text_words.specs.declared.word.Word.TheVariants.{Means, Frame}
 use Rattle.text_tape.specs.Codes.{adds}
 use Rattle.text_tape.specs.declared.adding.Added.{Added}
+use Rattle.text_tape.specs.declared.spelling.TapePlace.{TapePlace}
 
 -- both are this frame, or neither is one
 abbrev pub is_turn_of : Option ℕ → Option ℕ → Bool
@@ -26,6 +27,11 @@ is_added turn frame (Some added) = is_turn_of turn added.turn && (added.frame ==
 abbrev pub is_worded : Meanings → Case → Option Meaning → Option ℕ → ℕ → Bool
 is_worded means case None turn frame = false
 is_worded means case (Some m) turn frame = has_word m && is_added turn frame (adds means case (Means m))
+
+-- a place is one of a tape, and its case is the one that holds there
+pub record IsPlace (means : Meanings) (place : TapePlace) : Type 0 where
+  pub within : place.at < length place.frames.now
+  pub holds : place.case ≡ case_at means place.frames.now place.at
 
 -- a word for what the frame at a position means is punched as that frame alone
 unfoldable pub is_alone : Meanings → List ℕ → ℕ → Bool

@@ -12,5 +12,5 @@ mod spelling;
 
 pub use fault::{PunchCause, PunchError, PunchFault};
 pub use plain::spell_plainly;
-pub use punching::punch;
+pub use punching::{PunchedBy, punch};
 pub use spelling::spell;

@@ -2,9 +2,9 @@
 
 ghost use Rattle.std.specs.Prelude.{◌≡◌, ◌≤◌, ℕ, List, length, IfOk, IfErr};
 ghost use Rattle.code_table.specs.Tables.{mean};
-ghost use Rattle.tape_frames.specs.Frames.{most_frames, IsTape};
+ghost use Rattle.tape_frames.specs.Frames.{most_frames};
 ghost use Rattle.text_tape.specs.Codes.{case_behind};
-ghost use Rattle.text_tape.specs.Punching.{most_in, IsPunched, IsError, IsStop, IsStopped, AddsPiece};
+ghost use Rattle.text_tape.specs.Punching.{most_in, IsPunched, IsPunchedBy, IsErrorBy, IsStop, IsStopped, AddsPiece};
 
 use crate::adding::{adds, push_added};
 use crate::fault::{PunchCause, PunchError, PunchFault};
@@ -13,6 +13,22 @@ use code_table::{Case, CodeTable, Name};
 use std::alloc::{AllocError, Global};
 use tape_frames::{MAX_FRAMES, MAX_FRAMES_ONE, Version};
 use text_words::{first_piece, place_behind};
+
+/// What a text is punched by: a code table, the letters that are taken as one matrix, and the version that has room for the tape.
+#[derive(Clone, Copy)]
+pub struct PunchedBy<'a> {
+    pub table: &'a CodeTable,
+    pub ligatures: &'a [Name],
+    pub room: Version,
+}
+
+/// The same with the codes at hand, and with the most frames for which there is room.
+#[derive(Clone, Copy)]
+struct PunchKeys<'a> {
+    codes: &'a Codes<'a>,
+    ligatures: &'a [Name],
+    most: usize,
+}
 
 /// What stops the punch at a word.
 #[derive(Clone, Copy)]
@@ -41,21 +57,20 @@ fn most_of(version: Version) -> usize
 
 /// Punches the first piece of a text, and answers how long that is.
 fn punch_piece(
-    codes: &Codes<'_>,
-    ligatures: &[Name],
+    keys: &PunchKeys<'_>,
     text: &[u8],
-    most: usize,
     case: &mut Case,
     frames: &mut Vec<u8>,
 ) -> Result<usize, Stop>
-    requires most { 2 ≤ most }
+    requires most { 2 ≤ keys.now.most }
     requires some { 1 ≤ length text.now }
-    requires case { case.old ≡ case_behind (mean codes.now) frames.old.items }
-    ensures ok { IfOk result (λ len. AddsPiece most ligatures.now (mean codes.now) text.now frames.old.items frames.new.items len) }
-    ensures case { IfOk result (λ len. case.new ≡ case_behind (mean codes.now) frames.new.items) }
-    ensures err { IfErr result (λ stop. IsStop most ligatures.now (mean codes.now) frames.old.items text.now stop) }
+    requires case { case.old ≡ case_behind (mean keys.now.codes.now) frames.old.items }
+    ensures ok { IfOk result (λ len. AddsPiece keys.now.most keys.now.ligatures.now (mean keys.now.codes.now) text.now frames.old.items frames.new.items len) }
+    ensures case { IfOk result (λ len. case.new ≡ case_behind (mean keys.now.codes.now) frames.new.items) }
+    ensures err { IfErr result (λ stop. IsStop keys.now.most keys.now.ligatures.now (mean keys.now.codes.now) frames.old.items text.now stop) }
 {
-    let Some(piece) = first_piece(ligatures, text) else {
+    let codes = keys.codes;
+    let Some(piece) = first_piece(keys.ligatures, text) else {
         return Err(Stop::Cause(PunchCause::NoEnd));
     };
     let len = piece.len;
@@ -65,7 +80,7 @@ fn punch_piece(
     let Some(added) = adds(codes, *case, &word) else {
         return Err(Stop::Cause(PunchCause::NoCode { len }));
     };
-    if frames.len() > most - added.len() {
+    if frames.len() > keys.most - added.len() {
         return Err(Stop::Cause(PunchCause::TooLong));
     }
     match push_added(codes, case, frames, added) {
@@ -75,23 +90,17 @@ fn punch_piece(
 }
 
 /// The frames of a text.
-fn frames_of(
-    alloc: Global,
-    codes: &Codes<'_>,
-    ligatures: &[Name],
-    text: &[u8],
-    most: usize,
-) -> Result<Vec<u8>, Stopped>
-    requires { 2 ≤ most }
-    ensures punched { IfOk result (λ frames. IsPunched ligatures.now (mean codes.now) text.now frames.items) }
-    ensures few { IfOk result (λ frames. length frames.items ≤ most) }
-    ensures err { IfErr result (λ stopped. IsStopped most ligatures.now (mean codes.now) text.now stopped) }
+fn frames_of(alloc: Global, keys: &PunchKeys<'_>, text: &[u8]) -> Result<Vec<u8>, Stopped>
+    requires { 2 ≤ keys.now.most }
+    ensures punched { IfOk result (λ frames. IsPunched keys.now.ligatures.now (mean keys.now.codes.now) text.now frames.items) }
+    ensures few { IfOk result (λ frames. length frames.items ≤ keys.now.most) }
+    ensures err { IfErr result (λ stopped. IsStopped keys.now.most keys.now.ligatures.now (mean keys.now.codes.now) text.now stopped) }
 {
     let mut frames = Vec::new(alloc);
     let mut case = Case::Unshift;
     let mut at = 0;
     while at < text.len() {
-        match punch_piece(codes, ligatures, &text[at..], most, &mut case, &mut frames) {
+        match punch_piece(keys, &text[at..], &mut case, &mut frames) {
             Ok(len) => at += len,
             Err(stop) => return Err(Stopped { at, stop }),
         }
@@ -103,24 +112,22 @@ fn frames_of(
 ///
 /// Otherwise the first word that cannot be punched, with its line and column: it has no code or no end, or its frames are more
 /// than a tape of the version has room for. `Empty` comes where there is no word.
-pub fn punch(
-    alloc: Global,
-    table: &CodeTable,
-    ligatures: &[Name],
-    text: &[u8],
-    version: Version,
-) -> Result<Vec<u8>, PunchError>
-    ensures punched { IfOk result (λ tape. IsPunched ligatures.now (mean table.now) text.now tape.items) }
-    ensures tape { IfOk result (λ tape. IsTape tape.items × (length tape.items ≤ most_in version)) }
-    ensures fault { IfErr result (λ e. IsError (most_in version) ligatures.now (mean table.now) text.now e) }
+pub fn punch(alloc: Global, by: &PunchedBy<'_>, text: &[u8]) -> Result<Vec<u8>, PunchError>
+    ensures punched { IfOk result (λ tape. IsPunchedBy by.now text.now tape.items) }
+    ensures fault { IfErr result (λ e. IsErrorBy by.now text.now e) }
 {
     if text.is_empty() {
         return Err(PunchError::Empty);
     }
-    let Ok(codes) = Codes::new(alloc, table) else {
+    let Ok(codes) = Codes::new(alloc, by.table) else {
         return Err(PunchError::OutOfMemory);
     };
-    match frames_of(alloc, &codes, ligatures, text, most_of(version)) {
+    let keys = PunchKeys {
+        codes: &codes,
+        ligatures: by.ligatures,
+        most: most_of(by.room),
+    };
+    match frames_of(alloc, &keys, text) {
         Ok(frames) => Ok(frames),
         Err(Stopped { at, stop }) => match stop {
             Stop::OutOfMemory => Err(PunchError::OutOfMemory),

@@ -1,12 +1,12 @@
 //! Tapes spelled as texts.
 
-ghost use Rattle.std.specs.Prelude.{◌≡◌, [], ◌++◌, ◌<◌, suc, length, IfOk, OnOk, option_copied};
+ghost use Rattle.std.specs.Prelude.{◌≡◌, [], ◌++◌, suc, IfOk, OnOk, option_copied};
 ghost use Rattle.tape_frames.specs.Frames.{AreFrames};
 ghost use Rattle.code_table.specs.Tables.{mean};
 ghost use Rattle.slug_reader.specs.Meanings.{case_at};
 ghost use Rattle.text_tape.specs.Punching.{IsPunched};
 ghost use Rattle.text_words.specs.Writing.{word_text};
-ghost use Rattle.text_tape.specs.Spelling.{is_turn_of, is_added, is_worded, is_pair, is_behind_unsaid, word_at, spelled};
+ghost use Rattle.text_tape.specs.Spelling.{is_turn_of, is_added, is_worded, is_pair, is_behind_unsaid, IsPlace, word_at, spelled};
 
 use crate::adding::{Added, frames_of};
 use crate::codes::selected_by;
@@ -15,6 +15,14 @@ use code_table::{Case, CodeTable, Meaning};
 use std::alloc::{AllocError, Global};
 use tape_frames::Tape;
 use text_words::{has_word, put_frame, put_meaning};
+
+/// A place of a tape, and the case that holds there.
+#[derive(Clone, Copy)]
+struct TapePlace<'a> {
+    frames: &'a [u8],
+    at: usize,
+    case: Case,
+}
 
 /// Whether both are this frame, or neither is one.
 fn is_turn_of(a: Option<u8>, b: Option<u8>) -> bool
@@ -37,19 +45,14 @@ fn is_added(turn: Option<u8>, frame: u8, added: Option<Added>) -> bool
     }
 }
 
-/// Whether punching a word for what a frame means gives that frame, behind this case code, if any.
-fn is_worded(
-    codes: &Codes<'_>,
-    case: Case,
-    meaning: Option<&Meaning>,
-    turn: Option<u8>,
-    frame: u8,
-) -> bool
-    ensures { result ≡ is_worded (mean codes.now) case (option_copied meaning.entry) turn frame }
+/// Whether punching a word for what a frame means gives what is wanted: that frame, behind this case code, if any.
+fn is_worded(codes: &Codes<'_>, case: Case, meaning: Option<&Meaning>, wanted: Added) -> bool
+    ensures { result ≡ is_worded (mean codes.now) case (option_copied meaning.entry) wanted.turn wanted.frame }
 {
     match meaning {
         Some(meaning) => {
-            has_word(meaning) && is_added(turn, frame, frames_of(codes, case, meaning))
+            has_word(meaning)
+                && is_added(wanted.turn, wanted.frame, frames_of(codes, case, meaning))
         }
         None => false,
     }
@@ -57,46 +60,41 @@ fn is_worded(
 
 /// Whether a word for what the next frame means gives the frame at this place, a case code, and the next.
 #[tactic(auto, unfolding(crate::specs::Spelling::is_pair, slug_reader::specs::Meanings::meaning_at))]
-fn is_pair(codes: &Codes<'_>, case: Case, next: Case, frames: &[u8], i: usize) -> bool
-    requires within { i < length frames.now }
-    requires case { case ≡ case_at (mean codes.now) frames.now i }
-    requires next { next ≡ case_at (mean codes.now) frames.now (suc i) }
-    ensures { result ≡ is_pair (mean codes.now) frames.now i }
+fn is_pair(codes: &Codes<'_>, here: TapePlace<'_>, next: Case) -> bool
+    requires here { IsPlace (mean codes.now) here }
+    requires next { next ≡ case_at (mean codes.now) here.frames.now (suc here.at) }
+    ensures { result ≡ is_pair (mean codes.now) here.entry.frames.now here.entry.at }
 {
-    if i + 1 >= frames.len() {
+    if here.at + 1 >= here.frames.len() {
         return false;
     }
-    let frame = frames[i + 1];
-    is_worded(
-        codes,
-        case,
-        codes.table().meaning(next, frame),
-        Some(frames[i]),
+    let frame = here.frames[here.at + 1];
+    let wanted = Added {
+        turn: Some(here.frames[here.at]),
         frame,
-    )
+    };
+    is_worded(codes, here.case, codes.table().meaning(next, frame), wanted)
 }
 
 /// Writes the word of the frame at this place.
 #[tactic(auto, unfolding(crate::specs::Spelling::is_alone, slug_reader::specs::Meanings::meaning_at))]
 fn put_word(
     codes: &Codes<'_>,
-    case: Case,
+    here: TapePlace<'_>,
     behind_unsaid: bool,
-    frames: &[u8],
-    i: usize,
     text: &mut Vec<u8>,
 ) -> Result<(), AllocError>
-    requires within { i < length frames.now }
-    requires small { AreFrames frames.now }
-    requires case { case ≡ case_at (mean codes.now) frames.now i }
-    requires behind { behind_unsaid ≡ is_behind_unsaid (mean codes.now) frames.now i }
-    ensures { OnOk result (text.new.items ≡ text.old.items ++ word_text (word_at (mean codes.now) frames.now i)) }
+    requires here { IsPlace (mean codes.now) here }
+    requires small { AreFrames here.frames.now }
+    requires behind { behind_unsaid ≡ is_behind_unsaid (mean codes.now) here.frames.now here.at }
+    ensures { OnOk result (text.new.items ≡ text.old.items ++ word_text (word_at (mean codes.now) here.entry.frames.now here.entry.at)) }
 {
-    let frame = frames[i];
-    match codes.table().meaning(case, frame) {
+    let frame = here.frames[here.at];
+    match codes.table().meaning(here.case, frame) {
         None => put_frame(text, frame),
         Some(meaning) => {
-            if behind_unsaid || is_worded(codes, case, Some(meaning), None, frame) {
+            let alone = Added { turn: None, frame };
+            if behind_unsaid || is_worded(codes, here.case, Some(meaning), alone) {
                 put_meaning(text, meaning)
             } else {
                 put_frame(text, frame)
@@ -116,10 +114,15 @@ fn text_of(alloc: Global, codes: &Codes<'_>, tape: &Tape) -> Result<Vec<u8>, All
     let frames = tape.frames();
     for (i, frame) in frames.iter().enumerate() {
         let next = selected_by(codes.table(), *frame).unwrap_or(case);
-        if !behind_unsaid && is_pair(codes, case, next, frames, i) {
+        let here = TapePlace {
+            frames,
+            at: i,
+            case,
+        };
+        if !behind_unsaid && is_pair(codes, here, next) {
             behind_unsaid = true;
         } else {
-            put_word(codes, case, behind_unsaid, frames, i, &mut text)?;
+            put_word(codes, here, behind_unsaid, &mut text)?;
             behind_unsaid = false;
         }
         case = next;

@@ -1,7 +1,9 @@
 //! What `punch`, `spell` and `fit` print, and how they end.
 
 use command_ends::{End, TapePaths};
-use editor_commands::{Form, Given, StoryPaths, fit, punch, spell};
+use editor_commands::{
+    FitOrder, Form, Given, PunchOrder, SpellOrder, StoryPaths, fit, punch, spell,
+};
 use fixtures::{CODES, HARVEST, OVERSET, WIDTHS};
 use std::alloc::Global;
 use tape_frames::Version;
@@ -28,18 +30,14 @@ const STORY: StoryPaths<'static> = StoryPaths {
 fn punching(alloc: Global, text: &[u8], room: Version) -> Ran {
     let mut out = Vec::new(alloc);
     let mut err = Vec::new(alloc);
-    let mut table = CODES.as_bytes();
-    let mut story = text;
-    let end = punch(
-        alloc,
-        &STORY,
-        &mut table,
-        &mut story,
-        &[],
+    let order = PunchOrder {
+        paths: &STORY,
+        table: CODES.as_bytes(),
+        text,
+        ligatures: &[],
         room,
-        &mut out,
-        &mut err,
-    );
+    };
+    let end = punch(alloc, order, &mut out, &mut err);
     Ran { out, err, end }
 }
 
@@ -125,11 +123,13 @@ fn long_texts(rt: HostRuntime) {
 fn spelling(alloc: Global, tape: &[u8], form: Form) -> Ran {
     let mut out = Vec::new(alloc);
     let mut err = Vec::new(alloc);
-    let mut table = CODES.as_bytes();
-    let mut story = tape;
-    let end = spell(
-        alloc, &STORY, &mut table, &mut story, form, &mut out, &mut err,
-    );
+    let order = SpellOrder {
+        paths: &STORY,
+        table: CODES.as_bytes(),
+        tape,
+        form,
+    };
+    let end = spell(alloc, order, &mut out, &mut err);
     Ran { out, err, end }
 }
 
@@ -172,19 +172,14 @@ const PATHS: TapePaths<'static> = TapePaths {
 fn fitting(alloc: Global, story: &[u8], given: Given) -> Ran {
     let mut out = Vec::new(alloc);
     let mut err = Vec::new(alloc);
-    let mut table = CODES.as_bytes();
-    let mut widths = WIDTHS.as_bytes();
-    let mut story = story;
-    let end = fit(
-        alloc,
-        &PATHS,
-        &mut table,
-        &mut widths,
-        &mut story,
+    let order = FitOrder {
+        paths: &PATHS,
+        table: CODES.as_bytes(),
+        widths: WIDTHS.as_bytes(),
+        story,
         given,
-        &mut out,
-        &mut err,
-    );
+    };
+    let end = fit(alloc, order, &mut out, &mut err);
     Ran { out, err, end }
 }
 

@@ -1,16 +1,25 @@
 //! Texts of the two-letter table, and the frames that they are by hand.
 
-use code_table::CodeTable;
+use code_table::{CodeTable, Name};
 use fixtures::CODES;
 use std::alloc::Global;
 use tape_frames::Version;
-use text_tape::{PunchCause, PunchError, PunchFault, punch};
+use text_tape::{PunchCause, PunchError, PunchFault, PunchedBy, punch};
 use text_words::{LigatureError, ligatures_of};
+
+/// What a text is punched by: a table, ligatures and a version.
+fn by<'a>(table: &'a CodeTable, ligatures: &'a [Name], room: Version) -> PunchedBy<'a> {
+    PunchedBy {
+        table,
+        ligatures,
+        room,
+    }
+}
 
 /// The frames of a text.
 pub fn punched(alloc: Global, text: &[u8]) -> Option<Vec<u8>> {
     let table = CodeTable::read(alloc, CODES).ok()?;
-    punch(alloc, &table, &[], text, Version::Two).ok()
+    punch(alloc, &by(&table, &[], Version::Two), text).ok()
 }
 
 /// Whether these are the frames of a text.
@@ -24,7 +33,7 @@ fn is_punched(alloc: Global, text: &[u8], frames: &[u8]) -> bool {
 /// Why a text has no frames in this version.
 fn error_in(alloc: Global, text: &[u8], version: Version) -> Option<PunchError> {
     let table = CodeTable::read(alloc, CODES).ok()?;
-    punch(alloc, &table, &[], text, version).err()
+    punch(alloc, &by(&table, &[], version), text).err()
 }
 
 /// Why it has none in the second.
@@ -132,7 +141,7 @@ code = [
 fn joined(alloc: Global, names: &str, text: &[u8]) -> Option<Vec<u8>> {
     let table = CodeTable::read(alloc, LIGATURES).ok()?;
     let ligatures = ligatures_of(alloc, names).ok()?;
-    punch(alloc, &table, &ligatures, text, Version::Two).ok()
+    punch(alloc, &by(&table, &ligatures, Version::Two), text).ok()
 }
 
 /// Whether these are its frames; none where it has a fault.

@@ -6,12 +6,17 @@ use line_check::set;
 use line_fit::{Verdict, fit};
 use std::alloc::Global;
 use tape_frames::{Tape, Version};
-use text_tape::{punch, spell};
+use text_tape::{PunchedBy, punch, spell};
 use widths::Widths;
 
 /// The story's tape.
 fn tape_of(alloc: Global, table: &CodeTable) -> Option<Tape> {
-    let frames = punch(alloc, table, &[], RIVER.as_bytes(), Version::One).ok()?;
+    let by = PunchedBy {
+        table,
+        ligatures: &[],
+        room: Version::One,
+    };
+    let frames = punch(alloc, &by, RIVER.as_bytes()).ok()?;
     Tape::from_vec(alloc, frames).ok()
 }
 

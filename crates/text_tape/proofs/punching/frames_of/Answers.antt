@@ -11,7 +11,7 @@ loop-at-init c = record {
   within = omega arith;
   words = [];
   punches = rw (c.new-frames.ensures.items) nothing;
-  case = case_start (mean c.args.codes.now) c.new-frames.result.items c.new-frames.ensures.items;
+  case = case_start (mean c.args.keys.now.codes.now) c.new-frames.result.items c.new-frames.ensures.items;
   few = rw (c.new-frames.ensures.items) (omega arith);
 }
 
@@ -23,7 +23,7 @@ loop-at-preserved c =
     record {
       within = let w = rw (rest_is text c.loop-at.at) at a.within in omega (arith, w, length-drop c.loop-at.at text, was.within);
       words = was.words ++ a.word ∷ [];
-      punches = piece_on c.args.most c.args.ligatures.now (mean c.args.codes.now) text _ c.loop-at.at c.in-Ok.len was.words c.loop-at.frames.items _ (rest_is text c.loop-at.at) was.punches a;
+      punches = piece_on c.args.keys.now.most c.args.keys.now.ligatures.now (mean c.args.keys.now.codes.now) text _ c.loop-at.at c.in-Ok.len was.words c.loop-at.frames.items _ (rest_is text c.loop-at.at) was.punches a;
       case = c.in-Ok.ensures.case;
       few = a.few;
     }

@@ -9,9 +9,9 @@ abbrev pub invariant-loop-at : goal.invariant-loop-at
 invariant-loop-at l = record {
   within : l.at ≤ length l.text;
   words : List Word;
-  punches : Punches l.ligatures (mean l.codes) l.text l.at words l.frames.items;
-  case : l.case ≡ case_behind (mean l.codes) l.frames.items;
-  few : length l.frames.items ≤ l.most;
+  punches : Punches l.keys.ligatures.now (mean l.keys.codes.now) l.text l.at words l.frames.items;
+  case : l.case ≡ case_behind (mean l.keys.codes.now) l.frames.items;
+  few : length l.frames.items ≤ l.keys.most;
 }
 
 abbrev pub decreases-loop-at : goal.decreases-loop-at

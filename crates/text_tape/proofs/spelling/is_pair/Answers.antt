@@ -5,5 +5,5 @@ use Rattle.text_tape.proofs.spelling.is_pair.Goals as goal
 
 pub returns : goal.returns
 returns c =
-    pair_is (mean c.args.codes.now) c.args.case c.args.next c.args.frames.now c.args.i c.is_worded.result (omega arith) c.requires.case c.requires.next
+    pair_is (mean c.args.codes.now) c.args.here.case c.args.next c.args.here.frames.now c.args.here.at c.is_worded.result (omega arith) c.requires.here.holds c.requires.next
     (rw (c.meaning.ensures.value, c.table.ensures) at c.is_worded.ensures)
