@@ -1,5 +1,6 @@
 -- The document of a chart: eight rows of eight cells, each 100 units wide and 84 high.
 use Rattle.std.specs.Prelude.{ℕ, ◌+◌, ◌*◌, ◌/◌, ◌%◌, List, [], ◌++◌, Option, Some, None, codes, flat_map, length, nat_le, option_map, if◌then◌else◌}
+use Rattle.code_table.specs.Tables.{mean}
 use Rattle.code_table.specs.declared.case.Case.TheVariants as cases
 use Rattle.code_table.specs.declared.meaning.Meaning.{Meaning}
 use Rattle.widths.specs.Widths.{WidthFile}
@@ -11,10 +12,12 @@ use Rattle.tape_drawing.specs.declared.page.DrawingForm.TheVariants as pages
 use Rattle.tape_drawing.specs.Meanings.{meaning_word, mark_word, mark_style}
 use Rattle.tape_drawing.specs.Texts.{page_lead, svg_lead}
 use Rattle.tape_drawing.specs.Shapes.{Paper, Words, Fitted, shape_text, pair_text, count_text, escaped, holes_text}
+use Rattle.code_chart.specs.declared.cells.ChartSpot.{ChartSpot}
+use Rattle.code_chart.specs.declared.cells.Sheet.{Sheet}
 use Rattle.code_chart.specs.declared.said.MeaningSpan.{MeaningSpan}
 use Rattle.code_chart.specs.declared.said.MeaningSpan.TheVariants as spans
 use Rattle.code_chart.specs.declared.said.MeaningNote.{MeaningNote}
-use Rattle.code_chart.specs.Cells.{Said, Cell, cell, chart}
+use Rattle.code_chart.specs.Cells.{Said, Cell, said, cell, chart}
 use Rattle.code_chart.specs.Texts.{style, svg_middle, svg_style_lead, svg_ground, first_legend, second_legend, third_legend, fourth_legend, page_style_lead, page_style_end, page_legend, page_end}
 
 -- the upper left corner of a cell
@@ -70,6 +73,10 @@ told_text at told = span_text at told.span ++ twin_text at told.twin
 abbrev pub said_text : Point → Option Said → List ℕ
 said_text at None = nothing_text at
 said_text at (Some said) = name_text at said.meaning ++ told_text at said.told
+
+-- what is said by a sheet of a meaning of the frame at a spot, where there is one
+abbrev pub said_by : Sheet → ChartSpot → Option Meaning → List ℕ
+said_by sheet spot meaning = said_text spot.at (option_map (said sheet.widths.now (mean sheet.table.now) spot.frame) meaning)
 
 -- the card of a cell, red where there is no meaning
 abbrev pub card_lead : Option Meaning → List ℕ

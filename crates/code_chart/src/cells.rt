@@ -1,10 +1,10 @@
 //! The cells of a chart: each combination with its holes and both its meanings.
 
-ghost use Rattle.std.specs.Prelude.{◌≡◌, ◌++◌, ◌<◌, ◌≤◌, OnOk, option_copied, option_map, flat_map, map, codes};
+ghost use Rattle.std.specs.Prelude.{◌≡◌, ◌++◌, ◌<◌, ◌≤◌, OnOk, option_copied, flat_map, map, codes};
 ghost use Rattle.code_table.specs.Tables.{mean};
 ghost use Rattle.code_table.specs.declared.case.Case.TheVariants as cases;
-ghost use Rattle.code_chart.specs.Cells.{said, cell, chart};
-ghost use Rattle.code_chart.specs.Document.{corner, lead_text, units_text, between_text, lacking_text, span_text, shared_text, twin_text, name_text, nothing_text, told_text, said_text, card_lead, card_text, paper_text, number_text, group_text, view_text, open_text, close_text, title_text, ground_text, both_text, cell_at, cell_text, cells_text};
+ghost use Rattle.code_chart.specs.Cells.{cell, chart};
+ghost use Rattle.code_chart.specs.Document.{corner, lead_text, units_text, between_text, lacking_text, span_text, shared_text, twin_text, name_text, nothing_text, told_text, said_by, card_lead, card_text, paper_text, number_text, group_text, view_text, open_text, close_text, title_text, ground_text, both_text, cell_at, cell_text, cells_text};
 
 use crate::said::{MeaningNote, MeaningSpan, tell};
 use code_table::{Case, CodeTable, Meaning};
@@ -40,7 +40,7 @@ fn corner(frame: u8) -> Point
 fn add_lead(text: &mut Vec<u8>, lead: &str, at: Point) -> Result<(), AllocError>
     ensures { OnOk result (text.new.items ≡ text.old.items ++ lead_text lead.now at) }
 {
-    add_pair(text, lead, at.x, "' y='", at.y)
+    add_pair(text, lead, "' y='", (at.x, at.y))
 }
 
 /// Adds a width in units.
@@ -59,7 +59,7 @@ fn add_between(text: &mut Vec<u8>, at: Point, least: u64, greatest: u64) -> Resu
     ensures { OnOk result (text.new.items ≡ text.old.items ++ between_text at least greatest) }
 {
     add_lead(text, "<text class='w' x='", at)?;
-    add_pair(text, "'>", least, "-", greatest)?;
+    add_pair(text, "'>", "-", (least, greatest))?;
     text.extend_from_slice(b"</text>\n")
 }
 
@@ -184,8 +184,7 @@ fn add_said(
     meaning: Option<&Meaning>,
 ) -> Result<(), AllocError>
     requires { (spot.at.x ≤ 1100) × (spot.at.y ≤ 1100) }
-    ensures { OnOk result (text.new.items ≡ text.old.items
-        ++ said_text spot.at (option_map (said sheet.now.widths.now (mean sheet.now.table.now) spot.frame) (option_copied meaning.entry))) }
+    ensures { OnOk result (text.new.items ≡ text.old.items ++ said_by sheet.now spot (option_copied meaning.entry)) }
 {
     match meaning {
         Some(meaning) => {
@@ -266,7 +265,7 @@ fn add_view(text: &mut Vec<u8>, number: u64, at: Point) -> Result<(), AllocError
     ensures { OnOk result (text.new.items ≡ text.old.items ++ view_text number at) }
 {
     add_count(text, "<svg id='frame", number)?;
-    add_pair(text, "' viewBox='", at.x, " ", at.y)?;
+    add_pair(text, "' viewBox='", " ", (at.x, at.y))?;
     text.extend_from_slice(b" 100 84'>\n")
 }
 

@@ -5,11 +5,16 @@ use Rattle.slug_reader.specs.Meanings.{Meanings}
 use Rattle.line_check.specs.declared.fault.SetFault.{SetFault}
 use Rattle.line_fit.specs.declared.fitting.Fitting.{Fitting}
 use Rattle.line_fit.specs.Fitting.{Fits, first_told}
+use Rattle.code_table.specs.Tables.{mean}
+use Rattle.tape_drawing.specs.declared.document.DrawingOrder.{DrawingOrder}
 use Rattle.tape_drawing.specs.declared.document.HeadCounts.{HeadCounts}
+use Rattle.tape_drawing.specs.declared.document.Heading.{Heading}
+use Rattle.tape_drawing.specs.declared.document.Names.{Names}
 use Rattle.tape_drawing.specs.declared.page.DrawingForm.{DrawingForm}
 use Rattle.tape_drawing.specs.declared.page.DrawingForm.TheVariants as pages
 use Rattle.tape_drawing.specs.declared.elements.Style.TheVariants as styles
 use Rattle.tape_drawing.specs.declared.layout.Spot.{Spot}
+use Rattle.tape_drawing.specs.declared.lines.DrawingPlan.{DrawingPlan}
 use Rattle.tape_drawing.specs.Shapes.{Shape, Words, pair_text, count_text, escaped, text_of}
 use Rattle.tape_drawing.specs.Texts.{style_head, style_tail, svg_lead, svg_style_end, first_legend, second_legend, page_lead, page_style_end, page_legend, page_main}
 use Rattle.tape_drawing.specs.Layout.{type_size, after, first_spot}
@@ -24,6 +29,10 @@ pub record Called : Type 0 where
 -- these names
 abbrev pub called : List ℕ → List ℕ → List ℕ → Called
 called tape table widths = record { tape = tape; table = table; widths = widths }
+
+-- what a tape, its table and its widths are called by an order
+abbrev pub called_by : Names → Called
+called_by names = called names.tape.now names.table.now names.widths.now
 
 -- the title: what is drawn, and what it is set by
 abbrev pub title_words : Called → List ℕ
@@ -124,6 +133,10 @@ page_text pages.Svg lines height title counts size faults = svg_head height titl
 page_text pages.Html lines height title counts size faults =
     page_head title counts size faults ++ (lines ++ codes "</main>\n</body>\n</html>\n")
 
+-- the same under a heading
+abbrev pub page_by : DrawingForm → List ℕ → Heading → List ℕ
+page_by page lines heading = page_text page lines heading.height heading.title.now heading.counts.now heading.size heading.faults
+
 -- the document of a tape whose lines end here, with what is counted
 abbrev pub text_with : DrawingForm → Meanings → WidthFile → List ℕ → Called → Fitting → Spot → HeadCounts → List ℕ
 text_with page means widths tape called fitting end c =
@@ -135,9 +148,17 @@ document_text page means widths tape called fitting =
     text_with page means widths tape called fitting (after first_spot fitting.lines.items)
     (counted widths.measure (length tape) (after first_spot fitting.lines.items) fitting.rest)
 
+-- the same by a plan, where its files are called so
+abbrev pub document_by : DrawingPlan → Names → Fitting → List ℕ
+document_by plan names fitting = document_text plan.page (mean plan.table.now) plan.widths.now plan.tape.now (called_by names) fitting
+
 -- a text is the drawing of a tape, and this is the first fault for which it does not set
 pub record IsDrawing (page : DrawingForm) (means : Meanings) (widths : WidthFile) (tape : List ℕ) (called : Called) (text : List ℕ) (fault : Option SetFault) : Type 0 where
   pub fitting : Fitting
   pub fits : Fits means widths tape fitting
   pub is_fault : fault ≡ first_told fitting
   pub is_text : text ≡ document_text page means widths tape called fitting
+
+-- a text is the drawing that was ordered, of a tape with this first fault, or none
+abbrev pub IsDrawingBy : DrawingOrder → List ℕ → Option SetFault → Type 0
+IsDrawingBy order text fault = IsDrawing order.page (mean order.table.now) order.widths.now order.tape.now (called_by order.names) text fault

@@ -1,9 +1,13 @@
 -- The frames of a line: where each is drawn, with its holes and what it means. Rows have 40 frames of 18 units each.
-use Rattle.std.specs.Prelude.{ℕ, ◌+◌, ◌-◌, ◌%◌, min, List, [], ◌∷◌, ◌++◌, decimal, flat_map, ◌==◌, if◌then◌else◌}
+use Rattle.std.specs.Prelude.{◌≡◌, ◌<◌, ◌≤◌, ◌^◌, length, ℕ, ◌+◌, ◌-◌, ◌%◌, min, List, [], ◌∷◌, ◌++◌, decimal, flat_map, ◌==◌, if◌then◌else◌}
+use Rattle.tape_frames.specs.Frames.{most_frames, AreFrames}
+use Rattle.code_table.specs.Tables.{mean}
+use Rattle.code_table.specs.declared.case.Case.{Case}
 use Rattle.slug_reader.specs.Positions.{before}
-use Rattle.slug_reader.specs.Meanings.{Meanings, frame_at, meaning_at}
+use Rattle.slug_reader.specs.Meanings.{Meanings, frame_at, case_at, meaning_at}
 use Rattle.tape_drawing.specs.declared.elements.Point.{Point}
 use Rattle.tape_drawing.specs.declared.elements.Style.TheVariants as styles
+use Rattle.tape_drawing.specs.declared.frames.Strip.{Strip}
 use Rattle.tape_drawing.specs.Shapes.{Shape, Paper, Frame, Words}
 use Rattle.tape_drawing.specs.Layout.{corner}
 
@@ -31,3 +35,28 @@ frame_shapes means tape from frames top k =
 -- the frames of a line of so many that begins at a position, in order
 abbrev pub strip_shapes : Meanings → List ℕ → ℕ → ℕ → ℕ → List Shape
 strip_shapes means tape from frames top = flat_map (frame_shapes means tape from frames top) (before frames)
+
+-- the frames of a strip stand on its tape, which is no longer than a tape may be, and its upper edge is not far down
+pub record IsStrip (s : Strip) : Type 0 where
+  pub within : s.from + s.frames ≤ length s.tape.now
+  pub few : length s.tape.now ≤ most_frames
+  pub small : AreFrames s.tape.now
+  pub top : s.top ≤ 2 ^ 40
+
+-- this case holds at the k-th frame of a strip
+pub record HoldsAtKth (s : Strip) (k : ℕ) (case : Case) : Type 0 where
+  pub strip : IsStrip s
+  pub inside : k < s.frames
+  pub holds : case ≡ case_at (mean s.table.now) s.tape.now (s.from + k)
+
+-- the k-th frame of a strip, alone
+abbrev pub alone_in : Strip → ℕ → Shape
+alone_in s k = kth_frame (mean s.table.now) s.tape.now s.from s.top k
+
+-- the same with what stands above it
+abbrev pub kth_in : Strip → ℕ → List Shape
+kth_in s k = frame_shapes (mean s.table.now) s.tape.now s.from s.frames s.top k
+
+-- all frames of a strip
+abbrev pub strip_in : Strip → List Shape
+strip_in s = strip_shapes (mean s.table.now) s.tape.now s.from s.frames s.top

@@ -1,9 +1,11 @@
 -- The lines of a tape, one below the other: of each its frames, and right below them what is cast of it.
-use Rattle.std.specs.Prelude.{ℕ, ◌+◌, ◌-◌, List, [], ◌∷◌, ◌++◌, Option, Some, None, codes, decimal, length, nat_lt, ◌==◌, if◌then◌else◌}
+use Rattle.std.specs.Prelude.{◌≡◌, ◌<◌, ◌≤◌, ◌^◌, ℕ, ◌+◌, ◌-◌, List, [], ◌∷◌, ◌++◌, Option, Some, None, codes, decimal, length, nat_lt, ◌==◌, if◌then◌else◌}
+use Rattle.tape_frames.specs.Frames.{IsTape}
+use Rattle.code_table.specs.Tables.{mean}
 use Rattle.widths.specs.Widths.{WidthFile}
 use Rattle.slug_reader.specs.declared.item.Item.{Item}
 use Rattle.slug_reader.specs.declared.line.Line.{Line}
-use Rattle.slug_reader.specs.Meanings.{Meanings}
+use Rattle.slug_reader.specs.Meanings.{Meanings, case_at}
 use Rattle.line_check.specs.declared.fault.Cause.{Cause}
 use Rattle.line_check.specs.declared.fault.Cause.TheVariants as causes
 use Rattle.line_check.specs.declared.fault.SetFault.{SetFault}
@@ -18,8 +20,11 @@ use Rattle.tape_drawing.specs.declared.elements.Style.{Style}
 use Rattle.tape_drawing.specs.declared.elements.Style.TheVariants as styles
 use Rattle.tape_drawing.specs.declared.page.DrawingForm.{DrawingForm}
 use Rattle.tape_drawing.specs.declared.layout.Spot.{Spot}
+use Rattle.tape_drawing.specs.declared.lines.DrawingPlan.{DrawingPlan}
+use Rattle.tape_drawing.specs.declared.lines.Reached.{Reached}
+use Rattle.tape_drawing.specs.declared.lines.Taped.{Taped}
 use Rattle.tape_drawing.specs.Shapes.{Shape, Bar, Mark, Words, Open, Close}
-use Rattle.tape_drawing.specs.Layout.{corner, rows_height, frames_in, line_height, next, after, first_spot}
+use Rattle.tape_drawing.specs.Layout.{corner, rows_height, frames_in, line_height, next, after, first_spot, IsFilled, IsWithin, AreLines}
 use Rattle.tape_drawing.specs.Frames.{strip_shapes}
 use Rattle.tape_drawing.specs.Slugs.{pieces_shapes, filled_shapes}
 
@@ -118,3 +123,46 @@ rest_shapes page means tape spot fault =
 abbrev pub tape_shapes : DrawingForm → Meanings → WidthFile → List ℕ → Fitting → List Shape
 tape_shapes page means widths tape fitting =
     lines_shapes page means widths tape first_spot fitting.lines.items ++ rest_shapes page means tape (after first_spot fitting.lines.items) fitting.rest
+
+-- the case that is reached is the one that holds where the next frame stands
+abbrev pub HoldsHere : DrawingPlan → Reached → Type 0
+HoldsHere plan reached = reached.case ≡ case_at (mean plan.table.now) plan.tape.now reached.spot.from
+
+-- the frames of a line stand on the tape that is drawn, its upper edge is not far down, and this case holds at the first
+pub record IsTaped (plan : DrawingPlan) (taped : Taped) : Type 0 where
+  pub tape : IsTape plan.tape.now
+  pub within : taped.spot.from + taped.frames ≤ length plan.tape.now
+  pub top : taped.spot.top ≤ 2 ^ 40
+  pub holds : taped.case ≡ case_at (mean plan.table.now) plan.tape.now taped.spot.from
+
+-- a line is cut on the tape that is drawn, behind what is reached, and its slug fills the measure
+pub record IsLineOf (plan : DrawingPlan) (reached : Reached) (fit : LineFit) : Type 0 where
+  pub tape : IsTape plan.tape.now
+  pub filled : IsFilled plan.widths.now.measure fit.verdict
+  pub from : reached.spot.from ≤ fit.cut_at
+  pub cut : fit.cut_at < length plan.tape.now
+  pub top : reached.spot.top ≤ 2 ^ 40
+  pub holds : HoldsHere plan reached
+
+-- what is reached behind the lines is on the tape that is drawn
+pub record IsBehindLines (plan : DrawingPlan) (reached : Reached) : Type 0 where
+  pub tape : IsTape plan.tape.now
+  pub within : IsWithin (length plan.tape.now) reached.spot
+  pub holds : HoldsHere plan reached
+
+-- these are lines of the tape that is drawn
+pub record AreLinesOf (plan : DrawingPlan) (lines : List LineFit) : Type 0 where
+  pub tape : IsTape plan.tape.now
+  pub lines_fit : AreLines plan.widths.now.measure (length plan.tape.now) 0 lines
+
+-- what is drawn of a line by a plan
+abbrev pub line_by : DrawingPlan → Spot → LineFit → List Shape
+line_by plan spot fit = line_shapes plan.page (mean plan.table.now) plan.widths.now plan.tape.now spot fit
+
+-- what is drawn of lines
+abbrev pub lines_by : DrawingPlan → List LineFit → List Shape
+lines_by plan lines = lines_shapes plan.page (mean plan.table.now) plan.widths.now plan.tape.now first_spot lines
+
+-- what is drawn of a tape
+abbrev pub tape_by : DrawingPlan → Fitting → List Shape
+tape_by plan fitting = tape_shapes plan.page (mean plan.table.now) plan.widths.now plan.tape.now fitting

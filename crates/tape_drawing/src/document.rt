@@ -1,15 +1,14 @@
 //! The document of a drawing.
 
 ghost use Rattle.std.specs.Prelude.{◌≡◌, ◌++◌, ◌≤◌, ◌^◌, OnOk, IfOk, length, codes, decimal};
-ghost use Rattle.tape_frames.specs.Frames.{IsTape};
 ghost use Rattle.code_table.specs.Tables.{mean};
 ghost use Rattle.line_fit.specs.Fitting.{Fits, first_told, fault_in};
 ghost use Rattle.line_check.specs.Laws.{AddsUp};
 ghost use Rattle.slug_reader.specs.Positions.{first, or_else};
 ghost use Rattle.tape_drawing.specs.Shapes.{text_of, escaped};
-ghost use Rattle.tape_drawing.specs.Layout.{after, first_spot, IsWithin, AreLines};
-ghost use Rattle.tape_drawing.specs.Lines.{tape_shapes};
-ghost use Rattle.tape_drawing.specs.Document.{Called, called, title_words, rest_lines, rest_faults, counted, tape_counts, line_counts, counted_words, height_of, style_text, svg_open, svg_styled, svg_style, svg_head, head_shapes, fault_link, page_styled, page_look, page_titled, page_open, page_told, page_head, page_text, document_text, IsDrawing};
+ghost use Rattle.tape_drawing.specs.Layout.{after, first_spot, IsWithin};
+ghost use Rattle.tape_drawing.specs.Lines.{AreLinesOf, tape_by};
+ghost use Rattle.tape_drawing.specs.Document.{called_by, title_words, rest_lines, rest_faults, counted, tape_counts, line_counts, counted_words, height_of, style_text, svg_open, svg_styled, svg_style, svg_head, head_shapes, fault_link, page_styled, page_look, page_titled, page_open, page_told, page_head, page_by, document_by, IsDrawingBy};
 
 use crate::elements::{Point, Style, add_count, add_number, add_pair, add_words};
 use crate::escaping::add_escaped;
@@ -78,7 +77,7 @@ struct Heading<'a> {
 
 /// The title: what is drawn, and what it is set by.
 fn title_words(alloc: Global, names: &Names<'_>) -> Result<Vec<u8>, AllocError>
-    ensures { IfOk result (λ words. words.items ≡ title_words (called names.now.tape.now names.now.table.now names.now.widths.now)) }
+    ensures { IfOk result (λ words. words.items ≡ title_words (called_by names.now)) }
 {
     let mut words = Vec::new(alloc);
     words.extend_from_slice(names.tape.as_bytes())?;
@@ -178,7 +177,7 @@ fn add_style(text: &mut Vec<u8>, size: u64) -> Result<(), AllocError>
 fn add_svg_open(text: &mut Vec<u8>, height: u64, title: &[u8]) -> Result<(), AllocError>
     ensures { OnOk result (text.new.items ≡ text.old.items ++ svg_open height title.now) }
 {
-    add_pair(text, svg_lead(), height, "' viewBox='0 0 840 ", height)?;
+    add_pair(text, svg_lead(), "' viewBox='0 0 840 ", (height, height))?;
     text.extend_from_slice(b"'>\n<title>")?;
     add_escaped(text, title)?;
     text.extend_from_slice(b"</title>\n")
@@ -310,11 +309,8 @@ fn add_document(
     fitting: &Fitting,
     heading: &Heading<'_>,
 ) -> Result<(), AllocError>
-    requires tape { IsTape plan.now.tape.now }
-    requires lines { AreLines plan.now.widths.now.measure (length plan.now.tape.now) 0 fitting.now.lines.items }
-    ensures { OnOk result (text.new.items ≡ text.old.items
-        ++ page_text plan.now.page (text_of (tape_shapes plan.now.page (mean plan.now.table.now) plan.now.widths.now plan.now.tape.now fitting.now))
-        heading.now.height heading.now.title.now heading.now.counts.now heading.now.size heading.now.faults) }
+    requires { AreLinesOf plan.now fitting.now.lines.items }
+    ensures { OnOk result (text.new.items ≡ text.old.items ++ page_by plan.now.page (text_of (tape_by plan.now fitting.now)) heading.now) }
 {
     match plan.page {
         DrawingForm::Svg => {
@@ -367,10 +363,8 @@ fn document_of(
     names: &Names<'_>,
     fitting: &Fitting,
 ) -> Result<Vec<u8>, AllocError>
-    requires tape { IsTape plan.now.tape.now }
-    requires lines { AreLines plan.now.widths.now.measure (length plan.now.tape.now) 0 fitting.now.lines.items }
-    ensures { IfOk result (λ text. text.items ≡ document_text plan.now.page (mean plan.now.table.now) plan.now.widths.now plan.now.tape.now
-        (called names.now.tape.now names.now.table.now names.now.widths.now) fitting.now) }
+    requires { AreLinesOf plan.now fitting.now.lines.items }
+    ensures { IfOk result (λ text. text.items ≡ document_by plan.now names.now fitting.now) }
 {
     let frames = plan.tape.len();
     let measure = plan.widths.measure();
@@ -394,8 +388,7 @@ fn document_of(
 ///
 /// Each line is drawn, one that does not set as it would be cast.
 pub fn draw_tape(alloc: Global, order: &DrawingOrder<'_>) -> Result<Drawing, AllocError>
-    ensures { IfOk result (λ d. IsDrawing order.now.page (mean order.now.table.now) order.now.widths.now order.now.tape.now
-        (called order.now.names.tape.now order.now.names.table.now order.now.names.widths.now) d.text.items d.fault) }
+    ensures { IfOk result (λ d. IsDrawingBy order.now d.text.items d.fault) }
 {
     adds_up();
     let fitting = fit(alloc, order.table, order.widths, order.tape)?;

@@ -107,17 +107,16 @@ pub fn add_count(text: &mut Vec<u8>, lead: &str, number: u64) -> Result<(), Allo
 pub fn add_pair(
     text: &mut Vec<u8>,
     lead: &str,
-    across: u64,
     between: &str,
-    down: u64,
+    numbers: (u64, u64),
 ) -> Result<(), AllocError>
-    ensures { OnOk result (text.new.items ≡ text.old.items ++ pair_text lead.now across between.now down) }
+    ensures { OnOk result (text.new.items ≡ text.old.items ++ pair_text lead.now numbers.0 between.now numbers.1) }
 {
     let mut digits = Buffer::new();
     text.extend_from_slice(lead.as_bytes())?;
-    text.extend_from_slice(digits.format(across).as_bytes())?;
+    text.extend_from_slice(digits.format(numbers.0).as_bytes())?;
     text.extend_from_slice(between.as_bytes())?;
-    text.extend_from_slice(digits.format(down).as_bytes())
+    text.extend_from_slice(digits.format(numbers.1).as_bytes())
 }
 
 /// Adds the paper of so many frames.
@@ -126,8 +125,8 @@ fn add_sheet(text: &mut Vec<u8>, at: Point, frames: u64) -> Result<(), AllocErro
     requires { frames ≤ 40 }
     ensures { OnOk result (text.new.items ≡ text.old.items ++ sheet_text at.x at.y frames) }
 {
-    add_pair(text, "<rect class='p' x='", at.x, "' y='", at.y)?;
-    add_pair(text, "' width='", 18 * frames, "' height='", 58)?;
+    add_pair(text, "<rect class='p' x='", "' y='", (at.x, at.y))?;
+    add_pair(text, "' width='", "' height='", (18 * frames, 58))?;
     text.extend_from_slice(b"'/>\n")
 }
 
@@ -137,8 +136,8 @@ fn add_feed(text: &mut Vec<u8>, at: Point, frames: u64) -> Result<(), AllocError
     requires { (1 ≤ frames) × (frames ≤ 40) × (at.x ≤ 2 ^ 40) × (at.y ≤ 2 ^ 41) }
     ensures { OnOk result (text.new.items ≡ text.old.items ++ feed_text at.x at.y frames) }
 {
-    add_pair(text, "<path class='d' d='M", at.x + 9, " ", at.y + 29)?;
-    add_pair(text, "h", 18 * frames - 9, "v", 0)?;
+    add_pair(text, "<path class='d' d='M", " ", (at.x + 9, at.y + 29))?;
+    add_pair(text, "h", "v", (18 * frames - 9, 0))?;
     text.extend_from_slice(b"'/>\n")
 }
 
@@ -157,7 +156,7 @@ pub fn add_paper(text: &mut Vec<u8>, at: Point, frames: u64) -> Result<(), Alloc
 pub fn add_mark(text: &mut Vec<u8>, at: Point) -> Result<(), AllocError>
     ensures { OnOk result (text.new.items ≡ text.old.items ++ shape_text (Mark at.x at.y)) }
 {
-    add_pair(text, "<rect class='f' x='", at.x, "' y='", at.y)?;
+    add_pair(text, "<rect class='f' x='", "' y='", (at.x, at.y))?;
     text.extend_from_slice(b"' width='18' height='74'/>\n")
 }
 
@@ -179,8 +178,8 @@ fn box_lead(look: Look) -> &'static str
 pub fn add_box(text: &mut Vec<u8>, look: Look, at: Point, width: u64) -> Result<(), AllocError>
     ensures { OnOk result (text.new.items ≡ text.old.items ++ shape_text (Box look at.x at.y width)) }
 {
-    add_pair(text, box_lead(look), at.x, "' y='", at.y)?;
-    add_pair(text, "' width='", width, "' height='", 46)?;
+    add_pair(text, box_lead(look), "' y='", (at.x, at.y))?;
+    add_pair(text, "' width='", "' height='", (width, 46))?;
     text.extend_from_slice(b"'/>\n")
 }
 
@@ -189,7 +188,7 @@ pub fn add_box(text: &mut Vec<u8>, look: Look, at: Point, width: u64) -> Result<
 pub fn add_bar(text: &mut Vec<u8>, at: Point) -> Result<(), AllocError>
     ensures { OnOk result (text.new.items ≡ text.old.items ++ shape_text (Bar at.x at.y)) }
 {
-    add_pair(text, "<rect class='k' x='", at.x, "' y='", at.y)?;
+    add_pair(text, "<rect class='k' x='", "' y='", (at.x, at.y))?;
     text.extend_from_slice(b"' width='720' height='46'/>\n")
 }
 
@@ -198,8 +197,8 @@ pub fn add_bar(text: &mut Vec<u8>, at: Point) -> Result<(), AllocError>
 pub fn add_gap(text: &mut Vec<u8>, at: Point, width: u64) -> Result<(), AllocError>
     ensures { OnOk result (text.new.items ≡ text.old.items ++ shape_text (Gap at.x at.y width)) }
 {
-    add_pair(text, "<rect class='a' x='", at.x, "' y='", at.y)?;
-    add_pair(text, "' width='", width, "' height='", 46)?;
+    add_pair(text, "<rect class='a' x='", "' y='", (at.x, at.y))?;
+    add_pair(text, "' width='", "' height='", (width, 46))?;
     text.extend_from_slice(b"'/>\n")
 }
 
@@ -247,7 +246,7 @@ pub fn add_words(
 ) -> Result<(), AllocError>
     ensures { OnOk result (text.new.items ≡ text.old.items ++ shape_text (Words style at.x at.y words.now)) }
 {
-    add_pair(text, style_lead(style), at.x, "' y='", at.y)?;
+    add_pair(text, style_lead(style), "' y='", (at.x, at.y))?;
     text.extend_from_slice(b"'>")?;
     add_words_end(text, words)
 }
@@ -262,7 +261,7 @@ pub fn add_fitted(
 ) -> Result<(), AllocError>
     ensures { OnOk result (text.new.items ≡ text.old.items ++ shape_text (Fitted style room.at.x room.at.y room.length words.now)) }
 {
-    add_pair(text, style_lead(style), room.at.x, "' y='", room.at.y)?;
+    add_pair(text, style_lead(style), "' y='", (room.at.x, room.at.y))?;
     text.extend_from_slice(b"' textLength='")?;
     add_number(text, room.length)?;
     text.extend_from_slice(b"' lengthAdjust='spacingAndGlyphs'>")?;
@@ -284,7 +283,7 @@ fn add_view(text: &mut Vec<u8>, number: u64, extent: Extent) -> Result<(), Alloc
     ensures { OnOk result (text.new.items ≡ text.old.items ++ view_text number extent.top extent.height) }
 {
     add_count(text, "<svg id='line", number)?;
-    add_pair(text, "' viewBox='0 ", extent.top, " 840 ", extent.height)?;
+    add_pair(text, "' viewBox='0 ", " 840 ", (extent.top, extent.height))?;
     text.extend_from_slice(b"'>\n")
 }
 

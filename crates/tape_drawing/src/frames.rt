@@ -1,11 +1,11 @@
 //! The frames of a line: rows of them, each with its holes and what it means.
 
 ghost use Rattle.std.specs.Prelude.{◌≡◌, ◌++◌, ◌+◌, ◌≤◌, ◌<◌, ◌^◌, OnOk, IfOk, length, codes, option_copied};
-ghost use Rattle.tape_frames.specs.Frames.{most_frames, AreFrames};
+ghost use Rattle.tape_frames.specs.Frames.{most_frames};
 ghost use Rattle.code_table.specs.Tables.{mean};
 ghost use Rattle.slug_reader.specs.Meanings.{case_at};
 ghost use Rattle.tape_drawing.specs.Shapes.{text_of, shape_text, title_end, title_text, dot_text, dots_text, holes_text, mark_text, frame_text, Frame};
-ghost use Rattle.tape_drawing.specs.Frames.{paper_shapes, position_shapes, above_shapes, kth_frame, frame_shapes, strip_shapes};
+ghost use Rattle.tape_drawing.specs.Frames.{paper_shapes, position_shapes, above_shapes, IsStrip, HoldsAtKth, alone_in, kth_in, strip_in};
 
 use crate::elements::{Point, Room, Style, add_count, add_fitted, add_pair, add_paper, add_words};
 use crate::escaping::add_escaped;
@@ -62,7 +62,7 @@ fn add_dot(text: &mut Vec<u8>, punched: u8, x: u64, y: u64) -> Result<(), AllocE
     ensures { OnOk result (text.new.items ≡ text.old.items ++ dot_text punched x y) }
 {
     if punched == b'o' {
-        add_pair(text, "M", x, " ", y)?;
+        add_pair(text, "M", " ", (x, y))?;
         text.extend_from_slice(b"h0")
     } else {
         Ok(())
@@ -198,11 +198,8 @@ fn add_frame_alone(
     strip: &Strip<'_>,
     k: usize,
 ) -> Result<(), AllocError>
-    requires within { (k < strip.now.frames) × (strip.now.from + strip.now.frames ≤ length strip.now.tape.now) × (length strip.now.tape.now ≤ most_frames) }
-    requires frames { AreFrames strip.now.tape.now }
-    requires top { strip.now.top ≤ 2 ^ 40 }
-    requires case { case ≡ case_at (mean strip.now.table.now) strip.now.tape.now (strip.now.from + k) }
-    ensures { OnOk result (text.new.items ≡ text.old.items ++ shape_text (kth_frame (mean strip.now.table.now) strip.now.tape.now strip.now.from strip.now.top k)) }
+    requires { HoldsAtKth strip.now k case }
+    ensures { OnOk result (text.new.items ≡ text.old.items ++ shape_text (alone_in strip.now k)) }
 {
     let position = strip.from + k;
     let punched = Punched {
@@ -221,11 +218,8 @@ fn add_frame_alone(
 /// Adds the k-th frame of a line, where this case holds.
 #[tactic(auto, using(crate::proofs::Sequences::text_append, crate::proofs::Sequences::text_one))]
 fn add_kth(text: &mut Vec<u8>, case: Case, strip: &Strip<'_>, k: usize) -> Result<(), AllocError>
-    requires within { (k < strip.now.frames) × (strip.now.from + strip.now.frames ≤ length strip.now.tape.now) × (length strip.now.tape.now ≤ most_frames) }
-    requires frames { AreFrames strip.now.tape.now }
-    requires top { strip.now.top ≤ 2 ^ 40 }
-    requires case { case ≡ case_at (mean strip.now.table.now) strip.now.tape.now (strip.now.from + k) }
-    ensures { OnOk result (text.new.items ≡ text.old.items ++ text_of (frame_shapes (mean strip.now.table.now) strip.now.tape.now strip.now.from strip.now.frames strip.now.top k)) }
+    requires { HoldsAtKth strip.now k case }
+    ensures { OnOk result (text.new.items ≡ text.old.items ++ text_of (kth_in strip.now k)) }
 {
     add_above(text, strip, k)?;
     add_frame_alone(text, case, strip, k)
@@ -234,11 +228,9 @@ fn add_kth(text: &mut Vec<u8>, case: Case, strip: &Strip<'_>, k: usize) -> Resul
 /// Adds the frames of a line, from left to right in rows, each with what it means in the case that holds there; and answers
 /// the case that holds behind them.
 pub fn add_strip(text: &mut Vec<u8>, case: Case, strip: &Strip<'_>) -> Result<Case, AllocError>
-    requires within { (strip.now.from + strip.now.frames ≤ length strip.now.tape.now) × (length strip.now.tape.now ≤ most_frames) }
-    requires frames { AreFrames strip.now.tape.now }
-    requires top { strip.now.top ≤ 2 ^ 40 }
+    requires strip { IsStrip strip.now }
     requires case { case ≡ case_at (mean strip.now.table.now) strip.now.tape.now strip.now.from }
-    ensures text { OnOk result (text.new.items ≡ text.old.items ++ text_of (strip_shapes (mean strip.now.table.now) strip.now.tape.now strip.now.from strip.now.frames strip.now.top)) }
+    ensures text { OnOk result (text.new.items ≡ text.old.items ++ text_of (strip_in strip.now)) }
     ensures case { IfOk result (λ behind. behind ≡ case_at (mean strip.now.table.now) strip.now.tape.now (strip.now.from + strip.now.frames)) }
 {
     let mut case = case;

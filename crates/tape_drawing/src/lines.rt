@@ -1,14 +1,14 @@
 //! The lines of a tape, one below the other: of each its frames, and right below them what is cast of it.
 
 ghost use Rattle.std.specs.Prelude.{◌≡◌, ◌++◌, ◌∷◌, [], ◌≤◌, ◌<◌, ◌+◌, ◌^◌, OnOk, IfOk, length, codes, decimal};
-ghost use Rattle.tape_frames.specs.Frames.{most_frames, IsTape};
+ghost use Rattle.tape_frames.specs.Frames.{most_frames};
 ghost use Rattle.code_table.specs.Tables.{mean};
 ghost use Rattle.slug_reader.specs.Meanings.{case_at};
 ghost use Rattle.line_check.specs.Galley.{kind_text};
 ghost use Rattle.line_fit.specs.Fitting.{fault_in};
 ghost use Rattle.tape_drawing.specs.Shapes.{text_of, shape_text, Words};
-ghost use Rattle.tape_drawing.specs.Layout.{IsFull, IsFilled, IsWithin, AreLines, after, first_spot};
-ghost use Rattle.tape_drawing.specs.Lines.{cause_words, fault_words, band_in, kind_words, slug_shapes, unset_pieces, unset_shapes, foot_shapes, mark_shapes, number_style, taped_shapes, line_shapes, lines_shapes, rest_height, rest_words, rest_shapes, tape_shapes};
+ghost use Rattle.tape_drawing.specs.Layout.{IsFull, IsFilled, IsWithin, after, first_spot};
+ghost use Rattle.tape_drawing.specs.Lines.{cause_words, fault_words, band_in, kind_words, slug_shapes, unset_pieces, unset_shapes, foot_shapes, mark_shapes, number_style, taped_shapes, rest_height, rest_words, rest_shapes, HoldsHere, IsTaped, IsLineOf, IsBehindLines, AreLinesOf, line_by, lines_by, tape_by};
 
 use crate::elements::{
     Extent, Point, Style, add_bar, add_close, add_mark, add_number, add_open, add_words,
@@ -41,6 +41,7 @@ pub struct DrawingPlan<'a> {
 struct Below {
     number: u64,
     top: u64,
+    ghost near: { top ≤ 2 ^ 50 },
 }
 
 /// A line that does not set, and why.
@@ -149,7 +150,7 @@ fn add_slug(
     below: Below,
     slug: &Slug,
 ) -> Result<(), AllocError>
-    requires { IsFull plan.now.widths.now.measure slug.now × (below.top ≤ 2 ^ 50) }
+    requires { IsFull plan.now.widths.now.measure slug.now }
     ensures { OnOk result (text.new.items ≡ text.old.items ++ text_of (slug_shapes plan.now.widths.now.measure below.top below.number slug.now)) }
 {
     let words = kind_words(plan.alloc, below.number, slug)?;
@@ -168,7 +169,6 @@ fn add_fault_behind(
     below: Below,
     fault: SetFault,
 ) -> Result<(), AllocError>
-    requires { below.top ≤ 2 ^ 50 }
     ensures { OnOk result (text.new.items ≡ text.old.items ++ shape_text (Words Style.Behind 836 (below.top + 58) (fault_words fault))) }
 {
     let words = fault_words(plan.alloc, fault)?;
@@ -186,7 +186,6 @@ fn add_fault(
     below: Below,
     fault: SetFault,
 ) -> Result<(), AllocError>
-    requires { below.top ≤ 2 ^ 50 }
     ensures { OnOk result (text.new.items ≡ text.old.items ++ shape_text (Words Style.Fault 60 (below.top + 11) (fault_words fault))) }
 {
     let words = fault_words(plan.alloc, fault)?;
@@ -199,7 +198,6 @@ fn add_fault(
 
 /// Adds that there is nothing to cast.
 fn add_nothing(text: &mut Vec<u8>, below: Below) -> Result<(), AllocError>
-    requires { below.top ≤ 2 ^ 50 }
     ensures { OnOk result (text.new.items ≡ text.old.items ++ shape_text (Words Style.Note 60 (below.top + 11) (codes "nothing to cast"))) }
 {
     let at = Point {
@@ -217,7 +215,7 @@ fn add_unset_pieces(
     below: Below,
     unset: &UnsetLine<'_>,
 ) -> Result<(), AllocError>
-    requires { (length unset.now.items.now ≤ most_frames) × (below.top ≤ 2 ^ 50) }
+    requires { length unset.now.items.now ≤ most_frames }
     ensures { OnOk result (text.new.items ≡ text.old.items ++ text_of (unset_pieces plan.now.widths.now below.top unset.now.fault unset.now.items.now)) }
 {
     let band = band_in(plan.widths, unset.fault.cause);
@@ -232,7 +230,7 @@ fn add_unset(
     below: Below,
     unset: &UnsetLine<'_>,
 ) -> Result<(), AllocError>
-    requires { (length unset.now.items.now ≤ most_frames) × (below.top ≤ 2 ^ 50) }
+    requires { length unset.now.items.now ≤ most_frames }
     ensures { OnOk result (text.new.items ≡ text.old.items ++ text_of (unset_shapes plan.now.widths.now below.top unset.now.fault unset.now.items.now)) }
 {
     let at = Point {
@@ -251,7 +249,7 @@ fn add_foot(
     below: Below,
     fit: &LineFit,
 ) -> Result<(), AllocError>
-    requires { IsFilled plan.now.widths.now.measure fit.now.verdict × (below.top ≤ 2 ^ 50) }
+    requires { IsFilled plan.now.widths.now.measure fit.now.verdict }
     ensures { OnOk result (text.new.items ≡ text.old.items ++ text_of (foot_shapes plan.now.widths.now below.number below.top fit.now.verdict fit.now.line)) }
 {
     match &fit.verdict {
@@ -339,10 +337,7 @@ fn add_line_number(
 /// Adds the number of a line, its frames and the mark of its fault, and answers the case that holds behind it.
 #[tactic(auto, using(crate::proofs::Sequences::text_append))]
 fn add_taped(text: &mut Vec<u8>, plan: &DrawingPlan<'_>, taped: Taped) -> Result<Case, AllocError>
-    requires tape { IsTape plan.now.tape.now }
-    requires within { taped.spot.from + taped.frames ≤ length plan.now.tape.now }
-    requires top { taped.spot.top ≤ 2 ^ 40 }
-    requires case { taped.case ≡ case_at (mean plan.now.table.now) plan.now.tape.now taped.spot.from }
+    requires { IsTaped plan.now taped }
     ensures text { OnOk result (text.new.items ≡ text.old.items ++ text_of (taped_shapes (mean plan.now.table.now) plan.now.tape.now taped.spot taped.frames taped.fault)) }
     ensures case { IfOk result (λ behind. behind ≡ case_at (mean plan.now.table.now) plan.now.tape.now (taped.spot.from + taped.frames)) }
 {
@@ -368,13 +363,8 @@ fn add_line(
     reached: Reached,
     fit: &LineFit,
 ) -> Result<Case, AllocError>
-    requires tape { IsTape plan.now.tape.now }
-    requires filled { IsFilled plan.now.widths.now.measure fit.now.verdict }
-    requires from { reached.spot.from ≤ fit.now.cut_at }
-    requires cut { fit.now.cut_at < length plan.now.tape.now }
-    requires top { reached.spot.top ≤ 2 ^ 40 }
-    requires case { reached.case ≡ case_at (mean plan.now.table.now) plan.now.tape.now reached.spot.from }
-    ensures text { OnOk result (text.new.items ≡ text.old.items ++ text_of (line_shapes plan.now.page (mean plan.now.table.now) plan.now.widths.now plan.now.tape.now reached.spot fit.now)) }
+    requires { IsLineOf plan.now reached fit.now }
+    ensures text { OnOk result (text.new.items ≡ text.old.items ++ text_of (line_by plan.now reached.spot fit.now)) }
     ensures case { IfOk result (λ behind. behind ≡ case_at (mean plan.now.table.now) plan.now.tape.now (fit.now.cut_at + 1)) }
 {
     let spot = reached.spot;
@@ -406,12 +396,11 @@ fn add_lines(
     plan: &DrawingPlan<'_>,
     lines: &[LineFit],
 ) -> Result<Reached, AllocError>
-    requires tape { IsTape plan.now.tape.now }
-    requires lines { AreLines plan.now.widths.now.measure (length plan.now.tape.now) 0 lines.now }
-    ensures text { OnOk result (text.new.items ≡ text.old.items ++ text_of (lines_shapes plan.now.page (mean plan.now.table.now) plan.now.widths.now plan.now.tape.now first_spot lines.now)) }
+    requires { AreLinesOf plan.now lines.now }
+    ensures text { OnOk result (text.new.items ≡ text.old.items ++ text_of (lines_by plan.now lines.now)) }
     ensures spot { IfOk result (λ reached. reached.spot ≡ after first_spot lines.now) }
     ensures within { IfOk result (λ reached. IsWithin (length plan.now.tape.now) reached.spot) }
-    ensures case { IfOk result (λ reached. reached.case ≡ case_at (mean plan.now.table.now) plan.now.tape.now reached.spot.from) }
+    ensures case { IfOk result (HoldsHere plan.now) }
 {
     let mut reached = Reached {
         spot: first_spot(),
@@ -443,7 +432,6 @@ fn add_rest_words(
     below: Below,
     fault: Option<SetFault>,
 ) -> Result<(), AllocError>
-    requires { below.top ≤ 2 ^ 50 }
     ensures { OnOk result (text.new.items ≡ text.old.items ++ shape_text (rest_words below.top fault)) }
 {
     match fault {
@@ -460,9 +448,7 @@ fn add_rest(
     reached: Reached,
     fault: Option<SetFault>,
 ) -> Result<(), AllocError>
-    requires tape { IsTape plan.now.tape.now }
-    requires within { IsWithin (length plan.now.tape.now) reached.spot }
-    requires case { reached.case ≡ case_at (mean plan.now.table.now) plan.now.tape.now reached.spot.from }
+    requires { IsBehindLines plan.now reached }
     ensures { OnOk result (text.new.items ≡ text.old.items ++ text_of (rest_shapes plan.now.page (mean plan.now.table.now) plan.now.tape.now reached.spot fault)) }
 {
     let spot = reached.spot;
@@ -498,9 +484,8 @@ pub fn add_tape(
     plan: &DrawingPlan<'_>,
     fitting: &Fitting,
 ) -> Result<(), AllocError>
-    requires tape { IsTape plan.now.tape.now }
-    requires lines { AreLines plan.now.widths.now.measure (length plan.now.tape.now) 0 fitting.now.lines.items }
-    ensures { OnOk result (text.new.items ≡ text.old.items ++ text_of (tape_shapes plan.now.page (mean plan.now.table.now) plan.now.widths.now plan.now.tape.now fitting.now)) }
+    requires { AreLinesOf plan.now fitting.now.lines.items }
+    ensures { OnOk result (text.new.items ≡ text.old.items ++ text_of (tape_by plan.now fitting.now)) }
 {
     let reached = add_lines(text, plan, &fitting.lines)?;
     add_rest(text, plan, reached, fitting.rest)

@@ -4,11 +4,15 @@ use Rattle.tape_drawing.specs.Document.{called, document_text}
 use Rattle.tape_drawing.proofs.Placing.{are_lines}
 use Rattle.tape_drawing.proofs.document.draw_tape.Goals as goal
 
-pub document_of-requires-clause-lines : goal.document_of-requires-clause-lines
-document_of-requires-clause-lines c =
+pub document_of-requires : goal.document_of-requires
+document_of-requires c =
     let order = c.args.order.now in
-    rw c.frames.ensures.frames
-    (are_lines c.adds_up.ensures (mean order.table.now) order.widths.now order.tape.now c.in_ok-fitting.fitting.lines.items c.in_ok-fitting.ensures.fits.lines)
+    record {
+      tape = rw c.frames.ensures.frames c.frames.ensures.is_tape;
+      lines_fit =
+          rw c.frames.ensures.frames
+          (are_lines c.adds_up.ensures (mean order.table.now) order.widths.now order.tape.now c.in_ok-fitting.fitting.lines.items c.in_ok-fitting.ensures.fits.lines);
+    }
 
 pub returns : goal.returns
 returns c =

@@ -18,33 +18,24 @@ loop-fit-init c = record {
   text = sym (append-nil c.args.text.now.items);
 }
 
-pub add_line-requires-clause-filled : goal.add_line-requires-clause-filled
-add_line-requires-clause-filled c =
+pub add_line-requires : goal.add_line-requires
+add_line-requires c =
     let fit = c.fit-item.result in
-    (spot_at c.args.plan.now.widths.now.measure (length c.args.plan.now.tape.now) first_spot c.args.lines.now c.loop-fit.fit-index fit fit c.requires.lines (first_within (length c.args.plan.now.tape.now)) c.loop-fit-test.true c.fit-item.is).filled
-
-pub add_line-requires-clause-from : goal.add_line-requires-clause-from
-add_line-requires-clause-from c =
-    let fit = c.fit-item.result in
-    let reached = spot_at c.args.plan.now.widths.now.measure (length c.args.plan.now.tape.now) first_spot c.args.lines.now c.loop-fit.fit-index fit fit c.requires.lines (first_within (length c.args.plan.now.tape.now)) c.loop-fit-test.true c.fit-item.is in
-    (subst (λ s. IsAt c.args.plan.now.widths.now.measure (length c.args.plan.now.tape.now) s fit) (sym c.loop-fit.invariant.spot) reached).from
-
-pub add_line-requires-clause-cut : goal.add_line-requires-clause-cut
-add_line-requires-clause-cut c =
-    let fit = c.fit-item.result in
-    (spot_at c.args.plan.now.widths.now.measure (length c.args.plan.now.tape.now) first_spot c.args.lines.now c.loop-fit.fit-index fit fit c.requires.lines (first_within (length c.args.plan.now.tape.now)) c.loop-fit-test.true c.fit-item.is).cut
-
-pub add_line-requires-clause-top : goal.add_line-requires-clause-top
-add_line-requires-clause-top c =
-    let fit = c.fit-item.result in
-    let reached = spot_at c.args.plan.now.widths.now.measure (length c.args.plan.now.tape.now) first_spot c.args.lines.now c.loop-fit.fit-index fit fit c.requires.lines (first_within (length c.args.plan.now.tape.now)) c.loop-fit-test.true c.fit-item.is in
-    let here = subst (λ s. IsAt c.args.plan.now.widths.now.measure (length c.args.plan.now.tape.now) s fit) (sym c.loop-fit.invariant.spot) reached in
-    omega (arith, here.within.top, here.within.from, c.requires.tape.few)
+    let reached = spot_at c.args.plan.now.widths.now.measure (length c.args.plan.now.tape.now) first_spot c.args.lines.now c.loop-fit.fit-index fit fit c.requires.lines_fit (first_within (length c.args.plan.now.tape.now)) c.loop-fit-test.true c.fit-item.is in
+    let here : IsAt c.args.plan.now.widths.now.measure (length c.args.plan.now.tape.now) c.loop-fit.reached.spot fit = subst (λ s. IsAt c.args.plan.now.widths.now.measure (length c.args.plan.now.tape.now) s fit) (sym c.loop-fit.invariant.spot) reached in
+    record {
+      tape = c.requires.tape;
+      filled = here.filled;
+      from = here.from;
+      cut = here.cut;
+      top = omega (arith, here.within.top, here.within.from, c.requires.tape.few);
+      holds = c.loop-fit.invariant.case;
+    }
 
 pub next-requires : goal.next-requires
 next-requires c =
     let fit = c.fit-item.result in
-    let reached = spot_at c.args.plan.now.widths.now.measure (length c.args.plan.now.tape.now) first_spot c.args.lines.now c.loop-fit.fit-index fit fit c.requires.lines (first_within (length c.args.plan.now.tape.now)) c.loop-fit-test.true c.fit-item.is in
+    let reached = spot_at c.args.plan.now.widths.now.measure (length c.args.plan.now.tape.now) first_spot c.args.lines.now c.loop-fit.fit-index fit fit c.requires.lines_fit (first_within (length c.args.plan.now.tape.now)) c.loop-fit-test.true c.fit-item.is in
     let here : IsAt c.args.plan.now.widths.now.measure (length c.args.plan.now.tape.now) c.loop-fit.reached.spot fit = subst (λ s. IsAt c.args.plan.now.widths.now.measure (length c.args.plan.now.tape.now) s fit) (sym c.loop-fit.invariant.spot) reached in
     let w = here.within in
     let few = c.requires.tape.few in
@@ -72,4 +63,4 @@ loop-fit-preserved c =
 pub returns-clause-within : goal.returns-clause-within
 returns-clause-within c =
     subst (λ s. IsWithin (length c.args.plan.now.tape.now) s) (sym c.loop-fit.invariant.spot)
-    (within_take c.args.plan.now.widths.now.measure (length c.args.plan.now.tape.now) first_spot c.args.lines.now c.loop-fit.fit-index c.requires.lines (first_within (length c.args.plan.now.tape.now)))
+    (within_take c.args.plan.now.widths.now.measure (length c.args.plan.now.tape.now) first_spot c.args.lines.now c.loop-fit.fit-index c.requires.lines_fit (first_within (length c.args.plan.now.tape.now)))
