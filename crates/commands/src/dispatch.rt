@@ -16,7 +16,7 @@ use answer_command::answer;
 use check_command::check;
 use command_ends::{End, ScriptPaths, TapePaths};
 use command_line::{Asked, Telling, print_version};
-use draw_command::{SettingPaths, chart, draw};
+use draw_command::{ChartingOrder, DrawOrder, SettingPaths, chart, draw};
 use editor_commands::StoryPaths;
 use plant_commands::{check_config, stop};
 use reel_commands::ChartPaths;
@@ -61,19 +61,14 @@ fn run_draw<R: Read, W: Write, E: Write>(
     out: &mut W,
     err: &mut E,
 ) -> End {
-    let mut table = InputFile::at(rt, paths.table);
-    let mut widths = InputFile::at(rt, paths.widths);
-    let mut tape = Story::at(rt, paths.tape, input);
-    draw(
-        rt.alloc(),
+    let order = DrawOrder {
         paths,
-        &mut table,
-        &mut widths,
-        &mut tape,
+        table: InputFile::at(rt, paths.table),
+        widths: InputFile::at(rt, paths.widths),
+        tape: Story::at(rt, paths.tape, input),
         page,
-        out,
-        err,
-    )
+    };
+    draw(rt.alloc(), order, out, err)
 }
 
 /// Charts the table and the widths at their paths.
@@ -84,9 +79,13 @@ fn run_chart<W: Write, E: Write>(
     out: &mut W,
     err: &mut E,
 ) -> End {
-    let mut table = InputFile::at(rt, paths.table);
-    let mut widths = InputFile::at(rt, paths.widths);
-    chart(rt.alloc(), paths, &mut table, &mut widths, page, out, err)
+    let order = ChartingOrder {
+        paths,
+        table: InputFile::at(rt, paths.table),
+        widths: InputFile::at(rt, paths.widths),
+        page,
+    };
+    chart(rt.alloc(), order, out, err)
 }
 
 /// Rehearses by the script at its path, and the table and the widths at theirs.

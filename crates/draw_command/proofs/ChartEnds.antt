@@ -1,41 +1,58 @@
 -- How `chart` ends, by its cause.
-use Rattle.std.proofs.Common.{◌≡◌, ℕ, List, Option, Some, None, inl, inr, sym, subst, ◌∙◌}
+use Rattle.std.proofs.Common.{◌≡◌, ℕ, List, Option, Some, None, inl, inr, refl, sym, subst, ◌∙◌}
+use Rattle.std.specs.Prelude.{IfSome}
 use Rattle.std.specs.Io.KnownBytes.{Appends}
-use Rattle.tape_drawing.specs.declared.page.DrawingForm.{DrawingForm}
 use Rattle.command_ends.specs.declared.end.End.{End}
-use Rattle.command_ends.specs.declared.end.End.TheVariants.{Done}
+use Rattle.command_ends.specs.declared.end.End.TheVariants.{Done, Input}
 use Rattle.command_ends.specs.Ends.{IsOfInput}
 use Rattle.draw_command.specs.Drawing.{BreaksOffText}
-use Rattle.draw_command.specs.Charting.{IsChart, Charts, Whole, Unwritten, Cut, IfBoth}
+use Rattle.draw_command.specs.Charting.{ToChart, IsChart, IsCharted, Charted, Whole, Unwritten, Cut, Charts}
 
 -- what follows of the texts follows where they are known
-mapped : (table widths : Option (List ℕ)) (P Q : List ℕ → List ℕ → Type 0) → ((ts ws : List ℕ) → P ts ws → Q ts ws) → IfBoth table widths P → IfBoth table widths Q
+mapped :
+    (table widths : Option (List ℕ)) (P Q : List ℕ → List ℕ → Type 0) → ((ts ws : List ℕ) → P ts ws → Q ts ws)
+    → IfSome table (λ ts. IfSome widths (λ ws. P ts ws)) → IfSome table (λ ts. IfSome widths (λ ws. Q ts ws))
 mapped None widths P Q f h = tt
 mapped (Some ts) None P Q f h = tt
 mapped (Some ts) (Some ws) P Q f h = f ts ws h
 
--- a chart that was written ends the command well
-pub whole : (n m : List ℕ) (table widths : Option (List ℕ)) (page : DrawingForm) (text : List ℕ) (end : End) (old new : Option (List ℕ)) → end ≡ Done
-    → IfBoth table widths (λ ts ws. IsChart n m ts ws page text) → Appends old new text
-    → IfBoth table widths (λ ts ws. Charts n m ts ws page end old new)
-whole n m table widths page text end old new well h wrote =
-    mapped table widths (λ ts ws. IsChart n m ts ws page text) (λ ts ws. Charts n m ts ws page end old new) (λ ts ws is. Whole text well is wrote) h
+-- what holds of any texts holds of those that are known
+always : (table widths : Option (List ℕ)) (Q : List ℕ → List ℕ → Type 0) → ((ts ws : List ℕ) → Q ts ws) → IfSome table (λ ts. IfSome widths (λ ws. Q ts ws))
+always None widths Q f = tt
+always (Some ts) None Q f = tt
+always (Some ts) (Some ws) Q f = f ts ws
 
-broken : (n m ts ws : List ℕ) (page : DrawingForm) (text : List ℕ) (end told : End) (old new : Option (List ℕ)) → end ≡ told → ¬ (end ≡ Done)
-    → BreaksOffText text told old new → IsChart n m ts ws page text → Charts n m ts ws page end old new
-broken n m ts ws page text end told old new same fails (inl none) is = Unwritten (subst IsOfInput (sym same) none.0) fails none.1
-broken n m ts ws page text end told old new same fails (inr front) is = Cut text (same ∙ front.0) is front.1
+-- a chart that was written ends the command well
+pub whole : (order : ToChart) (text : List ℕ) (old new : Option (List ℕ)) → IsCharted order text → Appends old new text → Charts order Done old new
+whole order text old new is wrote = record {
+  ends = tt;
+  cause = mapped order.table order.widths (λ ts ws. IsChart order ts ws text) (λ ts ws. Charted order ts ws Done old new) (λ ts ws c. Whole text refl c wrote) is;
+}
+
+off_ends : (text : List ℕ) (told : End) (old new : Option (List ℕ)) → BreaksOffText text told old new → IsOfInput told
+off_ends text told old new (inl none) = none.0
+off_ends text told old new (inr front) = subst IsOfInput (sym front.0) tt
+
+broken : (order : ToChart) (ts ws text : List ℕ) (end told : End) (old new : Option (List ℕ)) → end ≡ told → ¬ (end ≡ Done)
+    → BreaksOffText text told old new → IsChart order ts ws text → Charted order ts ws end old new
+broken order ts ws text end told old new same fails (inl none) is = Unwritten (subst IsOfInput (sym same) none.0) fails none.1
+broken order ts ws text end told old new same fails (inr front) is = Cut text (same ∙ front.0) is front.1
 
 -- one that was not ends it by what broke it off
-pub cut : (n m : List ℕ) (table widths : Option (List ℕ)) (page : DrawingForm) (text : List ℕ) (end told : End) (old new : Option (List ℕ)) → end ≡ told → ¬ (end ≡ Done)
-    → IfBoth table widths (λ ts ws. IsChart n m ts ws page text) → BreaksOffText text told old new
-    → IfBoth table widths (λ ts ws. Charts n m ts ws page end old new)
-cut n m table widths page text end told old new same fails h off =
-    mapped table widths (λ ts ws. IsChart n m ts ws page text) (λ ts ws. Charts n m ts ws page end old new) (λ ts ws is. broken n m ts ws page text end told old new same fails off is) h
+pub cut : (order : ToChart) (text : List ℕ) (end told : End) (old new : Option (List ℕ)) → end ≡ told → ¬ (end ≡ Done) → IsCharted order text
+    → BreaksOffText text told old new → Charts order end old new
+cut order text end told old new same fails is off = record {
+  ends = subst IsOfInput (sym same) (off_ends text told old new off);
+  cause =
+      mapped order.table order.widths (λ ts ws. IsChart order ts ws text) (λ ts ws. Charted order ts ws end old new)
+      (λ ts ws c. broken order ts ws text end told old new same fails off c) is;
+}
 
 -- an input that is not taken leaves nothing written
-pub unwritten : (n m : List ℕ) (table widths : Option (List ℕ)) (page : DrawingForm) (end : End) (old new : Option (List ℕ)) → IsOfInput end → ¬ (end ≡ Done) → new ≡ old
-    → IfBoth table widths (λ ts ws. Charts n m ts ws page end old new)
-unwritten n m None widths page end old new is fails same = tt
-unwritten n m (Some ts) None page end old new is fails same = tt
-unwritten n m (Some ts) (Some ws) page end old new is fails same = Unwritten is fails same
+pub unwritten : (order : ToChart) (end told : End) (old new : Option (List ℕ)) → end ≡ told → IsOfInput told → ¬ (end ≡ Done) → new ≡ old → Charts order end old new
+unwritten order end told old new kind is fails same =
+    let ends = subst IsOfInput (sym kind) is in
+    record {
+      ends = ends;
+      cause = always order.table order.widths (λ ts ws. Charted order ts ws end old new) (λ ts ws. Unwritten ends fails same);
+    }

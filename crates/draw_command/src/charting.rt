@@ -1,41 +1,74 @@
 //! The command `chart`: the chart of a code table and widths.
 
-ghost use Rattle.std.specs.Prelude.{◌≡◌, IfOk, IfErr};
-ghost use Rattle.code_table.specs.Tables.{mean};
-ghost use Rattle.draw_command.specs.Charting.{IsChart, Charts, IfBoth};
+ghost use Rattle.std.specs.Prelude.{IfOk, IfErr};
+ghost use Rattle.draw_command.specs.Charting.{IsCharted, Charts};
 ghost use Rattle.command_ends.specs.Ends.{end_of, IsOfInput};
 
-use crate::drawing::{SettingPaths, put_text, read_setting};
+use crate::drawing::put_text;
 use code_chart::{ChartOrder, draw_chart};
-use command_ends::{End, Fault};
+use command_ends::{End, Fault, read_table, read_widths};
 use std::alloc::Global;
 use std::io::{Read, Write};
+use std::marker::Model;
 use tape_drawing::DrawingForm;
 
-/// The text of the chart of the two files.
-fn charted<'a, R: Read, S: Read>(
+/// Where the files lie by which a tape is set.
+#[derive(Clone, Copy)]
+pub struct SettingPaths<'a> {
+    pub table: &'a str,
+    pub widths: &'a str,
+}
+
+/// A chart that is asked for: where its files lie, what reads them, and as what it is written. Clauses see the texts.
+#[derive(Drop)]
+pub struct ChartingOrder<'a, R: Read + Drop, S: Read + Drop> {
+    pub paths: &'a SettingPaths<'a>,
+    pub table: R,
+    pub widths: S,
+    pub page: DrawingForm,
+}
+
+impl<'a, R: Read + Drop, S: Read + Drop> Model for ChartingOrder<'a, R, S> {
+    ghost use Rattle.draw_command.specs.Charting.{ToChart};
+
+    ghost Value = { ToChart };
+
+    ghost view = { λ o. record {
+      table_name = o.paths.now.table.now;
+      widths_name = o.paths.now.widths.now;
+      table = R.remaining o.table;
+      widths = S.remaining o.widths;
+      page = o.page;
+    } };
+}
+
+/// The text of the chart that is asked for.
+fn charted<'a, R: Read + Drop, S: Read + Drop>(
     alloc: Global,
-    paths: &SettingPaths<'a>,
-    table: &mut R,
-    widths: &mut S,
-    page: DrawingForm,
+    order: ChartingOrder<'a, R, S>,
 ) -> Result<Vec<u8>, Fault<'a>>
-    ensures ok { IfOk result (λ text. IfBoth (R.remaining table.old) (S.remaining widths.old)
-        (λ ts ws. IsChart paths.now.table.now paths.now.widths.now ts ws page text.items)) }
+    ensures ok { IfOk result (λ text. IsCharted order.entry text.items) }
     ensures ends { IfErr result (λ e. IsOfInput (end_of e)) }
 {
-    let setting = read_setting(alloc, paths, table, widths)?;
-    let order = ChartOrder {
-        table: &setting.table,
-        widths: &setting.widths,
+    let ChartingOrder {
+        paths,
+        mut table,
+        mut widths,
+        page,
+    } = order;
+    let table = read_table(alloc, &mut table, paths.table)?;
+    let widths = read_widths(alloc, &mut widths, paths.widths)?;
+    let chart = ChartOrder {
+        table: &table,
+        widths: &widths,
         table_name: paths.table,
         widths_name: paths.widths,
         page,
     };
-    let Ok(text) = draw_chart(alloc, &order) else {
-        return Err(Fault::OutOfMemory);
-    };
-    Ok(text)
+    match draw_chart(alloc, &chart) {
+        Ok(text) => Ok(text),
+        Err(_) => Err(Fault::OutOfMemory),
+    }
 }
 
 /// Charts a code table with a width file, as a document in SVG or a page in HTML.
@@ -43,20 +76,15 @@ fn charted<'a, R: Read, S: Read>(
 /// The table is read and taken before the widths are read. The first fault ends it. Nothing is written before both are
 /// taken; where the output can't be written, it has a prefix of the chart.
 #[tactic(auto, using(crate::proofs::ChartEnds::unwritten))]
-pub fn chart<R: Read, S: Read, W: Write, E: Write>(
+pub fn chart<R: Read + Drop, S: Read + Drop, W: Write, E: Write>(
     alloc: Global,
-    paths: &SettingPaths<'_>,
-    table: &mut R,
-    widths: &mut S,
-    page: DrawingForm,
+    order: ChartingOrder<'_, R, S>,
     out: &mut W,
     err: &mut E,
 ) -> End
-    ensures cause { IfBoth (R.remaining table.old) (S.remaining widths.old)
-        (λ ts ws. Charts paths.now.table.now paths.now.widths.now ts ws page result (W.contents out.old) (W.contents out.new)) }
-    ensures ends { IsOfInput result }
+    ensures { Charts order.entry result (W.contents out.old) (W.contents out.new) }
 {
-    let text = match charted(alloc, paths, table, widths, page) {
+    let text = match charted(alloc, order) {
         Ok(text) => text,
         Err(fault) => return fault.tell(err),
     };

@@ -4,5 +4,5 @@
 mod charting;
 mod drawing;
 
-pub use charting::chart;
-pub use drawing::{SettingPaths, draw};
+pub use charting::{ChartingOrder, SettingPaths, chart};
+pub use drawing::{DrawOrder, draw};

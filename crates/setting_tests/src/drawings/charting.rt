@@ -2,7 +2,7 @@
 
 use crate::drawings::charts::{HTML_HEAD, HTML_TAIL, SVG_HEAD, SVG_TAIL};
 use command_ends::End;
-use draw_command::{SettingPaths, chart};
+use draw_command::{ChartingOrder, SettingPaths, chart};
 use fixtures::{CODES, WIDTHS};
 use std::alloc::Global;
 use tape_drawing::DrawingForm;
@@ -20,18 +20,15 @@ fn end_of(
     written: (&str, &str),
     told: &str,
 ) -> Option<End> {
-    let (mut table, mut widths) = (files.0.as_bytes(), files.1.as_bytes());
+    let order = ChartingOrder {
+        paths: &PATHS,
+        table: files.0.as_bytes(),
+        widths: files.1.as_bytes(),
+        page,
+    };
     let mut out = Vec::new(alloc);
     let mut err = Vec::new(alloc);
-    let end = chart(
-        alloc,
-        &PATHS,
-        &mut table,
-        &mut widths,
-        page,
-        &mut out,
-        &mut err,
-    );
+    let end = chart(alloc, order, &mut out, &mut err);
     if err.as_slice() == told.as_bytes()
         && out.starts_with(written.0.as_bytes())
         && out.ends_with(written.1.as_bytes())

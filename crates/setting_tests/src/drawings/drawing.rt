@@ -3,7 +3,7 @@
 use crate::drawings::documents::{FLOOD_SVG, LOOSE_SVG, NAMES_HTML, OVERSET_SVG, UNFINISHED_HTML};
 use crate::failing::Narrow;
 use command_ends::{End, TapePaths};
-use draw_command::draw;
+use draw_command::{DrawOrder, draw};
 use fixtures::{CODES, FLOOD, LONGEST, OVERSET, WIDTHS};
 use std::alloc::Global;
 use std::io::Write;
@@ -19,23 +19,20 @@ const PATHS: TapePaths<'static> = TapePaths {
 fn end_of<W: Write>(
     alloc: Global,
     files: (&str, &str),
-    mut tape: &[u8],
+    tape: &[u8],
     page: DrawingForm,
     out: &mut W,
     err: &str,
 ) -> Option<End> {
-    let (mut table, mut widths) = (files.0.as_bytes(), files.1.as_bytes());
-    let mut told = Vec::new(alloc);
-    let end = draw(
-        alloc,
-        &PATHS,
-        &mut table,
-        &mut widths,
-        &mut tape,
+    let order = DrawOrder {
+        paths: &PATHS,
+        table: files.0.as_bytes(),
+        widths: files.1.as_bytes(),
+        tape,
         page,
-        out,
-        &mut told,
-    );
+    };
+    let mut told = Vec::new(alloc);
+    let end = draw(alloc, order, out, &mut told);
     if told.as_slice() == err.as_bytes() {
         Some(end)
     } else {
