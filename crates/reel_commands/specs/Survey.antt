@@ -1,15 +1,19 @@
 -- What `survey` tells of the frames of tapes.
-use Rattle.std.specs.Prelude.{◌≡◌, ◌++◌, ◌+◌, ℕ, List, [], ◌∷◌, codes, decimal, string_bytes, length, take, filter, flat_map, sum_by, count_by, Bool, not, nat_le, ◌==◌, ◌&&◌, Option, Some, None, is_some, if◌then◌else◌}
+use Rattle.std.specs.Prelude.{◌≡◌, ◌++◌, ◌+◌, ℕ, List, [], ◌∷◌, codes, decimal, string_bytes, length, take, filter, flat_map, sum_by, count_by, Bool, not, nat_le, ◌==◌, ◌&&◌, Option, Some, None, Ok, IfSome, is_some, if◌then◌else◌}
+use Rattle.toml.specs.Parse.{parse_document}
+use Rattle.code_table.specs.Reading.{read_table}
 use Rattle.code_table.specs.declared.case.Case.TheVariants.{Unshift, Shift}
 use Rattle.code_table.specs.declared.meaning.Meaning.{Meaning}
 use Rattle.code_table.specs.declared.meaning.Meaning.TheVariants as meanings
 use Rattle.widths.specs.Widths.{WidthFile, width_of}
+use Rattle.widths.specs.Reading.{read_widths}
 use Rattle.tape_frames.specs.Holes.{holes_of}
 use Rattle.slug_reader.specs.Positions.{before}
 use Rattle.slug_reader.specs.Meanings.{Meanings, frame_at, meaning_at}
 use Rattle.text_words.specs.Writing.{braced_text, frame_text, meaning_text}
 use Rattle.reel_commands.specs.declared.rows.Lack.{Lack}
 use Rattle.reel_commands.specs.declared.rows.Lack.TheVariants as lacks
+use Rattle.reel_commands.specs.declared.surveying.Survey.{Survey}
 use Rattle.reel_commands.specs.declared.surveying.Surveyed.{Surveyed}
 use Rattle.reel_commands.specs.Columns.{on_the_right, on_the_left}
 
@@ -115,3 +119,9 @@ pub record IsAdded (path bytes : List ℕ) (old new : List Surveyed) : Type 0 wh
   pub name : string_bytes tape.name ≡ path
   pub frames : tape.tape ≡ bytes
   pub added : new ≡ old ++ tape ∷ []
+
+-- a survey of no tape yet by a code table and widths of these texts, where they are known
+pub record IsBegun (table widths : Option (List ℕ)) (survey : Survey) : Type 0 where
+  pub table_read : IfSome table (λ ts. read_table (parse_document ts) ≡ Ok survey.table)
+  pub widths_read : IfSome widths (λ ws. read_widths (parse_document ws) ≡ Ok survey.widths)
+  pub no_tape : survey.tapes.items ≡ []

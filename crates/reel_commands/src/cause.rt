@@ -74,23 +74,15 @@ impl<'a> fmt::Display for ReelFault<'a> {
 }
 
 impl<'a> ReelFault<'a> {
-    /// How a command ends by this fault.
-    pub fn end(&self) -> End
-        ensures end { result ≡ end_in self.now }
-        ensures fails { ¬ (result ≡ Done) }
-    {
-        match self {
-            ReelFault::Other(fault) => fault.end(),
-            _ => End::Input,
-        }
-    }
-
-    /// Writes the text, and gives the end. That the writer fails is ignored.
+    /// Writes the text, and gives how a command ends by this fault. That the writer fails is ignored.
     pub fn tell<E: Write>(&self, err: &mut E) -> End
         ensures end { result ≡ end_in self.now }
         ensures fails { ¬ (result ≡ Done) }
     {
         let _ = writeln!(err, "{self}");
-        self.end()
+        match self {
+            ReelFault::Other(fault) => fault.end(),
+            _ => End::Input,
+        }
     }
 }

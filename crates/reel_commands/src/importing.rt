@@ -1,10 +1,10 @@
 //! The command `import`: a reel becomes tapes, each a file of its own.
 
-ghost use Rattle.std.specs.Prelude.{◌≡◌, ◌<◌, ◌≤◌, ◌+◌, [], ◌∷◌, OnOk, IfOk, IfErr, IfSome, length};
+ghost use Rattle.std.specs.Prelude.{◌≡◌, ◌<◌, ◌≤◌, ◌+◌, [], ◌∷◌, OnOk, OnErr, IfOk, IfErr, IfSome, length};
 ghost use Rattle.command_ends.specs.Ends.{IsOfInput};
 ghost use Rattle.reel.specs.Names.{tape_name};
 ghost use Rattle.reel.specs.Tapes.{AreTapes};
-ghost use Rattle.reel_commands.specs.Ends.{end_in};
+ghost use Rattle.reel_commands.specs.Ends.{end_in, Gives};
 ghost use Rattle.reel_commands.specs.Files.{Makes, FrontMade, files_from};
 ghost use Rattle.reel_commands.specs.Importing.{frames_by, WasImported, BreaksOffImport};
 
@@ -39,8 +39,7 @@ fn read_frames<'a, R: Read>(
     reel: &Reel<'a>,
     input: &mut R,
 ) -> Result<Vec<u8>, ReelFault<'a>>
-    ensures ok { IfOk result (λ frames. IfSome (R.remaining input.old) (λ bytes. frames.items ≡ frames_by reel.now bytes)) }
-    ensures err { IfErr result (λ e. IsOfInput (end_in e)) }
+    ensures { Gives result (λ frames. IfSome (R.remaining input.old) (λ bytes. frames.items ≡ frames_by reel.now bytes)) }
 {
     let bytes = match read_text(alloc, input, reel.path) {
         Ok(bytes) => bytes,
@@ -61,9 +60,7 @@ fn tapes_in<'a>(
     frames: &[u8],
     cutting: Cutting,
 ) -> Result<Vec<RollPiece>, ReelFault<'a>>
-    ensures ok { IfOk result (λ tapes. AreTapes cutting.least cutting.trims frames.now tapes.items) }
-    ensures few { IfOk result (λ tapes. length tapes.items ≤ 999) }
-    ensures err { IfErr result (λ e. IsOfInput (end_in e)) }
+    ensures { Gives result (λ tapes. AreTapes cutting.least cutting.trims frames.now tapes.items × (length tapes.items ≤ 999)) }
 {
     let Ok(tapes) = tapes_of(alloc, frames, cutting) else {
         return Err(ReelFault::Other(Fault::OutOfMemory));
@@ -158,8 +155,7 @@ fn make_all<'a, F: TapeFolder>(
 ) -> Result<(), ReelFault<'a>>
     requires { length roll.now.tapes.items ≤ 999 }
     ensures ok { OnOk result (Makes (F.made folder.old) (F.made folder.new) (files_from 1 roll.now.frames.items roll.now.tapes.items)) }
-    ensures front { IfErr result (λ e. FrontMade roll.now.frames.items roll.now.tapes.items (F.made folder.old) (F.made folder.new)) }
-    ensures err { IfErr result (λ e. IsOfInput (end_in e)) }
+    ensures err { IfErr result (λ e. FrontMade roll.now.frames.items roll.now.tapes.items (F.made folder.old) (F.made folder.new) × IsOfInput (end_in e)) }
 {
     for (before, tape) in roll.tapes.iter().enumerate() {
         let frames = frames_in(&roll.frames, *tape);
@@ -179,8 +175,8 @@ pub fn import<'a, R: Read, F: TapeFolder>(
     folder: &mut F,
 ) -> Result<Imported, ReelFault<'a>>
     ensures ok { IfOk result (λ done. IfSome (R.remaining input.old) (λ bytes. WasImported reel.now bytes done (F.made folder.old) (F.made folder.new))) }
-    ensures front { IfErr result (λ e. IfSome (R.remaining input.old) (λ bytes. BreaksOffImport reel.now bytes (F.made folder.old) (F.made folder.new))) }
-    ensures err { IfErr result (λ e. IsOfInput (end_in e)) }
+    ensures front { OnErr result (IfSome (R.remaining input.old) (λ bytes. BreaksOffImport reel.now bytes (F.made folder.old) (F.made folder.new))) }
+    ensures ends { IfErr result (λ e. IsOfInput (end_in e)) }
 {
     let frames = read_frames(alloc, reel, input)?;
     let tapes = tapes_in(alloc, &frames, reel.cutting)?;

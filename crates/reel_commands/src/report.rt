@@ -1,9 +1,8 @@
 //! What `import` tells of a reel.
 
-ghost use Rattle.std.specs.Prelude.{◌≡◌, ◌++◌, decimal, OnOk, IfOk, IfErr};
+ghost use Rattle.std.specs.Prelude.{◌≡◌, ◌++◌, decimal, OnOk, IfOk};
 ghost use Rattle.std.specs.Io.KnownBytes.{Appends};
-ghost use Rattle.command_ends.specs.Ends.{IsOfInput};
-ghost use Rattle.reel_commands.specs.Ends.{end_in};
+ghost use Rattle.reel_commands.specs.Ends.{Gives};
 ghost use Rattle.reel_commands.specs.Report.{len_of, is_long, warning, tape_line, lines_from, foot_text, import_text, end_by};
 
 use crate::cause::ReelFault;
@@ -105,8 +104,7 @@ pub fn put_import<'a, W: Write>(
     done: &Imported,
     out: &mut W,
 ) -> Result<(), ReelFault<'a>>
-    ensures ok { OnOk result (Appends (W.contents out.old) (W.contents out.new) (import_text done.now)) }
-    ensures err { IfErr result (λ e. IsOfInput (end_in e)) }
+    ensures { Gives result (λ _. Appends (W.contents out.old) (W.contents out.new) (import_text done.now)) }
 {
     let Ok(text) = import_text(alloc, done) else {
         return Err(ReelFault::Other(Fault::OutOfMemory));

@@ -1,14 +1,11 @@
 //! The command `survey`: how the frames of tapes come in them.
 
-ghost use Rattle.std.specs.Prelude.{◌≡◌, [], Ok, OnOk, IfOk, IfErr, IfSome};
+ghost use Rattle.std.specs.Prelude.{◌≡◌, OnOk, IfOk, IfErr, IfSome};
 ghost use Rattle.std.specs.Io.KnownBytes.{Appends};
-ghost use Rattle.toml.specs.Parse.{parse_document};
-ghost use Rattle.code_table.specs.Reading.{read_table};
 ghost use Rattle.code_table.specs.Tables.{mean};
-ghost use Rattle.widths.specs.Reading.{read_widths};
 ghost use Rattle.command_ends.specs.Ends.{end_of, IsOfInput};
-ghost use Rattle.reel_commands.specs.Ends.{end_in};
-ghost use Rattle.reel_commands.specs.Survey.{IsAdded, survey_text};
+ghost use Rattle.reel_commands.specs.Ends.{Gives};
+ghost use Rattle.reel_commands.specs.Survey.{IsAdded, IsBegun, survey_text};
 
 use crate::cause::ReelFault;
 use crate::outputs::put_whole;
@@ -42,6 +39,15 @@ pub struct ChartPaths<'a> {
     pub widths: &'a str,
 }
 
+/// Adds a tape with this name to those that are surveyed.
+fn push(alloc: Global, tapes: &mut Vec<Surveyed>, path: &str, tape: Tape) -> Result<(), AllocError>
+    ensures { OnOk result (IsAdded path.now tape tapes.old.items tapes.new.items) }
+{
+    let name = String::from_str(alloc, path)?;
+    tapes.push(Surveyed { name, tape })?;
+    Ok(())
+}
+
 impl Survey {
     /// A survey of no tape yet. The table is read and taken before the widths are read.
     pub fn read<'a, R: Read, S: Read>(
@@ -50,10 +56,8 @@ impl Survey {
         table: &mut R,
         widths: &mut S,
     ) -> Result<Survey, Fault<'a>>
-        ensures table { IfOk result (λ s. IfSome (R.remaining table.old) (λ ts. read_table (parse_document ts) ≡ Ok s.table)) }
-        ensures widths { IfOk result (λ s. IfSome (S.remaining widths.old) (λ ws. read_widths (parse_document ws) ≡ Ok s.widths)) }
-        ensures none { IfOk result (λ s. s.tapes.items ≡ []) }
-        ensures err { IfErr result (λ e. IsOfInput (end_of e)) }
+        ensures ok { IfOk result (λ s. IsBegun (R.remaining table.old) (S.remaining widths.old) s) }
+        ensures ends { IfErr result (λ e. IsOfInput (end_of e)) }
     {
         let table = read_table(alloc, table, paths.table)?;
         let widths = read_widths(alloc, widths, paths.widths)?;
@@ -64,16 +68,6 @@ impl Survey {
         })
     }
 
-    /// Adds a tape with this name.
-    fn push(&mut self, alloc: Global, path: &str, tape: Tape) -> Result<(), AllocError>
-        ensures added { OnOk result (IsAdded path.now tape self.old.tapes.items self.new.tapes.items) }
-        ensures others { (self.new.table ≡ self.old.table) × (self.new.widths ≡ self.old.widths) }
-    {
-        let name = String::from_str(alloc, path)?;
-        self.tapes.push(Surveyed { name, tape })?;
-        Ok(())
-    }
-
     /// Adds the tape that is read from the input at a path, one frame a byte.
     pub fn add<'a, R: Read>(
         &mut self,
@@ -81,16 +75,15 @@ impl Survey {
         path: &'a str,
         input: &mut R,
     ) -> Result<(), ReelFault<'a>>
-        ensures added { OnOk result (IfSome (R.remaining input.old) (λ bytes. IsAdded path.now bytes self.old.tapes.items self.new.tapes.items)) }
+        ensures added { Gives result (λ _. IfSome (R.remaining input.old) (λ bytes. IsAdded path.now bytes self.old.tapes.items self.new.tapes.items)) }
         ensures others { (self.new.table ≡ self.old.table) × (self.new.widths ≡ self.old.widths) }
-        ensures err { IfErr result (λ e. IsOfInput (end_in e)) }
     {
         let bytes = match read_text(alloc, input, path) {
             Ok(bytes) => bytes,
             Err(fault) => return Err(ReelFault::Other(fault)),
         };
         match Tape::from_vec(alloc, bytes) {
-            Ok(tape) => match self.push(alloc, path, tape) {
+            Ok(tape) => match push(alloc, &mut self.tapes, path, tape) {
                 Ok(()) => Ok(()),
                 Err(_) => Err(ReelFault::Other(Fault::OutOfMemory)),
             },
@@ -102,8 +95,7 @@ impl Survey {
     /// Writes of each of the 64 frames its holes, how often it comes, its meanings and what it lacks, and its first places in each tape
     /// with what stands around them.
     pub fn write<'a, W: Write>(&self, alloc: Global, out: &mut W) -> Result<(), ReelFault<'a>>
-        ensures ok { OnOk result (Appends (W.contents out.old) (W.contents out.new) (survey_text (mean self.now.table) self.now.widths self.now.tapes.items)) }
-        ensures err { IfErr result (λ e. IsOfInput (end_in e)) }
+        ensures { Gives result (λ _. Appends (W.contents out.old) (W.contents out.new) (survey_text (mean self.now.table) self.now.widths self.now.tapes.items)) }
     {
         match survey_text(alloc, self) {
             Ok(text) => put_whole(&text, out),
