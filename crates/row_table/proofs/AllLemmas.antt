@@ -19,7 +19,8 @@ use Rattle.row_table.specs.Tables.{Layout, layout_tree, layout_schema}
 use Rattle.row_table.specs.Tables.Layout.{First, Second}
 use Rattle.row_table.specs.Rows.{with_key, IsListing}
 use Rattle.row_table.specs.Cursor.{HasGivenFirst, ListsFirst}
-use Rattle.row_table.proofs.ReadTexts.{all_text, all_is, in_order, all_names}
+use Rattle.row_table.specs.Layouts.{all_text}
+use Rattle.row_table.proofs.ReadTexts.{all_is, in_order, all_names}
 use Rattle.row_table.proofs.QueryLemmas.{overlay_is}
 
 pub as_map : (rows : List Row) → flat_map (λ r. ([] ∷ r ∷ []) ∷ []) rows ≡ map (λ r. [] ∷ r ∷ []) rows

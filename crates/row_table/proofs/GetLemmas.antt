@@ -13,7 +13,8 @@ use Rattle.row_table.specs.Tables.Layout.{First, Second}
 use Rattle.row_table.specs.Rows.{whole, AreRows, found_at, shown_of, columns_at}
 use Rattle.row_table.proofs.KeyLemmas.{the_row}
 use Rattle.row_table.proofs.TextLemmas.{by_key}
-use Rattle.row_table.proofs.ReadTexts.{get_text, get_is, shown_columns, names}
+use Rattle.row_table.specs.Layouts.{get_text}
+use Rattle.row_table.proofs.ReadTexts.{get_is, shown_columns, names}
 use Rattle.row_table.proofs.QueryLemmas.{shows, counts}
 
 same_some : {a b : Row} → ◌≡◌ {A = Option Row} (Some a) (Some b) → a ≡ b

@@ -16,6 +16,7 @@ pub mod MakeLemmas
 pub mod StationRowLemmas
 pub mod EntryLemmas
 pub mod AddingLemmas
+pub mod WithinLemmas
 pub mod LayoutLemmas
 pub mod UpgradeLemmas
 pub mod StationLemmas

@@ -12,6 +12,7 @@ use Rattle.sqlite.proofs.Callers.{IsPlain, command_of}
 use Rattle.row_table.specs.Tables.{Layout, layout_tree, layout_schema}
 use Rattle.row_table.specs.Tables.Layout.{First, Second}
 use Rattle.row_table.specs.Tables.Origin.{Created, Upgraded}
+use Rattle.row_table.specs.Layouts.{get_text, all_text}
 use Rattle.row_table.proofs.TextLemmas.{by_key}
 
 -- in this schema the text is this query, whose columns have these names
@@ -19,10 +20,6 @@ pub record IsQuery (schema : Schema) (text : List ℕ) (query : Query) (names : 
   pub command : command_of (understood schema text) ≡ Select (record { lets = []; body = query }) names
   pub unlisted : reads_listing schema text ≡ false
   pub plain : IsPlain (understood schema text)
-
-abbrev pub get_text : Layout → List ℕ
-get_text First = codes "SELECT promised_round, promised_owner, vote_round, vote_owner, tape FROM acceptor_row WHERE number = ?1"
-get_text (Second origin) = codes "SELECT promised_round, promised_owner, vote_round, vote_owner, length, packed FROM acceptor_entry WHERE number = ?1"
 
 abbrev pub shown_columns : Layout → List Term
 shown_columns First = col 1 2 ∷ col 1 3 ∷ col 1 4 ∷ col 1 5 ∷ col 1 6 ∷ []
@@ -37,10 +34,6 @@ unfolding understood everything
 get_is First = record { command = refl; unlisted = refl; plain = (refl, refl) }
 get_is (Second Created) = record { command = refl; unlisted = refl; plain = (refl, refl) }
 get_is (Second Upgraded) = record { command = refl; unlisted = refl; plain = (refl, refl) }
-
-abbrev pub all_text : Layout → List ℕ
-all_text First = codes "SELECT number, promised_round, promised_owner, vote_round, vote_owner, tape FROM acceptor_row ORDER BY number"
-all_text (Second origin) = codes "SELECT number, promised_round, promised_owner, vote_round, vote_owner, length, packed FROM acceptor_entry ORDER BY number"
 
 abbrev pub in_order : Layout → Query
 in_order layout = record {

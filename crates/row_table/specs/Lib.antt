@@ -1,9 +1,13 @@
 pub mod Tables
+pub mod Layouts
 pub mod Rows
 pub mod Rising
 pub mod Station
 pub mod Entries
 pub mod Cursor
 pub mod Keeping
+pub mod Reading
+pub mod Puts
+pub mod Within
 pub mod Making
 pub mod Staging

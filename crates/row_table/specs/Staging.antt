@@ -1,12 +1,10 @@
--- Rows that are saved in a transaction, one after the other: `old` is the state of the connection before a call, `new` after it.
--- All of it is said where the disk returned what was written.
-use Rattle.std.specs.Prelude.{◌≡◌, ℕ, List, Option, option_map, Result, OnOk, IsTrue}
-use Rattle.std.specs.Borrow.{Bor}
+-- Rows that are saved in a transaction, one after the other: `old` is the state of the connection before an act, `new` after it.
+use Rattle.std.specs.Prelude.{◌≡◌, ℕ, IsTrue}
 use Rattle.sqlite_value.specs.Order.{Row}
-use Rattle.sqlite.specs.State.{State, HasCleanDisk}
+use Rattle.sqlite.specs.State.{State}
 use Rattle.row_table.specs.Tables.{Layout, Origin, layout_schema, layout_tree}
-use Rattle.row_table.specs.Tables.Layout.{First, Second}
-use Rattle.row_table.specs.Rows.{AreRows, SavesIn, columns_of}
+use Rattle.row_table.specs.Tables.Layout.{Second}
+use Rattle.row_table.specs.Rows.{AreRows, SavesIn}
 use Rattle.row_table.specs.Entries.{columns_of_entry}
 use Rattle.row_table.specs.declared.entry_table.EntryColumns.{EntryColumns}
 
@@ -16,17 +14,10 @@ pub record IsStaging (layout : Layout) (s : State) : Type 0 where
   pub schema : s.now.schema ≡ layout_schema layout
   pub rows : AreRows (s.now.trees (layout_tree layout))
 
--- in such a transaction, which stays open, an Ok has put this row in the place of the one that had its number
-abbrev pub StagesRow : {A E : Type 0} → Layout → ℕ → Row → Result A E → State → State → Type 0
-StagesRow layout number columns result old new =
-    HasCleanDisk new → IsStaging layout old → OnOk result (IsStaging layout new × SavesIn layout number columns old.now.trees new.now.trees)
+-- in such a transaction, which stays open, this row is put in the place of the one that had its number
+abbrev pub StagesRow : Layout → ℕ → Row → State → State → Type 0
+StagesRow layout number columns old new = IsStaging layout old → IsStaging layout new × SavesIn layout number columns old.now.trees new.now.trees
 
--- this row of layout 1
-abbrev pub StagesFirst : {A E : Type 0} → ℕ → ℕ → ℕ → Option ℕ → Option ℕ → Option (Bor (List ℕ))
-    → Result A E → State → State → Type 0
-StagesFirst number promised_round promised_owner vote_round vote_owner tape result old new =
-    StagesRow First number (columns_of promised_round promised_owner vote_round vote_owner (option_map (λ b. b.now) tape)) result old new
-
--- this entry
-abbrev pub StagesEntry : {A E : Type 0} → EntryColumns → Result A E → State → State → Type 0
-StagesEntry entry result old new = (origin : Origin) → StagesRow (Second origin) entry.number (columns_of_entry entry) result old new
+-- this entry is
+abbrev pub StagesEntry : EntryColumns → State → State → Type 0
+StagesEntry entry old new = (origin : Origin) → StagesRow (Second origin) entry.number (columns_of_entry entry) old new

@@ -1,13 +1,11 @@
 -- What the station table holds: one row, with the layout of the tables and which station the rows belong to.
-use Rattle.std.specs.Prelude.{◌≡◌, ℕ, [], ◌∷◌, map, IsPermutation, Result, IfOk, IsTrue, false}
-use Rattle.std.specs.declared.vec.Vec.{Vec}
-use Rattle.std.specs.Global.{Global}
+use Rattle.std.specs.Prelude.{◌≡◌, ℕ, [], ◌∷◌, IsTrue, false}
 use Rattle.sqlite_value.specs.declared.value.Value.TheVariants.{Null}
 use Rattle.sqlite_value.specs.Order.{Row, column}
 use Rattle.sqlite_trees.specs.Tree.{Trees}
 use Rattle.sqlite_trees.specs.Objects.{catalog_tree}
 use Rattle.sqlite_catalog.specs.Listing.{Lists}
-use Rattle.sqlite.specs.State.{State, HasCleanDisk}
+use Rattle.sqlite.specs.State.{State}
 use Rattle.row_table.specs.Tables.{Layout, station_tree, layout_number, layout_tree, layout_schema}
 use Rattle.row_table.specs.Rows.{whole}
 
@@ -18,12 +16,6 @@ station_row layout circuit member members = whole 1 ∷ Null ∷ whole (layout_n
 -- what a row shows: its key, the layout, the circuit, the member and how many members there are
 abbrev pub station_columns : Row → Row
 station_columns r = column r 0 ∷ column r 2 ∷ column r 3 ∷ column r 4 ∷ column r 5 ∷ []
-
--- of a connection on the tables of any layout, an Ok has what each row of the table shows
-abbrev pub ListsStation : {E : Type 0} → Result (Vec Row Global) E → State → State → Type 0
-ListsStation result old new =
-    HasCleanDisk new → (layout : Layout) → old.now.schema ≡ layout_schema layout
-    → IfOk result (λ rows. IsPermutation (map station_columns (old.now.trees station_tree)) rows.items)
 
 -- the tables of the layout are there, and the catalog lists them, with no saved row and this station
 pub record HoldsNone (layout : Layout) (circuit member members : ℕ) (trees : Trees) : Type 0 where

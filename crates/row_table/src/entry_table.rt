@@ -1,9 +1,6 @@
 //! The statements that make the table of entries and fill it, in a transaction.
 
-ghost use Rattle.std.specs.Prelude.{◌≡◌};
-ghost use Rattle.sqlite.specs.State.{Survives};
-ghost use Rattle.sqlite.specs.Held.{state};
-ghost use Rattle.row_table.specs.Keeping.{CommitsNothing, StaysInside};
+ghost use Rattle.row_table.specs.Within.{ActsWithin};
 ghost use Rattle.row_table.specs.Making.{AddsEntries, AddsEntry, MakesEntryTable};
 
 use sqlite::{Alter, Error, Transaction, params};
@@ -33,11 +30,7 @@ pub struct EntryColumns {
 ///
 /// An error comes where the database refuses the statement: where it has such a table, or its disk fails or is full, or memory is refused.
 pub fn make_entry_table<S: Alter>(tx: &mut Transaction<'_, S>) -> Result<(), Error>
-    ensures same_reference { tx.new.conn.ghost_name ≡ tx.old.conn.ghost_name }
-    ensures made { MakesEntryTable result (state S.Store tx.old.conn.now) (state S.Store tx.new.conn.now) }
-    ensures inside { StaysInside result (state S.Store tx.old.conn.now) (state S.Store tx.new.conn.now) }
-    ensures kept { CommitsNothing (state S.Store tx.old.conn.now) (state S.Store tx.new.conn.now) }
-    ensures survives { Survives (state S.Store tx.old.conn.now) (state S.Store tx.new.conn.now) (λ _. ⊥) }
+    ensures { ActsWithin S.Store MakesEntryTable result tx.old tx.new }
 {
     tx.execute(
         "CREATE TABLE acceptor_entry (number INTEGER PRIMARY KEY,\n  promised_round INTEGER NOT NULL, promised_owner INTEGER NOT NULL,\n  vote_round INTEGER, vote_owner INTEGER,\n  length INTEGER, packed BLOB) STRICT",
@@ -50,11 +43,7 @@ pub fn make_entry_table<S: Alter>(tx: &mut Transaction<'_, S>) -> Result<(), Err
 ///
 /// An error comes where the database refuses the statement: where the table is missing or has the number, or the disk fails or is full, or memory is refused.
 pub fn add_entry<S: Alter>(tx: &mut Transaction<'_, S>, entry: &EntryColumns) -> Result<(), Error>
-    ensures same_reference { tx.new.conn.ghost_name ≡ tx.old.conn.ghost_name }
-    ensures added { AddsEntry entry.now result (state S.Store tx.old.conn.now) (state S.Store tx.new.conn.now) }
-    ensures inside { StaysInside result (state S.Store tx.old.conn.now) (state S.Store tx.new.conn.now) }
-    ensures kept { CommitsNothing (state S.Store tx.old.conn.now) (state S.Store tx.new.conn.now) }
-    ensures survives { Survives (state S.Store tx.old.conn.now) (state S.Store tx.new.conn.now) (λ _. ⊥) }
+    ensures { ActsWithin S.Store (AddsEntry entry.now) result tx.old tx.new }
 {
     tx.execute(
         "INSERT INTO acceptor_entry VALUES (?1, ?2, ?3, ?4, ?5, ?6, ?7)",
@@ -78,11 +67,7 @@ pub fn add_entries<S: Alter>(
     tx: &mut Transaction<'_, S>,
     entries: &[EntryColumns],
 ) -> Result<(), Error>
-    ensures same_reference { tx.new.conn.ghost_name ≡ tx.old.conn.ghost_name }
-    ensures added { AddsEntries entries.now result (state S.Store tx.old.conn.now) (state S.Store tx.new.conn.now) }
-    ensures inside { StaysInside result (state S.Store tx.old.conn.now) (state S.Store tx.new.conn.now) }
-    ensures kept { CommitsNothing (state S.Store tx.old.conn.now) (state S.Store tx.new.conn.now) }
-    ensures survives { Survives (state S.Store tx.old.conn.now) (state S.Store tx.new.conn.now) (λ _. ⊥) }
+    ensures { ActsWithin S.Store (AddsEntries entries.now) result tx.old tx.new }
 {
     for entry in entries {
         add_entry(tx, entry)?;

@@ -2,21 +2,23 @@
 #![tactic(auto)]
 
 mod cursor;
-mod entry_rows;
 mod entry_table;
+mod layout;
+mod puts;
+mod reads;
 mod rising;
-mod rows;
 mod staging;
 mod station;
 mod tables;
 mod upgrade;
 
 pub use cursor::Taker;
-pub use entry_rows::{all_entries, get_entry, put_entry, visit_entries};
 pub use entry_table::{EntryColumns, add_entries, add_entry, make_entry_table};
+pub use layout::Layout;
+pub use puts::{RowColumns, put_entry, put_row};
+pub use reads::{all_rows, get_row, visit_rows};
 pub use rising::{are_rising, number_above, rising_is_listed, rows_rise};
-pub use rows::{all_rows, get_row, put_row, visit_rows};
 pub use staging::{stage_entry, stage_row};
 pub use station::get_station;
-pub use tables::{create_entry_tables, create_tables};
+pub use tables::{StationColumns, create_entry_tables, create_tables};
 pub use upgrade::upgrade_tables;

@@ -1,22 +1,16 @@
 //! The upgrade from the table of rows to the table of entries, in one transaction.
 
-ghost use Rattle.std.specs.Prelude.{◌≡◌, ◌≤◌, false};
-ghost use Rattle.sqlite_trees.specs.View.{doubt};
-ghost use Rattle.sqlite.specs.State.{Survives};
+ghost use Rattle.std.specs.Prelude.{◌≡◌, false};
 ghost use Rattle.sqlite.specs.Held.{state};
-ghost use Rattle.row_table.specs.Keeping.{CommitsNothing, RolledBackWhereRefused, StaysInside, WasOpenWhereRefused};
-ghost use Rattle.row_table.specs.Making.{CommitsUpgrade, CrashesAsUpgraded, MovesToEntries, SetsLayout};
+ghost use Rattle.row_table.specs.Within.{ActsWithin};
+ghost use Rattle.row_table.specs.Making.{MovesToEntries, SetsLayout, UpgradesTables};
 
 use crate::entry_table::{EntryColumns, add_entries, make_entry_table};
 use sqlite::{Alter, Connection, Error, Transaction};
 
 /// Says in the row of the station that the database is in layout 2, in a transaction.
 fn set_layout<S: Alter>(tx: &mut Transaction<'_, S>) -> Result<(), Error>
-    ensures same_reference { tx.new.conn.ghost_name ≡ tx.old.conn.ghost_name }
-    ensures laid { SetsLayout result (state S.Store tx.old.conn.now) (state S.Store tx.new.conn.now) }
-    ensures inside { StaysInside result (state S.Store tx.old.conn.now) (state S.Store tx.new.conn.now) }
-    ensures kept { CommitsNothing (state S.Store tx.old.conn.now) (state S.Store tx.new.conn.now) }
-    ensures survives { Survives (state S.Store tx.old.conn.now) (state S.Store tx.new.conn.now) (λ _. ⊥) }
+    ensures { ActsWithin S.Store SetsLayout result tx.old tx.new }
 {
     tx.execute("UPDATE station SET layout = 2", &[])?;
     Ok(())
@@ -27,11 +21,7 @@ fn move_to_entries<S: Alter>(
     tx: &mut Transaction<'_, S>,
     entries: &[EntryColumns],
 ) -> Result<(), Error>
-    ensures same_reference { tx.new.conn.ghost_name ≡ tx.old.conn.ghost_name }
-    ensures moved { MovesToEntries entries.now result (state S.Store tx.old.conn.now) (state S.Store tx.new.conn.now) }
-    ensures inside { StaysInside result (state S.Store tx.old.conn.now) (state S.Store tx.new.conn.now) }
-    ensures kept { CommitsNothing (state S.Store tx.old.conn.now) (state S.Store tx.new.conn.now) }
-    ensures survives { Survives (state S.Store tx.old.conn.now) (state S.Store tx.new.conn.now) (λ _. ⊥) }
+    ensures { ActsWithin S.Store (MovesToEntries entries.now) result tx.old tx.new }
 {
     make_entry_table(tx)?;
     add_entries(tx, entries)?;
@@ -49,11 +39,7 @@ pub fn upgrade_tables<S: Alter>(
     entries: &[EntryColumns],
 ) -> Result<(), Error>
     requires { conn.old.in_transaction ≡ false }
-    ensures upgraded { CommitsUpgrade entries.now result (state S.Store conn.old) (state S.Store conn.new) }
-    ensures was_open { WasOpenWhereRefused result (state S.Store conn.old) (state S.Store conn.new) }
-    ensures neither { RolledBackWhereRefused result (state S.Store conn.old) (state S.Store conn.new) }
-    ensures crash { CrashesAsUpgraded entries.now (state S.Store conn.old) (state S.Store conn.new) }
-    ensures clean { doubt (state S.Store conn.old).is_clean ≤ doubt (state S.Store conn.new).is_clean }
+    ensures { UpgradesTables entries.now result (state S.Store conn.old) (state S.Store conn.new) }
 {
     let mut tx = conn.transaction();
     move_to_entries(&mut tx, entries)?;

@@ -1,7 +1,9 @@
 use Rattle.std.proofs.Common.{◌∷◌, Ok, option_map, ℕ}
 use Rattle.std.specs.Global.{Vec}
-use Rattle.sqlite.specs.Held.{state}
 use Rattle.sqlite.specs.State.{ExecutesInside}
+use Rattle.sqlite.specs.Held.{state}
+use Rattle.row_table.specs.Staging.{StagesEntry}
+use Rattle.row_table.proofs.WithinLemmas.{ran}
 use Rattle.row_table.specs.Tables.Layout.{Second}
 use Rattle.row_table.specs.Rows.{whole}
 use Rattle.row_table.specs.Entries.{columns_of_entry}
@@ -10,12 +12,13 @@ use Rattle.row_table.proofs.EntryPutLemmas.{put_text, replaces_entry}
 use Rattle.row_table.proofs.StagingLemmas.{stages}
 use Rattle.row_table.proofs.staging.stage_entry.Goals as goal
 
-pub returns-clause-staged : goal.returns-clause-staged
-returns-clause-staged g c origin clean had =
+pub returns : goal.returns
+returns g c =
+    let gives = c.in_ok-execute.ensures in
+    ran g.S.Store (StagesEntry c.args.entry.now) tt _ _ c.in_ok-execute.field-0 c.args.tx.now c.execute.new.self gives.same_reference gives.survives gives.runs
+    (λ clean origin had.
     let e = c.args.entry.now in
-    let old = state g.S.Store c.args.tx.now.conn.now in
-    let new = state g.S.Store c.execute.new.self.conn.now in
-    let ran : ExecutesInside 0 put_text (whole e.number ∷ columns_of_entry e) old new (Ok c.in_ok-execute.field-0) = rw (
+    let puts : ExecutesInside 0 put_text (whole e.number ∷ columns_of_entry e) (state g.S.Store c.args.tx.now.conn.now) (state g.S.Store c.execute.new.self.conn.now) (Ok c.in_ok-execute.field-0) = rw (
       c.params-to_sql.ensures,
       c.params-to_sql-2.ensures,
       c.params-to_sql-3.ensures,
@@ -28,6 +31,6 @@ returns-clause-staged g c origin clean had =
       bound_number e.length,
       bound_packed c.as_ref.result,
       c.as_ref.ensures.value,
-    ) at (c.in_ok-execute.ensures.runs clean had.inside) in
+    ) at (gives.runs clean had.inside) in
     stages (Second origin) put_text e.number (columns_of_entry e)
-    (replaces_entry origin e.number e.promised_round e.promised_owner e.vote_round e.vote_owner e.length (option_map (λ (v : Vec ℕ). v.items) e.packed)) old new c.in_ok-execute.field-0 had ran
+    (replaces_entry origin e.number e.promised_round e.promised_owner e.vote_round e.vote_owner e.length (option_map (λ (v : Vec ℕ). v.items) e.packed)) (state g.S.Store c.args.tx.now.conn.now) (state g.S.Store c.execute.new.self.conn.now) c.in_ok-execute.field-0 had puts)

@@ -1,36 +1,35 @@
-use Rattle.std.proofs.Common.{◌≡◌, ◌∷◌, Ok, option_map, ℕ, Some, None, refl, Option, List, Bor}
-use Rattle.sqlite_value.specs.declared.value.Value.TheVariants.{Blob}
-use Rattle.sqlite.specs.Values.{or_null, bound_value}
-use Rattle.sqlite.specs.Held.{state}
+use Rattle.std.proofs.Common.{◌∷◌, Ok, option_map, ℕ}
+use Rattle.std.specs.Global.{Vec}
 use Rattle.sqlite.specs.State.{ExecutesInside}
+use Rattle.sqlite.specs.Held.{state}
+use Rattle.row_table.specs.Staging.{StagesRow}
+use Rattle.row_table.proofs.WithinLemmas.{ran}
 use Rattle.row_table.specs.Tables.Layout.{First}
-use Rattle.row_table.specs.Rows.{whole, columns_of}
-use Rattle.row_table.proofs.ParamLemmas.{bound_number}
+use Rattle.row_table.specs.Rows.{whole}
+use Rattle.row_table.specs.Puts.{columns_of_row}
+use Rattle.row_table.proofs.ParamLemmas.{bound_number, bound_packed}
 use Rattle.row_table.proofs.TextLemmas.{put_text}
 use Rattle.row_table.proofs.RowPutLemmas.{replaces_row}
 use Rattle.row_table.proofs.StagingLemmas.{stages}
 use Rattle.row_table.proofs.staging.stage_row.Goals as goal
 
-bound_tape : (o : Option (Bor (List ℕ))) → bound_value (or_null (λ (b : Bor (List ℕ)). Blob b.now) o) ≡ or_null Blob (option_map (λ b. b.now) o)
-bound_tape None = refl
-bound_tape (Some b) = refl
-
-pub returns-clause-staged : goal.returns-clause-staged
-returns-clause-staged g c clean had =
-    let old = state g.S.Store c.args.tx.now.conn.now in
-    let new = state g.S.Store c.execute.new.self.conn.now in
-    let tape = option_map (λ (b : Bor (List ℕ)). b.now) c.args.tape in
-    let columns = columns_of c.args.promised_round c.args.promised_owner c.args.vote_round c.args.vote_owner tape in
-    let ran : ExecutesInside 0 put_text (whole c.args.number ∷ columns) old new (Ok c.in_ok-execute.field-0) = rw (
+pub returns : goal.returns
+returns g c =
+    let gives = c.in_ok-execute.ensures in
+    ran g.S.Store (StagesRow First c.args.row.now.number (columns_of_row c.args.row.now)) tt _ _ c.in_ok-execute.field-0 c.args.tx.now c.execute.new.self gives.same_reference gives.survives gives.runs
+    (λ clean had.
+    let e = c.args.row.now in
+    let puts : ExecutesInside 0 put_text (whole e.number ∷ columns_of_row e) (state g.S.Store c.args.tx.now.conn.now) (state g.S.Store c.execute.new.self.conn.now) (Ok c.in_ok-execute.field-0) = rw (
       c.params-to_sql.ensures,
       c.params-to_sql-2.ensures,
       c.params-to_sql-3.ensures,
       c.params-to_sql-4.ensures,
       c.params-to_sql-5.ensures,
       c.params-to_sql-6.ensures,
-      bound_number c.args.vote_round,
-      bound_number c.args.vote_owner,
-      bound_tape c.args.tape,
-    ) at (c.in_ok-execute.ensures.runs clean had.inside) in
-    stages First put_text c.args.number columns
-    (replaces_row c.args.number c.args.promised_round c.args.promised_owner c.args.vote_round c.args.vote_owner tape) old new c.in_ok-execute.field-0 had ran
+      bound_number e.vote_round,
+      bound_number e.vote_owner,
+      bound_packed c.as_ref.result,
+      c.as_ref.ensures.value,
+    ) at (gives.runs clean had.inside) in
+    stages First put_text e.number (columns_of_row e)
+    (replaces_row e.number e.promised_round e.promised_owner e.vote_round e.vote_owner (option_map (λ (v : Vec ℕ). v.items) e.tape)) (state g.S.Store c.args.tx.now.conn.now) (state g.S.Store c.execute.new.self.conn.now) c.in_ok-execute.field-0 had puts)

@@ -1,14 +1,18 @@
 use Rattle.std.proofs.Common.{◌∷◌, [], Ok, subst}
-use Rattle.sqlite.specs.Held.{state}
 use Rattle.sqlite.specs.State.{ExecutesInside}
+use Rattle.sqlite.specs.Held.{state}
+use Rattle.row_table.specs.Making.{AddsStation}
+use Rattle.row_table.proofs.WithinLemmas.{ran}
 use Rattle.row_table.specs.Rows.{whole}
 use Rattle.row_table.proofs.StationRowLemmas.{add_text, adds}
 use Rattle.row_table.proofs.tables.add_station.Goals as goal
 
-pub returns-clause-added : goal.returns-clause-added
-returns-clause-added g c clean layout is had =
-    let old = state g.S.Store c.args.tx.now.conn.now in
-    let new = state g.S.Store c.execute.new.self.conn.now in
-    let ran = rw (c.params-to_sql.ensures, c.params-to_sql-2.ensures, c.params-to_sql-3.ensures, c.params-to_sql-4.ensures) at (c.in_ok-execute.ensures.runs clean had.inside) in
-    let laid = subst (λ (n : _). ExecutesInside 0 add_text (whole n ∷ whole c.args.circuit ∷ whole c.args.member ∷ whole c.args.members ∷ []) old new (Ok c.in_ok-execute.field-0)) is ran in
-    adds layout old new c.args.circuit c.args.member c.args.members c.in_ok-execute.field-0 had laid
+pub returns : goal.returns
+returns g c =
+    let gives = c.in_ok-execute.ensures in
+    ran g.S.Store (AddsStation c.args.layout c.args.station.now) tt _ _ c.in_ok-execute.field-0 c.args.tx.now c.execute.new.self gives.same_reference gives.survives gives.runs
+    (λ clean layout is had.
+    let s = c.args.station.now in
+    let bound = rw (c.params-to_sql.ensures, c.params-to_sql-2.ensures, c.params-to_sql-3.ensures, c.params-to_sql-4.ensures) at (gives.runs clean had.inside) in
+    let laid = subst (λ (n : _). ExecutesInside 0 add_text (whole n ∷ whole s.circuit ∷ whole s.member ∷ whole s.members ∷ []) (state g.S.Store c.args.tx.now.conn.now) (state g.S.Store c.execute.new.self.conn.now) (Ok c.in_ok-execute.field-0)) is bound in
+    adds layout (state g.S.Store c.args.tx.now.conn.now) (state g.S.Store c.execute.new.self.conn.now) s.circuit s.member s.members c.in_ok-execute.field-0 had laid)

@@ -1,13 +1,19 @@
-use Rattle.std.proofs.Common.{refl, arith}
+use Rattle.std.proofs.Common.{◌∙◌, refl, arith}
 use Rattle.sqlite.specs.State.{HasCleanDisk}
 use Rattle.sqlite.specs.Held.{state}
 use Rattle.row_table.specs.Tables.Layout.{First}
+use Rattle.row_table.specs.Making.{MakesStationTable, MakesRowTable, AddsStation, MakesLayout}
+use Rattle.row_table.proofs.WithinLemmas.{Anything, both}
 use Rattle.row_table.proofs.tables.make_layout_1.Goals as goal
 
-pub returns-clause-made : goal.returns-clause-made
-returns-clause-made g c clean begun has =
-    let second : HasCleanDisk (state g.S.Store c.make_row_table.new.tx.conn.now) = omega (arith, c.add_station.ensures.survives.clean, clean) in
-    let first : HasCleanDisk (state g.S.Store c.make_station_table.new.tx.conn.now) = omega (arith, c.make_row_table.ensures.survives.clean, second) in
-    let station = c.in_ok-make_station_table.ensures in
-    c.in_ok-add_station.ensures.added clean First refl
-    (c.in_ok-make_row_table.ensures.made second (station.inside first begun) (station.schema first begun has) (station.empty first begun has))
+pub returns : goal.returns
+returns g c =
+    let begins = c.in_ok-make_station_table.ensures in
+    let makes = c.in_ok-make_row_table.ensures in
+    let adds = c.in_ok-add_station.ensures in
+    let two = both g.S.Store MakesStationTable MakesRowTable _ _ _ _ _ begins makes Anything (λ early clean. tt) in
+    both g.S.Store Anything (AddsStation 1 c.args.station.now) _ _ _ _ _ two adds (MakesLayout First c.args.station.now)
+    (λ second clean begun has.
+    let first : HasCleanDisk (state g.S.Store c.make_station_table.new.tx.conn.now) = omega (arith, makes.survives.clean, second) in
+    let station = begins.done first begun has in
+    adds.done clean First refl (makes.done second (begins.inside first begun) station.0 station.1))

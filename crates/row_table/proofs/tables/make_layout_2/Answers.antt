@@ -4,13 +4,19 @@ use Rattle.sqlite.specs.Held.{state}
 use Rattle.row_table.specs.Tables.{station_tree}
 use Rattle.row_table.specs.Tables.Layout.{Second}
 use Rattle.row_table.specs.Tables.Origin.{Created}
+use Rattle.row_table.specs.Making.{MakesStationTable, MakesEntryTable, AddsStation, MakesLayout}
+use Rattle.row_table.proofs.WithinLemmas.{Anything, both}
 use Rattle.row_table.proofs.tables.make_layout_2.Goals as goal
 
-pub returns-clause-made : goal.returns-clause-made
-returns-clause-made g c clean begun has =
-    let second : HasCleanDisk (state g.S.Store c.make_entry_table.new.tx.conn.now) = omega (arith, c.add_station.ensures.survives.clean, clean) in
-    let first : HasCleanDisk (state g.S.Store c.make_station_table.new.tx.conn.now) = omega (arith, c.make_entry_table.ensures.survives.clean, second) in
-    let station = c.in_ok-make_station_table.ensures in
-    let made = c.in_ok-make_entry_table.ensures.made second (station.inside first begun) Created (station.schema first begun has) in
-    c.in_ok-add_station.ensures.added clean (Second Created) refl
-    (record { schema = made.schema; rows = made.entries; station = made.others station_tree (omega arith) ∙ station.empty first begun has; inside = made.inside })
+pub returns : goal.returns
+returns g c =
+    let begins = c.in_ok-make_station_table.ensures in
+    let makes = c.in_ok-make_entry_table.ensures in
+    let adds = c.in_ok-add_station.ensures in
+    let two = both g.S.Store MakesStationTable MakesEntryTable _ _ _ _ _ begins makes Anything (λ early clean. tt) in
+    both g.S.Store Anything (AddsStation 2 c.args.station.now) _ _ _ _ _ two adds (MakesLayout (Second Created) c.args.station.now)
+    (λ second clean begun has.
+    let first : HasCleanDisk (state g.S.Store c.make_station_table.new.tx.conn.now) = omega (arith, makes.survives.clean, second) in
+    let station = begins.done first begun has in
+    let made = makes.done second (begins.inside first begun) Created station.0 in
+    adds.done clean (Second Created) refl (record { schema = made.schema; rows = made.entries; station = made.others station_tree (omega arith) ∙ station.1; inside = made.inside }))

@@ -1,11 +1,14 @@
 use Rattle.std.proofs.Common.{arith}
-use Rattle.sqlite.specs.State.{HasCleanDisk}
-use Rattle.sqlite.specs.Held.{state}
 use Rattle.row_table.specs.Tables.Origin.{Upgraded}
+use Rattle.row_table.specs.Making.{MakesEntryTable, AddsEntries, SetsLayout, MovesToEntries}
+use Rattle.row_table.proofs.WithinLemmas.{Anything, both}
 use Rattle.row_table.proofs.upgrade.move_to_entries.Goals as goal
 
-pub returns-clause-moved : goal.returns-clause-moved
-returns-clause-moved g c clean begun has was =
-    let filled : HasCleanDisk (state g.S.Store c.add_entries.new.tx.conn.now) = omega (arith, c.set_layout.ensures.survives.clean, clean) in
-    let made : HasCleanDisk (state g.S.Store c.make_entry_table.new.tx.conn.now) = omega (arith, c.add_entries.ensures.survives.clean, filled) in
-    c.in_ok-set_layout.ensures.laid clean _ _ (c.in_ok-add_entries.ensures.added filled Upgraded _ _ (c.in_ok-make_entry_table.ensures.made made begun Upgraded has)) was
+pub returns : goal.returns
+returns g c =
+    let made = c.in_ok-make_entry_table.ensures in
+    let filled = c.in_ok-add_entries.ensures in
+    let laid = c.in_ok-set_layout.ensures in
+    let two = both g.S.Store MakesEntryTable (AddsEntries c.args.entries.now) _ _ _ _ _ made filled Anything (λ early clean. tt) in
+    both g.S.Store Anything SetsLayout _ _ _ _ _ two laid (MovesToEntries c.args.entries.now)
+    (λ early clean begun has was. laid.done clean _ _ (filled.done early Upgraded _ _ (made.done (omega (arith, filled.survives.clean, early)) begun Upgraded has)) was)
