@@ -1,26 +1,22 @@
 //! The beginning of a life, and its end. What is done to the files stands in an order in which each moment at which it may be cut
 //! off leaves a pair that the next start takes.
 
-ghost use Rattle.std.specs.Prelude.{◌≡◌, ◌≤◌, ℕ, Some, IsTrue, IfOk, OnOk};
+ghost use Rattle.std.specs.Prelude.{◌≡◌, ◌≤◌, Some, IsTrue, IfOk, OnOk};
 ghost use Rattle.row_files.specs.Found.{HoldsNoFrame};
 ghost use Rattle.row_files.specs.declared.found.FoundLog.TheVariants.{Blank};
-ghost use Rattle.sqlite_wal.specs.Reads.{IsClean, AreClean};
-ghost use Rattle.row_life.specs.Lives.{IsAtRest, IsBegun, IsEnded, MayGoOn};
+ghost use Rattle.sqlite_wal.specs.Reads.{AreClean};
+ghost use Rattle.row_life.specs.Acts.{AreWritten, IsBegunAnew, IsWritten, LifeBegins, LifeEnds, MayBegin};
+ghost use Rattle.row_life.specs.Lives.{IsAtRest, IsBegun, MayGoOn};
 ghost use Rattle.row_life.specs.Logs.{log_of};
 
 use crate::copying::copied;
 use crate::log_head::{LAST_NUMBER, LOG_HEAD_LEN, new_log};
-use crate::looking::{log_on, page_size_on, pair_on};
+use crate::looking::{failed, log_on, page_size_on, pair_on};
 use crate::marks::{mark_at_rest, mark_in_use};
 use row_files::{FoundFile, FoundLog, Mark, RefusedRows, RowsCause, opening_refusal};
 use sqlite_disk::{Disk, Files, is_no_room};
 use std::alloc::Global;
 use std::io;
-
-/// Files that are not as they were left.
-fn failed() -> RefusedRows {
-    RefusedRows::for_cause(RowsCause::DiskFailed)
-}
 
 /// A log that is to hold no frame by now.
 fn without_frame(log: FoundLog) -> Result<FoundLog, RefusedRows>
@@ -45,9 +41,7 @@ fn unwritten(error: io::Error) -> RefusedRows {
 /// A log of a new life, in place of one that holds nothing.
 fn renew<D: Disk>(log: &mut D, bytes: &[u8; LOG_HEAD_LEN]) -> io::Result<()>
     requires usable { IsTrue (D.Disk.is_usable log.old) }
-    ensures renewed { OnOk result (D.Disk.seen log.new ≡ bytes.now) }
-    ensures clean { IsClean D.Disk log.new → IsClean D.Disk log.old }
-    ensures usable { OnOk result (IsTrue (D.Disk.is_usable log.new)) }
+    ensures { IsWritten D.Disk (λ file. file ≡ bytes.now) log.old log.new result }
 {
     log.write_at(0, bytes)?;
     log.set_len(LOG_HEAD_LEN)?;
@@ -66,9 +60,7 @@ fn begin<D: Disk>(
     requires copied { HoldsNoFrame held }
     requires number { number ≤ 0xff_ffff }
     requires numbered { log_of log.now ≡ Blank (Some number) }
-    ensures begun { OnOk result (IsBegun number (D.Disk.seen files.new.db) (D.Disk.seen files.new.log)) }
-    ensures log_clean { IsClean D.Disk files.new.log → IsClean D.Disk files.old.log }
-    ensures db_clean { IsClean D.Disk files.new.db → IsClean D.Disk files.old.db }
+    ensures begun { AreWritten D.Disk (IsBegun number) files.old files.new result }
 {
     mark_at_rest(&mut files.db, held)?;
     renew(&mut files.log, log)?;
@@ -82,14 +74,13 @@ fn number_by(chance: u64) -> u32
     (chance % (LAST_NUMBER as u64) + 1) as u32
 }
 
-/// Begins a life by chance over files whose log is to hold nothing by now.
+/// Begins a life by chance over files whose log is to hold nothing by now. Files that may be used no more are refused.
 fn begin_anew<D: Disk>(files: &mut Files<D>, chance: u64) -> Result<(), RefusedRows>
-    requires log_usable { IsTrue (D.Disk.is_usable files.old.log) }
-    requires db_usable { IsTrue (D.Disk.is_usable files.old.db) }
-    ensures begun { OnOk result ((number : ℕ) × IsBegun number (D.Disk.seen files.new.db) (D.Disk.seen files.new.log)) }
-    ensures log_clean { IsClean D.Disk files.new.log → IsClean D.Disk files.old.log }
-    ensures db_clean { IsClean D.Disk files.new.db → IsClean D.Disk files.old.db }
+    ensures begun { AreWritten D.Disk IsBegunAnew files.old files.new result }
 {
+    if !files.may_be_used() {
+        return Err(failed());
+    }
     let held = without_frame(log_on(&mut files.log)?)?;
     let page_size = page_size_on(&mut files.db)?;
     let number = number_by(chance);
@@ -104,13 +95,7 @@ fn begin_anew<D: Disk>(files: &mut Files<D>, chance: u64) -> Result<(), RefusedR
 
 /// Whether what the log holds has to be copied before a life can begin over a file that was marked; a pair that is none is refused.
 fn has_to_be_copied<D: Disk>(files: &mut Files<D>) -> Result<bool, RefusedRows>
-    requires log_usable { IsTrue (D.Disk.is_usable files.old.log) }
-    requires db_usable { IsTrue (D.Disk.is_usable files.old.db) }
-    ensures pair { OnOk result (IsClean D.Disk files.new.log → IsClean D.Disk files.new.db → MayGoOn (D.Disk.seen files.old.db) (D.Disk.seen files.old.log)) }
-    ensures log_clean { IsClean D.Disk files.new.log → IsClean D.Disk files.old.log }
-    ensures db_clean { IsClean D.Disk files.new.db → IsClean D.Disk files.old.db }
-    ensures log { IsTrue (D.Disk.is_usable files.new.log) }
-    ensures db { IsTrue (D.Disk.is_usable files.new.db) }
+    ensures { MayBegin D.Disk files.old files.new result }
 {
     let (file, log) = pair_on(files)?;
     if let Some(cause) = opening_refusal(file, log) {
@@ -130,8 +115,6 @@ fn settled<D: Disk>(
     files: Files<D>,
     seed: u64,
 ) -> (Files<D>, Result<(), RefusedRows>)
-    requires log { IsTrue (D.Disk.is_usable files.log) }
-    requires db { IsTrue (D.Disk.is_usable files.db) }
     ensures pair { OnOk result.1 (AreClean D.Disk result.0.log result.0.db → MayGoOn (D.Disk.seen files.db) (D.Disk.seen files.log)) }
 {
     let mut files = files;
@@ -152,30 +135,24 @@ pub fn begin_life<D: Disk>(
     files: Files<D>,
     chance: u64,
 ) -> (Files<D>, Result<(), RefusedRows>)
-    requires log { IsTrue (D.Disk.is_usable files.log) }
-    requires db { IsTrue (D.Disk.is_usable files.db) }
-
-    // What is taken was at rest, or has the log of its life, where the disk tells no lie.
-    ensures pair { OnOk result.1 (AreClean D.Disk result.0.log result.0.db → MayGoOn (D.Disk.seen files.db) (D.Disk.seen files.log)) }
-    ensures begun { OnOk result.1 ((number : ℕ) × IsBegun number (D.Disk.seen result.0.db) (D.Disk.seen result.0.log)) }
+    ensures begins { LifeBegins D.Disk files result.0 result.1 }
 {
     let (mut files, done) = settled(alloc, files, chance);
     if let Err(refused) = done {
         return (files, Err(refused));
     }
-    if !files.may_be_used() {
-        return (files, Err(failed()));
-    }
     let begun = begin_anew(&mut files, chance);
     (files, begun)
 }
 
-/// Marks a row file as at rest whose log holds no frame; one whose log does is not as it was left.
+/// Marks a row file as at rest whose log holds no frame; one whose log does is not as it was left, and one that may be used no more is not
+/// marked.
 fn rest<D: Disk>(db: &mut D, log: FoundLog) -> Result<(), RefusedRows>
-    requires usable { IsTrue (D.Disk.is_usable db.old) }
-    ensures rests { OnOk result (HoldsNoFrame log × IsAtRest (D.Disk.seen db.new)) }
-    ensures clean { IsClean D.Disk db.new → IsClean D.Disk db.old }
+    ensures rests { IsWritten D.Disk (λ file. HoldsNoFrame log × IsAtRest file) db.old db.new result }
 {
+    if !db.may_be_used() {
+        return Err(failed());
+    }
     let held = without_frame(log)?;
     match mark_at_rest(db, held) {
         Ok(()) => Ok(()),
@@ -188,14 +165,8 @@ fn rest<D: Disk>(db: &mut D, log: FoundLog) -> Result<(), RefusedRows>
 ///
 /// `Store`, with its cause, where the log holds a frame still, the file is no database, or the disk fails.
 pub fn end_life<D: Disk>(files: &mut Files<D>) -> Result<(), RefusedRows>
-    // The two are as they were found, where the disk tells no lie.
-    ensures ended { OnOk result (IsClean D.Disk files.new.log → IsClean D.Disk files.new.db → IsEnded (D.Disk.seen files.old.db) (D.Disk.seen files.old.log) (D.Disk.seen files.new.db)) }
-    ensures log_clean { IsClean D.Disk files.new.log → IsClean D.Disk files.old.log }
-    ensures db_clean { IsClean D.Disk files.new.db → IsClean D.Disk files.old.db }
+    ensures ends { LifeEnds D.Disk files.old files.new result }
 {
-    if !files.may_be_used() {
-        return Err(failed());
-    }
     let (file, log) = pair_on(files)?;
     match file {
         FoundFile::Database(Mark::Unmarkable) => Ok(()),

@@ -4,6 +4,7 @@ ghost use Rattle.std.specs.Prelude.{IsTrue};
 ghost use Rattle.sqlite_wal.specs.Log.{AreUsable, state};
 ghost use Rattle.sqlite_wal.specs.Reads.{AreClean};
 
+use crate::looking::failed;
 use row_files::{RefusedRows, RowsCause};
 use saved_rows::RowsFault;
 use sqlite_disk::{Disk, Files, is_no_room};
@@ -39,17 +40,18 @@ fn empty<D: Disk>(log: &mut Log<D>) -> Result<(), Error>
     log.finish()
 }
 
-/// The files once what the log held stands in the database's file, and what is the matter where it does not. A crash leaves what the
-/// two files stood for.
+/// The files once what the log held stands in the database's file, and what is the matter where it does not: they may be used no more, or
+/// the disk refuses. A crash leaves what the two files stood for.
 pub fn copied<D: Disk>(
     alloc: Global,
     files: Files<D>,
     seed: u64,
 ) -> (Files<D>, Result<(), RefusedRows>)
-    requires log { IsTrue (D.Disk.is_usable files.log) }
-    requires db { IsTrue (D.Disk.is_usable files.db) }
     ensures clean { AreClean D.Disk result.0.log result.0.db → AreClean D.Disk files.log files.db }
 {
+    if !files.may_be_used() {
+        return (files, Err(failed()));
+    }
     let mut files = files;
     let size = match probe_page_size(&mut files) {
         Ok(Some(size)) => size,

@@ -2,7 +2,7 @@
 
 ghost use Rattle.std.specs.Prelude.{◌≡◌, ◌+◌, ◌≤◌, Some, length, IfSome};
 ghost use Rattle.row_files.specs.declared.found.FoundLog.TheVariants.{Blank};
-ghost use Rattle.row_life.specs.Logs.{number_at, number_in, summed, is_magic, has_sum, is_signed, is_uncut, number_of, begins_frame, log_of};
+ghost use Rattle.row_life.specs.Logs.{number_at, number_in, has_sum, is_signed, is_uncut, number_of, begins_frame, log_of};
 
 use row_files::FoundLog;
 use sqlite_wal::checksum_of;
@@ -57,31 +57,14 @@ fn number_in(salt: u32, checkpoints: u32) -> Option<u32>
     }
 }
 
-/// The bytes that a header's sum is over, once its first byte is there.
-fn summed(head: &[u8]) -> [u8; 24]
-    requires { 32 ≤ length head.now }
-    ensures { result ≡ summed head.now }
-{
-    let mut front = [0u8; 24];
-    front.copy_from_slice(&head[..24]);
-    front[0] = MAGIC[0];
-    front
-}
-
-/// Whether a header begins as one, but for its first byte.
-fn is_magic(head: &[u8]) -> bool
-    requires { 32 ≤ length head.now }
-    ensures { result ≡ is_magic head.now }
-{
-    head[1] == MAGIC[1] && head[2] == MAGIC[2] && head[3] == MAGIC[3]
-}
-
-/// Whether it ends with its sum.
+/// Whether a header ends with its sum, which is over the bytes before it once the first is there.
 fn has_sum(head: &[u8]) -> bool
     requires { 32 ≤ length head.now }
     ensures { result ≡ has_sum head.now }
 {
-    let front = summed(head);
+    let mut front = [0u8; 24];
+    front.copy_from_slice(&head[..24]);
+    front[0] = MAGIC[0];
     let (first, second) = checksum_of(false, (0, 0), &front);
     first == number_at(head, 24) && second == number_at(head, 28)
 }
@@ -91,7 +74,7 @@ fn is_signed(head: &[u8]) -> bool
     requires { 32 ≤ length head.now }
     ensures { result ≡ is_signed head.now }
 {
-    is_magic(head) && has_sum(head)
+    head[1] == MAGIC[1] && head[2] == MAGIC[2] && head[3] == MAGIC[3] && has_sum(head)
 }
 
 /// Whether no frame was cut off: none began, or the log goes on behind its head.

@@ -1,8 +1,8 @@
 //! The mark in the header of a row file: written by itself, while no database is open over the file, and read before one is.
 
-ghost use Rattle.std.specs.Prelude.{◌≤◌, IsTrue, OnOk};
+ghost use Rattle.std.specs.Prelude.{◌≤◌, IsTrue};
 ghost use Rattle.row_files.specs.Found.{HoldsNoFrame};
-ghost use Rattle.sqlite_wal.specs.Reads.{IsClean};
+ghost use Rattle.row_life.specs.Acts.{IsWritten};
 ghost use Rattle.row_life.specs.Lives.{IsAtRest, IsInUse};
 
 use row_files::{AT_REST, FoundLog, IN_USE, MARK_AT};
@@ -15,9 +15,7 @@ use std::io;
 pub fn mark_at_rest<D: Disk>(db: &mut D, held: FoundLog) -> io::Result<()>
     requires usable { IsTrue (D.Disk.is_usable db.old) }
     requires copied { HoldsNoFrame held }
-    ensures marked { OnOk result (IsAtRest (D.Disk.seen db.new)) }
-    ensures clean { IsClean D.Disk db.new → IsClean D.Disk db.old }
-    ensures usable { OnOk result (IsTrue (D.Disk.is_usable db.new)) }
+    ensures { IsWritten D.Disk IsAtRest db.old db.new result }
 {
     let _ = held;
     db.write_at(MARK_AT, &[AT_REST])?;
@@ -30,9 +28,7 @@ pub fn mark_at_rest<D: Disk>(db: &mut D, held: FoundLog) -> io::Result<()>
 pub fn mark_in_use<D: Disk>(db: &mut D, number: u32) -> io::Result<()>
     requires usable { IsTrue (D.Disk.is_usable db.old) }
     requires number { number ≤ 0xff_ffff }
-    ensures marked { OnOk result (IsInUse number (D.Disk.seen db.new)) }
-    ensures clean { IsClean D.Disk db.new → IsClean D.Disk db.old }
-    ensures usable { OnOk result (IsTrue (D.Disk.is_usable db.new)) }
+    ensures { IsWritten D.Disk (IsInUse number) db.old db.new result }
 {
     let digits = [
         (number / 0x1_0000) as u8,

@@ -3,11 +3,16 @@ use Rattle.std.proofs.lemmas.Result.{on_ok_weaker}
 use Rattle.row_life.proofs.LifeLemmas.{holds_cut}
 use Rattle.row_life.proofs.beginning.renew.Goals as goal
 
-pub returns-clause-renewed : goal.returns-clause-renewed
-returns-clause-renewed g c =
-    on_ok_weaker c.sync.result
-    (λ _.
-    rw c.sync.ensures.seen
-    (holds_cut _ _ c.args.bytes.now 56 (search rules) (c.in_ok-write_at.ensures.written (search rules)) c.set_len.ensures.others
-    c.in_ok-set_len.ensures.len))
-    c.sync.ensures.durable
+pub returns : goal.returns
+returns g c =
+    record {
+      stands =
+          on_ok_weaker c.sync.result
+          (λ _.
+          rw c.sync.ensures.seen
+          (holds_cut _ _ c.args.bytes.now 56 (search rules) (c.in_ok-write_at.ensures.written (search rules)) c.set_len.ensures.others
+          c.in_ok-set_len.ensures.len))
+          c.sync.ensures.durable;
+      clean = search rules;
+      usable = search rules;
+    }

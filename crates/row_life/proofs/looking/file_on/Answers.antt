@@ -3,6 +3,10 @@ use Rattle.row_files.specs.Found.{file_of}
 use Rattle.row_life.proofs.LifeLemmas.{read_whole}
 use Rattle.row_life.proofs.looking.file_on.Goals as goal
 
-pub returns-clause-found : goal.returns-clause-found
-returns-clause-found g c clean =
-    c.file_of.ensures ∙ ap file_of (read_whole _ _ 108 (search rules) (c.in_ok-read_at.ensures.read clean (search rules)))
+pub returns : goal.returns
+returns g c =
+    record {
+      found = λ clean. c.file_of.ensures ∙ ap file_of (read_whole _ _ 108 (search rules) (c.in_ok-read_at.ensures.read clean (search rules)));
+      clean = c.read_at.ensures.clean;
+      usable = c.read_at.ensures.usable;
+    }

@@ -4,9 +4,14 @@ use Rattle.row_life.specs.Logs.{log_of}
 use Rattle.row_life.proofs.LifeLemmas.{read_front}
 use Rattle.row_life.proofs.looking.log_on.Goals as goal
 
-pub returns-clause-found : goal.returns-clause-found
-returns-clause-found g c clean =
-    let calm = c.in_ok-read_at.ensures.clean clean in
-    let whole = c.in_ok-len.ensures.len calm in
-    let long : length c.read_at.new.buf ≡ min (length (g.D.Disk.seen c.args.log.now)) 56 = search (rules, whole) in
-    c.log_of.ensures ∙ ap log_of (read_front _ _ 56 long (λ some. rw c.len.ensures.seen at (c.in_ok-read_at.ensures.read clean (search (rules, some)))))
+pub returns : goal.returns
+returns g c =
+    record {
+      found = λ clean.
+          let calm = c.in_ok-read_at.ensures.clean clean in
+          let whole = c.in_ok-len.ensures.len calm in
+          let long : length c.read_at.new.buf ≡ min (length (g.D.Disk.seen c.args.log.now)) 56 = search (rules, whole) in
+          c.log_of.ensures ∙ ap log_of (read_front _ _ 56 long (λ some. rw c.len.ensures.seen at (c.in_ok-read_at.ensures.read clean (search (rules, some)))));
+      clean = λ clean. c.len.ensures.clean (c.in_ok-read_at.ensures.clean clean);
+      usable = c.in_ok-read_at.ensures.usable;
+    }
