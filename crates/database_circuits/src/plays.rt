@@ -12,14 +12,13 @@ use acceptor_store::SqliteRows;
 use code_table::CodeTable;
 use saved_rows::{Identity, Rows};
 use sqlite::{Connection, MemStore};
-use std::alloc::{AllocError, Global};
+use std::alloc::AllocError;
 use tape_frames::Version;
 use widths::Widths;
 use world::{PlayFault, Played, Step, member_count, play};
 
 /// These members, each with rows at this version in a database of its own, which lies in memory.
 fn with_databases(
-    alloc: Global,
     circuit: u16,
     count: u8,
     version: Version,
@@ -31,6 +30,7 @@ fn with_databases(
     ensures at { IfOk result (λ v. AreAt ⟦<SqliteRows<MemStore> as Rows>⟧.version (λ _. version_of version) v.items) }
     ensures given { IfOk result (λ v. map given_of v.items ≡ members.items) }
 {
+    let alloc = *members.allocator();
     let mut parts = Vec::with_capacity(alloc, members.len())?;
     let mut me = 0;
     for (table, widths) in members {
@@ -58,7 +58,6 @@ fn with_databases(
 /// It is not played as `BadCount` where there are no members or more than 15; `OutOfMemory`, also where a member's
 /// database could not be made.
 pub fn play_in_databases(
-    alloc: Global,
     circuit: u16,
     version: Version,
     members: Vec<(CodeTable, Widths)>,
@@ -69,10 +68,11 @@ pub fn play_in_databases(
     ensures stops { IfOk result (λ p. IfErr p.run (StopsAt steps.now p.world)) }
     ensures agreed { IfOk result (λ p. Agreed ⟦<SqliteRows<MemStore> as Rows>⟧ p.world) }
 {
+    let alloc = *members.allocator();
     let Some(count) = member_count(members.len()) else {
         return Err(PlayFault::BadCount);
     };
-    let Ok(members) = with_databases(alloc, circuit, count, version, members) else {
+    let Ok(members) = with_databases(circuit, count, version, members) else {
         return Err(PlayFault::OutOfMemory);
     };
     match play(alloc, circuit, members, steps) {

@@ -177,7 +177,7 @@ fn counted<R: Rows>(
 fn in_databases(alloc: Global, story: &Story, plain: &World<MemoryRows>) -> Option<[usize; 3]> {
     let steps = steps(alloc, story)?;
     let members = members(alloc)?;
-    match play_in_databases(alloc, 7, story.version, members, steps.as_slice()) {
+    match play_in_databases(7, story.version, members, steps.as_slice()) {
         Ok(played) => counted(alloc, plain, &played),
         Err(_) => None,
     }
