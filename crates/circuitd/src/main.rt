@@ -3,7 +3,7 @@
 
 use command_ends::{End, Fault};
 use command_line::{Asked, parse};
-use commands::carry_out;
+use commands::{Console, carry_out};
 use host_process::{StandardError, fill_descriptors};
 use host_row_files::{HostFiles, RowFiles};
 use std::env;
@@ -37,10 +37,17 @@ fn carry_out_here<F: RowFiles>(rt: &HostRuntime, asked: &Asked<'_>, row_files: &
     let Ok(mut err) = LineWriter::new(rt.alloc(), StandardError::new(rt.alloc())) else {
         return Fault::OutOfMemory.tell(&mut rt.stderr());
     };
-    match BufWriter::new(rt.alloc(), rt.stdout()) {
-        Ok(mut out) => carry_out(rt, asked, row_files, &mut rt.stdin(), &mut out, &mut err),
-        Err(_) => Fault::OutOfMemory.tell(&mut err),
-    }
+    let Ok(out) = BufWriter::new(rt.alloc(), rt.stdout()) else {
+        return Fault::OutOfMemory.tell(&mut err);
+    };
+    let mut console = Console {
+        rt,
+        row_files,
+        input: rt.stdin(),
+        out,
+        err,
+    };
+    carry_out(&mut console, asked)
 }
 
 /// Runs the command of these words.

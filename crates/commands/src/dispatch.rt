@@ -2,13 +2,12 @@
 
 ghost use Rattle.std.specs.Prelude.{◌≡◌, ℕ, codes};
 ghost use Rattle.std.specs.Io.KnownBytes.{Appends};
-ghost use Rattle.tape_frames.specs.Entries.{version_of};
 ghost use Rattle.tape_frames.specs.declared.version.Version.{Version as VersionValue};
-ghost use Rattle.answer_command.specs.AnswerText.{WritesAnswer, WritesAnswerFront};
 ghost use Rattle.command_ends.specs.declared.end.End.TheVariants.{Done};
 ghost use Rattle.arguments.specs.declared.asked.Asked.TheVariants.{Answer, Create, Upgrade};
-ghost use Rattle.station_commands.specs.Creations.{IsCreated};
+ghost use Rattle.commands.specs.Ends.{Answers, Creates};
 
+use crate::console::Console;
 use crate::editing::{run_fit, run_punch, run_spell};
 use crate::reels::{run_import, run_survey};
 use crate::story::Story;
@@ -22,21 +21,25 @@ use plant_commands::{check_config, stop};
 use reel_commands::ChartPaths;
 use rehearse_command::rehearse;
 use row_files::RowFiles;
-use station_commands::{create, run, serve};
+use station_commands::{CreatePlan, Ground, RunPlan, ThisHost, create, run, serve};
 use status_command::{Shape, status};
 use std::io::{Read, Write};
 use streams::InputFile;
 use tape_drawing::DrawingForm;
 
 /// Checks the tape at its path by the table and the widths at theirs.
-fn run_check<R: Read, W: Write, E: Write>(
-    rt: &HostRuntime,
+fn run_check<F: RowFiles, R: Read + Drop, W: Write + Drop, E: Write + Drop>(
+    console: &mut Console<'_, F, R, W, E>,
     paths: &TapePaths<'_>,
     listing: bool,
-    input: &mut R,
-    out: &mut W,
-    err: &mut E,
 ) -> End {
+    let rt = console.rt;
+    let Console {
+        input,
+        out,
+        err,
+        ..
+    } = console;
     let mut table = InputFile::at(rt, paths.table);
     let mut widths = InputFile::at(rt, paths.widths);
     let mut tape = Story::at(rt, paths.tape, input);
@@ -53,14 +56,18 @@ fn run_check<R: Read, W: Write, E: Write>(
 }
 
 /// Draws the tape at its path by the table and the widths at theirs.
-fn run_draw<R: Read, W: Write, E: Write>(
-    rt: &HostRuntime,
+fn run_draw<F: RowFiles, R: Read + Drop, W: Write + Drop, E: Write + Drop>(
+    console: &mut Console<'_, F, R, W, E>,
     paths: &TapePaths<'_>,
     page: DrawingForm,
-    input: &mut R,
-    out: &mut W,
-    err: &mut E,
 ) -> End {
+    let rt = console.rt;
+    let Console {
+        input,
+        out,
+        err,
+        ..
+    } = console;
     let order = DrawOrder {
         paths,
         table: InputFile::at(rt, paths.table),
@@ -72,13 +79,13 @@ fn run_draw<R: Read, W: Write, E: Write>(
 }
 
 /// Charts the table and the widths at their paths.
-fn run_chart<W: Write, E: Write>(
-    rt: &HostRuntime,
+fn run_chart<F: RowFiles, R: Read + Drop, W: Write + Drop, E: Write + Drop>(
+    console: &mut Console<'_, F, R, W, E>,
     paths: &SettingPaths<'_>,
     page: DrawingForm,
-    out: &mut W,
-    err: &mut E,
 ) -> End {
+    let rt = console.rt;
+    let Console { out, err, .. } = console;
     let order = ChartingOrder {
         paths,
         table: InputFile::at(rt, paths.table),
@@ -89,12 +96,12 @@ fn run_chart<W: Write, E: Write>(
 }
 
 /// Rehearses by the script at its path, and the table and the widths at theirs.
-fn run_rehearse<W: Write, E: Write>(
-    rt: &HostRuntime,
+fn run_rehearse<F: RowFiles, R: Read + Drop, W: Write + Drop, E: Write + Drop>(
+    console: &mut Console<'_, F, R, W, E>,
     paths: &ScriptPaths<'_>,
-    out: &mut W,
-    err: &mut E,
 ) -> End {
+    let rt = console.rt;
+    let Console { out, err, .. } = console;
     let mut table = InputFile::at(rt, paths.table);
     let mut widths = InputFile::at(rt, paths.widths);
     let mut script = InputFile::at(rt, paths.script);
@@ -118,30 +125,37 @@ fn shape_of(telling: Telling) -> Shape {
     }
 }
 
-/// Runs the command that was asked for: what it is given on a pipe is read from `input`, also a tape or a text whose path
-/// is `-`; what it prints goes to `out`, and its fault to `err`. A path that can't be opened is told in the place in which the file would be read.
-pub fn carry_out<F: RowFiles, R: Read, W: Write, E: Write>(
-    rt: &HostRuntime,
+/// Runs the command that was asked for. A tape or a text whose path is `-` is read from the console's input; a path that can't be opened is
+/// told in the place in which the file would be read.
+pub fn carry_out<F: RowFiles, R: Read + Drop, W: Write + Drop, E: Write + Drop>(
+    console: &mut Console<'_, F, R, W, E>,
     asked: &Asked<'_>,
-    row_files: &F,
-    input: &mut R,
-    out: &mut W,
-    err: &mut E,
 ) -> End
-    ensures answered { (circuit : ℕ) → (me : ℕ) → (wire : VersionValue) → asked.now ≡ Answer circuit me wire → result ≡ Done
-        → WritesAnswer circuit me (version_of wire) (R.remaining input.old) (W.contents out.old) (W.contents out.new) }
-    ensures front { (circuit : ℕ) → (me : ℕ) → (wire : VersionValue) → asked.now ≡ Answer circuit me wire
-        → WritesAnswerFront circuit me (version_of wire) (R.remaining input.old) (W.contents out.old) (W.contents out.new) }
-    ensures created { (config : _) → (layout : VersionValue) → asked.now ≡ Create config layout → result ≡ Done
-        → IsCreated F.leaves row_files.now layout (W.contents out.old) (W.contents out.new) }
-    ensures over { (path : _) → asked.now ≡ Upgrade path → result ≡ Done → Appends (W.contents out.old) (W.contents out.new) (codes "layout 2\n") }
+    ensures answered { (circuit me : ℕ) → (wire : VersionValue) → asked.now ≡ Answer circuit me wire
+        → Answers R.remaining W.contents console.old console.new circuit me wire result }
+    ensures created { (config : _) → (layout : VersionValue) → asked.now ≡ Create config layout
+        → Creates F.leaves W.contents console.old console.new layout result }
+    ensures over { (path : _) → asked.now ≡ Upgrade path → result ≡ Done → Appends (W.contents console.old.out) (W.contents console.new.out) (codes "layout 2\n") }
 {
+    let rt = console.rt;
+    let host = ThisHost { rt };
+    let ground = Ground {
+        rt,
+        host: &host,
+        row_files: console.row_files,
+    };
     match asked {
         Asked::Answer { circuit, me, wire } => {
+            let Console {
+                input,
+                out,
+                err,
+                ..
+            } = console;
             answer(rt.alloc(), *circuit, *me, *wire, input, out, err)
         }
-        Asked::Check { paths, listing } => run_check(rt, paths, *listing, input, out, err),
-        Asked::Draw { paths, page } => run_draw(rt, paths, *page, input, out, err),
+        Asked::Check { paths, listing } => run_check(console, paths, *listing),
+        Asked::Draw { paths, page } => run_draw(console, paths, *page),
         Asked::Chart {
             table,
             widths,
@@ -151,7 +165,7 @@ pub fn carry_out<F: RowFiles, R: Read, W: Write, E: Write>(
                 table: *table,
                 widths: *widths,
             };
-            run_chart(rt, &paths, *page, out, err)
+            run_chart(console, &paths, *page)
         }
         Asked::Punch {
             table,
@@ -163,30 +177,54 @@ pub fn carry_out<F: RowFiles, R: Read, W: Write, E: Write>(
                 table: *table,
                 story: *text,
             };
-            run_punch(rt, &paths, *ligatures, *room, input, out, err)
+            run_punch(console, &paths, *ligatures, *room)
         }
         Asked::Spell { table, tape, plain } => {
             let paths = StoryPaths {
                 table: *table,
                 story: *tape,
             };
-            run_spell(rt, &paths, *plain, input, out, err)
+            run_spell(console, &paths, *plain)
         }
-        Asked::Fit { paths, text } => run_fit(rt, paths, *text, input, out, err),
-        Asked::Rows { path } => row_files.list(rt, *path, out, err),
-        Asked::Upgrade { path } => row_files.upgrade(rt, *path, out, err),
-        Asked::Create { config, layout } => create(rt, *config, *layout, row_files, out, err),
-        Asked::Serve(plan) => serve(rt, plan, row_files, out, err),
+        Asked::Fit { paths, text } => run_fit(console, paths, *text),
+        Asked::Rows { path } => {
+            let Console { out, err, .. } = console;
+            ground.row_files.list(rt, *path, out, err)
+        }
+        Asked::Upgrade { path } => {
+            let Console { out, err, .. } = console;
+            ground.row_files.upgrade(rt, *path, out, err)
+        }
+        Asked::Create { config, layout } => {
+            let plan = CreatePlan {
+                config: *config,
+                version: *layout,
+            };
+            create(&ground, plan, &mut console.out, &mut console.err)
+        }
+        Asked::Serve(plan) => serve(&ground, plan, &mut console.out, &mut console.err),
         Asked::Run {
             config,
             create,
             log,
-        } => run(rt, *config, *create, *log, row_files, err),
-        Asked::CheckConfig { config } => check_config(rt, *config, out, err),
-        Asked::Stop { config } => stop(rt, *config, err),
-        Asked::Status { config, telling } => status(rt, *config, shape_of(*telling), out, err),
-        Asked::Rehearse { paths } => run_rehearse(rt, paths, out, err),
-        Asked::Import(plan) => run_import(rt, plan, input, out, err),
+        } => {
+            let plan = RunPlan {
+                config: *config,
+                making: *create,
+                log: *log,
+            };
+            run(&ground, plan, &mut console.err)
+        }
+        Asked::CheckConfig { config } => {
+            check_config(rt, *config, &mut console.out, &mut console.err)
+        }
+        Asked::Stop { config } => stop(rt, *config, &mut console.err),
+        Asked::Status { config, telling } => {
+            let Console { out, err, .. } = console;
+            status(rt, *config, shape_of(*telling), out, err)
+        }
+        Asked::Rehearse { paths } => run_rehearse(console, paths),
+        Asked::Import(plan) => run_import(console, plan),
         Asked::Survey {
             table,
             widths,
@@ -196,8 +234,8 @@ pub fn carry_out<F: RowFiles, R: Read, W: Write, E: Write>(
                 table: *table,
                 widths: *widths,
             };
-            run_survey(rt, &paths, *tapes, out, err)
+            run_survey(console, &paths, *tapes)
         }
-        Asked::Version => print_version(out, err),
+        Asked::Version => print_version(&mut console.out, &mut console.err),
     }
 }

@@ -1,11 +1,11 @@
 //! The commands for editors, run over the files that their words name.
 
+use crate::console::Console;
 use crate::story::Story;
 use code_table::Name;
 use command_ends::{End, Fault, TapePaths};
-use editor_commands::{
-    FitOrder, Form, Given, PunchOrder, SpellOrder, StoryPaths, fit, punch, spell,
-};
+use editor_commands::{Form, Given, StoryPaths, fit, punch, spell};
+use row_files::RowFiles;
 use std::alloc::Global;
 use std::io::{Read, Write};
 use streams::InputFile;
@@ -36,15 +36,19 @@ fn tell_ligatures<E: Write>(error: LigatureError, err: &mut E) -> End {
 }
 
 /// Punches the text at its path, with the ligatures that are named, by the table at its. The names are looked at first.
-pub fn run_punch<R: Read, W: Write, E: Write>(
-    rt: &HostRuntime,
+pub fn run_punch<F: RowFiles, R: Read + Drop, W: Write + Drop, E: Write + Drop>(
+    console: &mut Console<'_, F, R, W, E>,
     paths: &StoryPaths<'_>,
     ligatures: Option<&str>,
     room: Version,
-    input: &mut R,
-    out: &mut W,
-    err: &mut E,
 ) -> End {
+    let rt = console.rt;
+    let Console {
+        input,
+        out,
+        err,
+        ..
+    } = console;
     let ligatures = match ligatures_by(rt.alloc(), ligatures) {
         Ok(ligatures) => ligatures,
         Err(error) => return tell_ligatures(error, err),
@@ -60,14 +64,18 @@ pub fn run_punch<R: Read, W: Write, E: Write>(
 }
 
 /// Spells the tape at its path by the table at its.
-pub fn run_spell<R: Read, W: Write, E: Write>(
-    rt: &HostRuntime,
+pub fn run_spell<F: RowFiles, R: Read + Drop, W: Write + Drop, E: Write + Drop>(
+    console: &mut Console<'_, F, R, W, E>,
     paths: &StoryPaths<'_>,
     plain: bool,
-    input: &mut R,
-    out: &mut W,
-    err: &mut E,
 ) -> End {
+    let rt = console.rt;
+    let Console {
+        input,
+        out,
+        err,
+        ..
+    } = console;
     let order = SpellOrder {
         paths,
         table: InputFile::at(rt, paths.table),
@@ -78,14 +86,18 @@ pub fn run_spell<R: Read, W: Write, E: Write>(
 }
 
 /// Tells how each line fits of the story at its path, by the table and the widths at theirs.
-pub fn run_fit<R: Read, W: Write, E: Write>(
-    rt: &HostRuntime,
+pub fn run_fit<F: RowFiles, R: Read + Drop, W: Write + Drop, E: Write + Drop>(
+    console: &mut Console<'_, F, R, W, E>,
     paths: &TapePaths<'_>,
     text: bool,
-    input: &mut R,
-    out: &mut W,
-    err: &mut E,
 ) -> End {
+    let rt = console.rt;
+    let Console {
+        input,
+        out,
+        err,
+        ..
+    } = console;
     let order = FitOrder {
         paths,
         table: InputFile::at(rt, paths.table),

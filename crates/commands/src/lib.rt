@@ -2,10 +2,12 @@
 //! each handed to its place.
 #![tactic(auto)]
 
+mod console;
 mod dispatch;
 mod editing;
 mod reels;
 mod story;
 mod tapes;
 
+pub use console::Console;
 pub use dispatch::carry_out;

@@ -1,11 +1,13 @@
 //! The commands for restorers, run over the files that their words name.
 
+use crate::console::Console;
 use crate::story::Story;
 use crate::tapes::HostTapes;
 use command_ends::{End, Fault};
 use command_line::ReelPlan;
 use reel::{Cutting, Levels, LevelsFault, levels_of, mask_of};
 use reel_commands::{ChartPaths, Reel, ReelFault, Survey, end_by, import, put_import};
+use row_files::RowFiles;
 use std::alloc::Global;
 use std::io::{Read, Write};
 use streams::InputFile;
@@ -57,13 +59,17 @@ fn import_reel<'a, R: Read, W: Write>(
 }
 
 /// Makes tapes of the reel at its path. The levels are looked at first.
-pub fn run_import<R: Read, W: Write, E: Write>(
-    rt: &HostRuntime,
+pub fn run_import<F: RowFiles, R: Read + Drop, W: Write + Drop, E: Write + Drop>(
+    console: &mut Console<'_, F, R, W, E>,
     plan: &ReelPlan<'_>,
-    input: &mut R,
-    out: &mut W,
-    err: &mut E,
 ) -> End {
+    let rt = console.rt;
+    let Console {
+        input,
+        out,
+        err,
+        ..
+    } = console;
     let levels = match levels_by(rt.alloc(), plan) {
         Ok(levels) => levels,
         Err(fault) => return tell_levels(fault, err),
@@ -102,13 +108,13 @@ fn add_tapes<'a>(
 }
 
 /// Surveys the tapes at their paths.
-pub fn run_survey<W: Write, E: Write>(
-    rt: &HostRuntime,
+pub fn run_survey<F: RowFiles, R: Read + Drop, W: Write + Drop, E: Write + Drop>(
+    console: &mut Console<'_, F, R, W, E>,
     paths: &ChartPaths<'_>,
     tapes: &[String],
-    out: &mut W,
-    err: &mut E,
 ) -> End {
+    let rt = console.rt;
+    let Console { out, err, .. } = console;
     let mut survey = match read_survey(rt, paths) {
         Ok(survey) => survey,
         Err(fault) => return fault.tell(err),

@@ -13,18 +13,17 @@ use crate::causes::refused_by;
 use crate::database::{RowsTask, close_database, done_over};
 use crate::life::{begin_at, end_at};
 use crate::look::{test_begun, test_opening};
-use crate::making::make_at;
+use crate::making::Making;
 use acceptor_store::{FileFault, SqliteRows};
 use command_ends::End;
 use gone_out::Known;
 use known_rows::known_rows;
-use row_files::{Mark, RefusedRows, RowFiles};
+use row_files::{Mark, NewRows, RefusedRows, RowFiles};
 use saved_rows::Identity;
 use sqlite::{FileFrom, FileStore, Wary};
 use sqlite_disk::Disk;
 use std::alloc::Global;
 use std::io::Write;
-use tape_frames::Version;
 
 /// The database in a file. The database supposes nothing of a torn write, since a story that is lost to one would be a
 /// promise broken.
@@ -106,14 +105,14 @@ impl RowFiles for HostFiles {
 
     ghost closes = { λ _ rows. WasClosed rows };
 
-    fn make(
-        &self,
-        rt: &HostRuntime,
-        path: &str,
-        identity: Identity,
-        version: Version,
-    ) -> Result<(), RefusedRows> {
-        make_at(rt, path, identity, version)
+    /// What a making that is refused leaves under the other name is removed.
+    fn make(&self, rt: &HostRuntime, new: NewRows<'_>) -> Result<(), RefusedRows> {
+        let making = Making::at(rt, new.path)?;
+        let made = making.make(rt, new);
+        if made.is_err() {
+            let _ = making.clear(rt);
+        }
+        made
     }
 
     fn open(

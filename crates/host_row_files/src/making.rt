@@ -9,8 +9,7 @@ use crate::causes::refused_by;
 use crate::database::close_database;
 use crate::look::test_making;
 use acceptor_store::SqliteRows;
-use row_files::{RefusedRows, RowsCause};
-use saved_rows::Identity;
+use row_files::{NewRows, RefusedRows, RowsCause};
 use sqlite::{FileFrom, Wary};
 use sqlite_disk::Disk;
 use std::fs::{File, TryLockError};
@@ -18,7 +17,6 @@ use std::io::ErrorKind;
 use std::path::{AsPath, Path};
 use std::time::Duration;
 use std::{fs, io, thread};
-use tape_frames::Version;
 
 /// How often a making looks whether another one in its folder has ended, and how many milliseconds it pauses between two looks. One
 /// takes some hundredths of a second, most of it for the disk.
@@ -26,18 +24,12 @@ const LOOKS: u32 = 100;
 
 const PAUSE: u64 = 50;
 
-/// A file that is made under another name, with its log.
+/// A file that is made under another name, with its log, and its folder, whose lock is held.
 #[derive(Drop)]
-struct RowFilePart {
+pub(crate) struct Making {
+    folder: File,
     path: String,
     log: String,
-}
-
-/// The names under which the file of a path is made.
-fn part_of(rt: &HostRuntime, path: &str) -> Result<RowFilePart, RefusedRows> {
-    let part = format!(in rt.alloc(); "{path}.making")?;
-    let log = format!(in rt.alloc(); "{path}.making-wal")?;
-    Ok(RowFilePart { path: part, log })
 }
 
 /// Opens the folder of a path.
@@ -69,84 +61,64 @@ fn remove(rt: &HostRuntime, path: &str) -> io::Result<()> {
     }
 }
 
-impl RowFilePart {
-    /// Removes what is there under these names.
-    fn clear(&self, rt: &HostRuntime) -> io::Result<()> {
-        remove(rt, &self.log)?;
-        remove(rt, &self.path)
-    }
-}
-
-/// Makes a row file at a path where none is, and closes it, so that the file alone has all.
-fn make_closed(
-    rt: &HostRuntime,
-    path: &str,
-    identity: Identity,
-    version: Version,
-) -> Result<(), RefusedRows>
-    requires { IsIdentity identity }
-    ensures { OnOk result (HasMade ⟦<FileFrom<Wary> as Disk>⟧ identity (version_of version)) }
+/// Makes a row file where none is, and closes it, so that the file alone has all.
+fn make_closed(rt: &HostRuntime, new: NewRows<'_>) -> Result<(), RefusedRows>
+    requires { IsIdentity new.identity }
+    ensures { OnOk result (HasMade ⟦<FileFrom<Wary> as Disk>⟧ new.entry.identity (version_of new.entry.version)) }
 {
-    match SqliteRows::create_at(rt, path, Wary, identity, version) {
+    match SqliteRows::create_at(rt, new.path, Wary, new.identity, new.version) {
         Ok(rows) => close_database(rows),
         Err(fault) => Err(refused_by(fault)),
     }
 }
 
-/// Gives a file that was made whole its name, where nothing stands there by now, and waits until the disk has the name.
-fn name_part(
-    rt: &HostRuntime,
-    folder: &File,
-    part: &RowFilePart,
-    path: &str,
-) -> Result<(), RefusedRows> {
-    remove(rt, &part.log)?;
-    test_making(rt, path)?;
-    fs::rename(rt, part.path.as_str(), path)?;
-    match folder.sync_all() {
-        Ok(()) => Ok(()),
-        Err(_) => Err(RefusedRows::for_cause(RowsCause::DiskFailed)),
+impl Making {
+    /// Begins to make the row file of a path, where nothing stands and no log is left.
+    pub(crate) fn at(rt: &HostRuntime, path: &str) -> Result<Making, RefusedRows> {
+        // The database takes this name for one in memory.
+        if path == ":memory:" {
+            return Err(RefusedRows::for_cause(RowsCause::Unopened));
+        }
+        test_making(rt, path)?;
+        let part = format!(in rt.alloc(); "{path}.making")?;
+        let log = format!(in rt.alloc(); "{path}.making-wal")?;
+        let folder = lock_folder(rt, path)?;
+        Ok(Making {
+            folder,
+            path: part,
+            log,
+        })
     }
-}
 
-/// Makes the row file of a path, in its folder, whose lock is held: under the other name first.
-fn make_whole(
-    rt: &HostRuntime,
-    folder: &File,
-    part: &RowFilePart,
-    path: &str,
-    identity: Identity,
-    version: Version,
-) -> Result<(), RefusedRows>
-    requires { IsIdentity identity }
-    ensures { OnOk result (HasMade ⟦<FileFrom<Wary> as Disk>⟧ identity (version_of version)) }
-{
-    part.clear(rt)?;
-    make_closed(rt, &part.path, identity, version)?;
-    name_part(rt, folder, part, path)
-}
+    /// Removes what is there under the other name.
+    pub(crate) fn clear(&self, rt: &HostRuntime) -> io::Result<()> {
+        remove(rt, &self.log)?;
+        remove(rt, &self.path)
+    }
 
-/// Makes the row file of a station at a path, in the layout for rows of this version, where nothing stands and no log is left. What
-/// a making that was cut off left under the other name is removed first, and so is what this one leaves where it is refused.
-pub(crate) fn make_at(
-    rt: &HostRuntime,
-    path: &str,
-    identity: Identity,
-    version: Version,
-) -> Result<(), RefusedRows>
-    requires { IsIdentity identity }
-    ensures { OnOk result (HasMade ⟦<FileFrom<Wary> as Disk>⟧ identity (version_of version)) }
-{
-    // The database takes this name for one in memory.
-    if path == ":memory:" {
-        return Err(RefusedRows::for_cause(RowsCause::Unopened));
+    /// Gives the file that was made whole its name, where nothing stands there by now, and waits until the disk has the name.
+    fn name(&self, rt: &HostRuntime, path: &str) -> Result<(), RefusedRows> {
+        remove(rt, &self.log)?;
+        test_making(rt, path)?;
+        fs::rename(rt, self.path.as_str(), path)?;
+        match self.folder.sync_all() {
+            Ok(()) => Ok(()),
+            Err(_) => Err(RefusedRows::for_cause(RowsCause::DiskFailed)),
+        }
     }
-    test_making(rt, path)?;
-    let part = part_of(rt, path)?;
-    let folder = lock_folder(rt, path)?;
-    let made = make_whole(rt, &folder, &part, path, identity, version);
-    if made.is_err() {
-        let _ = part.clear(rt);
+
+    /// Makes the row file, under the other name first. What a making that was cut off left under that is removed before.
+    pub(crate) fn make(&self, rt: &HostRuntime, new: NewRows<'_>) -> Result<(), RefusedRows>
+        requires { IsIdentity new.identity }
+        ensures { OnOk result (HasMade ⟦<FileFrom<Wary> as Disk>⟧ new.entry.identity (version_of new.entry.version)) }
+    {
+        self.clear(rt)?;
+        let part = NewRows {
+            path: &self.path,
+            identity: new.identity,
+            version: new.version,
+        };
+        make_closed(rt, part)?;
+        self.name(rt, new.path)
     }
-    made
 }

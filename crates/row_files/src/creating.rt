@@ -22,22 +22,31 @@ fn of_version<R: Rows>(rows: R, version: Version) -> Result<R, RefusedRows>
     }
 }
 
-/// Makes the row file of this station at a path, and takes up the rows in it.
+/// A row file that is to be made.
+#[derive(Clone, Copy)]
+pub struct NewRows<'a> {
+    /// Where it is to stand.
+    pub path: &'a str,
+    /// The station whose rows are saved in it.
+    pub identity: Identity,
+    /// The version whose layout its rows have.
+    pub version: Version,
+}
+
+/// Makes a row file, and takes up the rows in it.
 ///
 /// It is refused as [`RowFiles::make`] and [`RowFiles::open`] are; and with `WrongSchema`, where the file at the path is in
 /// another layout by then.
 pub fn create_rows<F: RowFiles>(
     rt: &HostRuntime,
     row_files: &F,
-    path: &str,
-    identity: Identity,
-    version: Version,
+    new: NewRows<'_>,
 ) -> Result<F::Rows, RefusedRows>
-    requires { IsIdentity identity }
-    ensures made { IfOk result (AreMade F.leaves F.takes_up F.Rows.version row_files.now path.now identity version) }
+    requires { IsIdentity new.identity }
+    ensures made { IfOk result (AreMade F.leaves F.takes_up F.Rows.version row_files.now new.entry.path.now new.entry.identity new.entry.version) }
     ensures open { IfOk result (λ rows. F.Rows.kept rows → F.Rows.is_open rows) }
 {
-    row_files.make(rt, path, identity, version)?;
-    let rows = row_files.open(rt, path, Some(identity))?;
-    of_version(rows, version)
+    row_files.make(rt, new)?;
+    let rows = row_files.open(rt, new.path, Some(new.identity))?;
+    of_version(rows, new.version)
 }

@@ -11,13 +11,13 @@ ghost use Rattle.command_ends.specs.declared.end.End.TheVariants.{Done};
 ghost use Rattle.row_files.specs.Knowing.{KnowsAll};
 
 use crate::causes::RefusedRows;
+use crate::creating::NewRows;
 use command_ends::End;
 use gone_out::Known;
 use row_groups::SavesAll;
 use saved_rows::Identity;
 use std::alloc::Global;
 use std::io::Write;
-use tape_frames::Version;
 
 /// Files that hold saved rows.
 pub trait RowFiles {
@@ -36,20 +36,14 @@ pub trait RowFiles {
     // The file of these rows was closed, and has them all without its log.
     ghost closes: { Self → Self.Rows → Type 0 };
 
-    /// Makes the row file of this station at a path, in the layout for rows of this version. It has its name once it is whole:
-    /// cut off at any moment, the making leaves nothing at the path, or all of the file.
+    /// Makes a row file. It has its name once it is whole: cut off at any moment, the making leaves nothing at the path, or all of
+    /// the file.
     ///
     /// `Store`, with its cause, where something stands at the path, a log that is not empty lies beside it, another process is
     /// making it, or the host refuses; `OutOfMemory`. What stood there stays as it was.
-    fn make(
-        &self,
-        rt: &HostRuntime,
-        path: &str,
-        identity: Identity,
-        version: Version,
-    ) -> Result<(), RefusedRows>
-        requires { IsIdentity identity }
-        ensures { OnOk result (leaves self.now path.now identity version) };
+    fn make(&self, rt: &HostRuntime, new: NewRows<'_>) -> Result<(), RefusedRows>
+        requires { IsIdentity new.identity }
+        ensures { OnOk result (leaves self.now new.entry.path.now new.entry.identity new.entry.version) };
 
     /// Takes up the rows in the file at a path: those of this station, or whosever they are where none is given.
     ///

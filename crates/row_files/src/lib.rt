@@ -9,7 +9,7 @@ mod found;
 
 pub use causes::{RefusedRows, RowsCause};
 pub use closing::close_rows;
-pub use creating::create_rows;
+pub use creating::{NewRows, create_rows};
 pub use files::RowFiles;
 pub use found::{
     AT_REST, FoundFile, FoundLog, HEAD_LEN, IN_USE, MARK_AT, Mark, file_of, making_refusal,

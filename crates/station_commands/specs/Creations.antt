@@ -1,9 +1,12 @@
 -- What `create` makes and writes.
-use Rattle.std.specs.Prelude.{ℕ, List, ◌++◌, Option, codes, decimal}
+use Rattle.std.specs.Prelude.{◌≡◌, ℕ, List, ◌++◌, Option, codes, decimal}
 use Rattle.std.specs.Io.KnownBytes.{Appends}
 use Rattle.tape_frames.specs.declared.version.Version.{Version}
 use Rattle.tape_frames.specs.declared.version.Version.TheVariants.{One, Two}
 use Rattle.saved_rows.specs.declared.identity.Identity.{Identity}
+use Rattle.command_ends.specs.Ends.{IsOfRows}
+use Rattle.command_ends.specs.declared.end.End.{End}
+use Rattle.command_ends.specs.declared.end.End.TheVariants.{Done}
 
 -- the layout that rows of this version are made in
 abbrev pub layout_number : Version → ℕ
@@ -22,3 +25,8 @@ pub record IsCreated {F : Type 0} (leaves : F → List ℕ → Identity → Vers
   pub station : Identity
   pub made : leaves files path station version
   pub wrote : Appends old new (made_line path station version)
+
+-- `create` ends by a fault of the rows, the output or memory; or well, and then a row file was made and that was written
+pub record CreateEnds {F : Type 0} (leaves : F → List ℕ → Identity → Version → Type 0) (files : F) (version : Version) (old new : Option (List ℕ)) (end : End) : Type 0 where
+  pub ends : IsOfRows end
+  pub done : end ≡ Done → IsCreated leaves files version old new

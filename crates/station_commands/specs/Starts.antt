@@ -1,5 +1,6 @@
 -- What a station starts from, by its configuration.
-use Rattle.std.specs.Prelude.{◌≡◌, ℕ, List, [], length, false, Option, Some, Ok, MatchOption, IfSome}
+use Rattle.std.specs.Prelude.{◌≡◌, ℕ, List, [], length, false, Option, Some, Ok, MatchOption, IfSome, string_bytes}
+use Rattle.protocol.specs.Versions as protocol
 use Rattle.toml.specs.Parse.{parse_document}
 use Rattle.code_table.specs.Tables.{Places}
 use Rattle.code_table.specs.Reading.{read_table}
@@ -12,7 +13,9 @@ use Rattle.station.specs.declared.station.Station.{Station}
 use Rattle.wire.specs.Addresses.{address_of}
 use Rattle.wire.specs.declared.address.Address.{Address}
 use Rattle.seals.specs.declared.opening.Keys.{Keys}
-use Rattle.configuration.specs.Reading.{ConfigFile}
+use Rattle.configuration.specs.Reading.{ConfigFile, file_of}
+use Rattle.row_files.specs.Creating.{AreMade}
+use Rattle.station_commands.specs.declared.start_up.Launch.{Launch}
 
 -- whose rows a station of this configuration saves: those of its circuit and member, of as many members as there are stations
 abbrev pub identity_of : ConfigFile → Identity
@@ -49,9 +52,17 @@ AreRowsOf making makes takes_up i rows = MatchOption making (takes_up (Some i) r
 
 -- so were the rows at this path, in these files of rows
 abbrev pub AreRowsAt :
-    {F R : Type 0} → (F → List ℕ → Identity → Version → R → Type 0) → (F → List ℕ → Option Identity → R → Type 0)
+    {F R : Type 0} → (F → List ℕ → Identity → Version → Type 0) → (F → List ℕ → Option Identity → R → Type 0) → (R → protocol.Version)
     → F → List ℕ → Option Version → Identity → R → Type 0
-AreRowsAt makes takes_up files path making i rows = AreRowsOf making (makes files path) (takes_up files path) i rows
+AreRowsAt leaves takes_up version_in files path making i rows =
+    AreRowsOf making (AreMade leaves takes_up version_in files path) (takes_up files path) i rows
+
+-- so were the rows that the configuration of a launch names, for its station
+abbrev pub AreRowsFor :
+    {F R : Type 0} → (F → List ℕ → Identity → Version → Type 0) → (F → List ℕ → Option Identity → R → Type 0) → (R → protocol.Version)
+    → F → Launch → R → Type 0
+AreRowsFor leaves takes_up version_in files launch rows =
+    AreRowsAt leaves takes_up version_in files (string_bytes launch.config.rows) launch.making (identity_of (file_of launch.config)) rows
 
 -- the wire was opened at the member's own address among those of all stations, and sends to these, under these keys if there are such
 abbrev pub IsWireOf : {N : Type 0} → (N → Address → List Address → Option Keys → Type 0) → ConfigFile → Option Keys → N → Type 0

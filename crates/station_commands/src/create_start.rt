@@ -2,23 +2,27 @@
 
 ghost use Rattle.std.specs.Prelude.{◌≡◌, IfOk, IfErr, OnOk, string_bytes};
 ghost use Rattle.std.specs.Io.KnownBytes.{Appends};
-ghost use Rattle.configuration.specs.Reading.{file_of};
-ghost use Rattle.configuration.specs.Stations.{IsCircuit};
-ghost use Rattle.command_ends.specs.Ends.{IsOfRows, IsOfWriting};
-ghost use Rattle.command_ends.specs.declared.end.End.TheVariants.{Done};
-ghost use Rattle.station_commands.specs.Starts.{identity_of};
-ghost use Rattle.station_commands.specs.Creations.{layout_number, made_line, IsCreated};
+ghost use Rattle.command_ends.specs.Ends.{IsOfWriting};
+ghost use Rattle.station_commands.specs.Creations.{layout_number, made_line, CreateEnds};
 
 use crate::host::{Host, ThisHost};
-use crate::start_up::make_rows;
+use crate::start_up::{Ground, new_rows};
 use command_ends::{End, Fault};
-use configuration::{Config, ConfigInput, NoLookUp, read_config};
-use row_files::RowFiles;
-use saved_rows::Identity;
+use configuration::{ConfigInput, NoLookUp, read_config};
+use row_files::{NewRows, RowFiles};
 use std::alloc::{AllocError, Global};
 use std::io::Write;
 use streams::put_all;
 use tape_frames::Version;
+
+/// What `create` is asked for.
+#[derive(Clone, Copy)]
+pub struct CreatePlan<'a> {
+    /// The path of the configuration.
+    pub config: &'a str,
+    /// The version whose layout the row file is made in.
+    pub version: Version,
+}
 
 /// The number of the layout that rows of this version are made in.
 fn layout_number(version: Version) -> u8
@@ -31,35 +35,25 @@ fn layout_number(version: Version) -> u8
 }
 
 /// The line that says what was made.
-fn made_line(
-    alloc: Global,
-    path: &str,
-    station: Identity,
-    version: Version,
-) -> Result<String, AllocError>
-    ensures { IfOk result (λ t. string_bytes t ≡ made_line path.now station version) }
+fn made_line(alloc: Global, made: NewRows<'_>) -> Result<String, AllocError>
+    ensures { IfOk result (λ t. string_bytes t ≡ made_line made.entry.path.now made.entry.identity made.entry.version) }
 {
-    let member = station.member;
-    let members = station.members;
-    let circuit = station.circuit;
-    let layout = layout_number(version);
+    let path = made.path;
+    let member = made.identity.member;
+    let members = made.identity.members;
+    let circuit = made.identity.circuit;
+    let layout = layout_number(made.version);
     format!(in alloc;
         "made {path}: station {member} of {members} circuit {circuit} layout {layout}\n"
     )
 }
 
 /// Writes what was made, and hands it on.
-fn put_made<'a, W: Write>(
-    alloc: Global,
-    path: &str,
-    station: Identity,
-    version: Version,
-    out: &mut W,
-) -> Result<(), Fault<'a>>
-    ensures ok { OnOk result (Appends (W.contents out.old) (W.contents out.new) (made_line path.now station version)) }
+fn put_made<'a, W: Write>(alloc: Global, made: NewRows<'_>, out: &mut W) -> Result<(), Fault<'a>>
+    ensures ok { OnOk result (Appends (W.contents out.old) (W.contents out.new) (made_line made.entry.path.now made.entry.identity made.entry.version)) }
     ensures fault { IfErr result IsOfWriting }
 {
-    let Ok(line) = made_line(alloc, path, station, version) else {
+    let Ok(line) = made_line(alloc, made) else {
         return Err(Fault::OutOfMemory);
     };
     if put_all(out, line.as_bytes()).is_err() {
@@ -71,52 +65,34 @@ fn put_made<'a, W: Write>(
     }
 }
 
-/// Makes the row file that a configuration names, and writes what was made.
-fn create_from<F: RowFiles, W: Write, E: Write>(
-    rt: &HostRuntime,
-    config: &Config,
-    version: Version,
-    row_files: &F,
-    out: &mut W,
-    err: &mut E,
-) -> End
-    requires { IsCircuit config.now.member config.now.stations.items }
-    ensures ends { IsOfRows result }
-    ensures done { result ≡ Done → IsCreated F.leaves row_files.now version (W.contents out.old) (W.contents out.new) }
-{
-    let station = match make_rows(rt, row_files, config, version) {
-        Ok(station) => station,
-        Err(refused) => return refused.tell(err),
-    };
-    match put_made(rt.alloc(), &config.rows, station, version, out) {
-        Ok(()) => End::Done,
-        Err(fault) => fault.tell(err),
-    }
-}
-
-/// Makes the row file that the configuration at a path names, in the layout for rows of this version, and writes a line that says
-/// what was made, as `made station.db: station 2 of 3 circuit 7 layout 2`.
+/// Makes the row file that the configuration at a path names, and writes a line that says what was made, as
+/// `made station.db: station 2 of 3 circuit 7 layout 2`.
 ///
 /// The first fault ends it: of the configuration, of the row file, of the output. At the last the file is made.
 pub fn create<F: RowFiles, W: Write, E: Write>(
-    rt: &HostRuntime,
-    config: &str,
-    version: Version,
-    row_files: &F,
+    ground: &Ground<'_, ThisHost<'_>, F>,
+    plan: CreatePlan<'_>,
     out: &mut W,
     err: &mut E,
 ) -> End
-    ensures ends { IsOfRows result }
-    ensures done { result ≡ Done → IsCreated F.leaves row_files.now version (W.contents out.old) (W.contents out.new) }
+    ensures ends { CreateEnds F.leaves ground.now.row_files.now plan.entry.version (W.contents out.old) (W.contents out.new) result }
 {
-    let host = ThisHost { rt };
+    let rt = ground.rt;
     let file = ConfigInput {
-        path: config,
-        input: host.open(config),
+        path: plan.config,
+        input: ground.host.open(plan.config),
     };
     // No station is talked to, so no host is looked up.
-    match read_config(rt.alloc(), &NoLookUp, file, err) {
-        Ok(config) => create_from(rt, &config, version, row_files, out, err),
-        Err(end) => end,
+    let config = match read_config(rt.alloc(), &NoLookUp, file, err) {
+        Ok(config) => config,
+        Err(end) => return end,
+    };
+    let new = new_rows(&config, plan.version);
+    if let Err(refused) = ground.row_files.make(rt, new) {
+        return refused.tell(err);
+    }
+    match put_made(rt.alloc(), new, out) {
+        Ok(()) => End::Done,
+        Err(fault) => fault.tell(err),
     }
 }

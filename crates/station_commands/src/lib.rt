@@ -16,10 +16,10 @@ mod start_up;
 mod status_file;
 mod status_place;
 
-pub use create_start::create;
+pub use create_start::{CreatePlan, create};
 pub use host::{Host, ThisHost};
 pub use host_door::HostDoor;
 pub use host_wire::HostWire;
-pub use run_start::run;
+pub use run_start::{RunPlan, run};
 pub use serve_start::serve;
-pub use start_up::{Ground, Launch, Started, make_rows, start};
+pub use start_up::{Ground, Launch, Started, start};

@@ -47,17 +47,28 @@ fn open_folders<'r, E: Write>(
     }
 }
 
-/// The folders of the plant whose configuration was read from a path, if it has some. They are held from then on, until they are let go.
+/// The folders that a configuration names, if it names some, and where it was read.
+#[derive(Drop)]
+pub(crate) struct PlantPlan<'a> {
+    pub(crate) path: &'a str,
+    pub(crate) config: &'a Config,
+    pub(crate) folders: Option<WorkFolders>,
+}
+
+/// The folders of a plant, if it has some. They are held from then on, until they are let go.
 ///
 /// It is refused, and that is told, where files of this process may not grow, where a file of the station lies among its offers, where both
 /// folders are one or one is a place of the other, where its status file lies among its offers or would replace another of its files, and where another process works with one.
 pub(crate) fn open_plant<'r, E: Write>(
     rt: &'r HostRuntime,
-    path: &str,
-    config: &Config,
-    folders: Option<WorkFolders>,
+    plan: PlantPlan<'_>,
     err: &mut E,
 ) -> Result<Option<OpenPlant<'r>>, End> {
+    let PlantPlan {
+        path,
+        config,
+        folders,
+    } = plan;
     if let Some(limit) = file_limit() {
         let _ = writeln!(err, "limit: no file may have more than {limit} bytes");
         return Err(End::Input);

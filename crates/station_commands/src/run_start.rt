@@ -7,7 +7,7 @@ ghost use Rattle.row_files.specs.Knowing.{KnowsAll};
 use crate::first_line::{saved_of, tell_first};
 use crate::host::{Host, ThisHost};
 use crate::keys::keys_of;
-use crate::plant_start::{OpenPlant, open_plant};
+use crate::plant_start::{OpenPlant, PlantPlan, open_plant};
 use crate::start_up::{Ground, Launch, Started, start};
 use crate::status_file::HostStatus;
 use code_table::CodeTable;
@@ -191,24 +191,27 @@ fn run_from<F: RowFiles, E: Write>(
     end
 }
 
-/// What `run` is asked for: the path of a configuration, the version that rows are made in, where they are made, and how much is told.
+/// What `run` is asked for.
 #[derive(Clone, Copy)]
-struct RunPlan<'a> {
-    path: &'a str,
-    making: Option<Version>,
-    loudness: Loudness,
+pub struct RunPlan<'a> {
+    /// The path of the configuration.
+    pub config: &'a str,
+    /// The version that its rows are made in, where they are made first.
+    pub making: Option<Version>,
+    /// How much it tells, and how.
+    pub log: LogTerms,
 }
 
 /// Reads the configuration at a path and the keys that it names, and runs its station.
 fn run_at<F: RowFiles, E: Write>(
     ground: &Ground<'_, ThisHost<'_>, F>,
-    asked: RunPlan<'_>,
+    plan: RunPlan<'_>,
     err: &mut E,
 ) -> End {
     let rt = ground.rt;
     let file = ConfigInput {
-        path: asked.path,
-        input: ground.host.open(asked.path),
+        path: plan.config,
+        input: ground.host.open(plan.config),
     };
     let mut config = match read_config(rt.alloc(), &Resolver { net: rt }, file, err) {
         Ok(config) => config,
@@ -218,54 +221,43 @@ fn run_at<F: RowFiles, E: Write>(
         Ok(keys) => keys,
         Err(refused) => return refused.tell(err),
     };
-    let paths = config.folders.take();
-    let plant = match open_plant(rt, asked.path, &config, paths, err) {
+    let folders = config.folders.take();
+    let place = PlantPlan {
+        path: plan.config,
+        config: &config,
+        folders,
+    };
+    let plant = match open_plant(rt, place, err) {
         Ok(plant) => plant,
         Err(end) => return end,
     };
     let launch = Launch {
         config,
         keys,
-        making: asked.making,
+        making: plan.making,
         offer: None,
     };
     let running = Running {
         launch,
         plant,
-        loudness: asked.loudness,
+        loudness: plan.log.loudness,
     };
     run_from(ground, running, err)
 }
 
-/// Runs the station of the configuration at a path until it is stopped, with its rows saved in one of the files, made in a
-/// version first where one is given. What it tells it tells on these terms.
+/// Runs the station of the configuration at a path until it is stopped, with its rows saved in one of the files.
 ///
 /// What it starts from is looked for in this order, and the first fault ends it: the configuration, the file of keys, where its files and
 /// folders lie and who works with these, the code table, the widths, the saved rows, the socket. After a good end the rows are closed.
 pub fn run<F: RowFiles, E: Write>(
-    rt: &HostRuntime,
-    config: &str,
-    making: Option<Version>,
-    log: LogTerms,
-    row_files: &F,
+    ground: &Ground<'_, ThisHost<'_>, F>,
+    plan: RunPlan<'_>,
     err: &mut E,
 ) -> End {
-    let LogTerms { loudness, times } = log;
-    let host = ThisHost { rt };
-    let ground = Ground {
-        rt,
-        host: &host,
-        row_files,
-    };
-    let asked = RunPlan {
-        path: config,
-        making,
-        loudness,
-    };
-    if times {
-        let mut err = TimedLines::new(rt.alloc(), rt, err);
-        run_at(&ground, asked, &mut err)
+    if plan.log.times {
+        let mut err = TimedLines::new(ground.rt.alloc(), ground.rt, err);
+        run_at(ground, plan, &mut err)
     } else {
-        run_at(&ground, asked, err)
+        run_at(ground, plan, err)
     }
 }

@@ -94,20 +94,13 @@ fn launch_of<'a, E: Write>(
 /// the widths, the tape, the saved rows, the socket. A number without a tape, or a tape without a number, ends it
 /// before all of them, as usage; and so does a layout where no rows are to be made. After a good end the rows are closed.
 pub fn serve<F: RowFiles, W: Write, E: Write>(
-    rt: &HostRuntime,
+    ground: &Ground<'_, ThisHost<'_>, F>,
     plan: &Plan<'_>,
-    row_files: &F,
     out: &mut W,
     err: &mut E,
 ) -> End {
-    let host = ThisHost { rt };
-    let ground = Ground {
-        rt,
-        host: &host,
-        row_files,
-    };
-    match launch_of(rt, plan, err) {
-        Ok(launch) => serve_from(&ground, Serving { launch, plan }, out, err),
+    match launch_of(ground.rt, plan, err) {
+        Ok(launch) => serve_from(ground, Serving { launch, plan }, out, err),
         Err(end) => end,
     }
 }

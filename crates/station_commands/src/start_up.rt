@@ -1,19 +1,17 @@
 //! A station that starts from its configuration: the files that this names, its saved rows and its wire.
 
-ghost use Rattle.std.specs.Prelude.{◌≡◌, [], IfOk, OnOk, option_map, string_bytes};
+ghost use Rattle.std.specs.Prelude.{◌≡◌, [], IfOk, option_map, string_bytes};
 ghost use Rattle.configuration.specs.Reading.{file_of};
 ghost use Rattle.configuration.specs.Stations.{IsCircuit};
-ghost use Rattle.row_files.specs.Creating.{AreMade};
 ghost use Rattle.saved_rows.specs.Identity.{IsIdentity};
-ghost use Rattle.station_commands.specs.Starts.{identity_of, IsStationOf, IsTableAt, AreWidthsAt, IsOffer, AreRowsOf, AreRowsAt, IsWireOf};
+ghost use Rattle.station_commands.specs.Starts.{identity_of, IsStationOf, IsTableAt, AreWidthsAt, IsOffer, AreRowsAt, AreRowsFor, IsWireOf};
 
 use crate::files::{Files, read_files};
 use crate::host::Host;
 use code_table::CodeTable;
 use command_ends::{End, Fault};
 use configuration::Config;
-use line_check::Setting;
-use row_files::{RefusedRows, RowFiles, create_rows};
+use row_files::{NewRows, RefusedRows, RowFiles, create_rows};
 use row_groups::Grouped;
 use saved_rows::{Identity, Rows};
 use seals::Keys;
@@ -22,7 +20,6 @@ use std::alloc::Global;
 use std::io;
 use std::io::{ErrorKind, Write};
 use tape_frames::{Tape, Version};
-use widths::Widths;
 use wire::Wire;
 
 /// A station over its saved rows, with its wire, what it offers first, and its code table once more.
@@ -78,41 +75,42 @@ fn identity_of(config: &Config) -> Identity
 }
 
 /// The saved rows of this station in the file at a path, which is made first where a version is given, or taken up.
-fn rows_of<F: RowFiles>(
-    rt: &HostRuntime,
-    row_files: &F,
+fn rows_of<H: Host, F: RowFiles>(
+    ground: &Ground<'_, H, F>,
     path: &str,
     identity: Identity,
     making: Option<Version>,
 ) -> Result<F::Rows, RefusedRows>
     requires { IsIdentity identity }
-    ensures rows { IfOk result (AreRowsOf making (AreMade F.leaves F.takes_up F.Rows.version row_files.now path.now)
-        (F.takes_up row_files.now path.now) identity) }
+    ensures rows { IfOk result (AreRowsAt F.leaves F.takes_up F.Rows.version ground.now.row_files.now path.now making identity) }
     ensures open { IfOk result (λ rows. F.Rows.kept rows → F.Rows.is_open rows) }
 {
     match making {
-        Some(version) => create_rows(rt, row_files, path, identity, version),
-        None => row_files.open(rt, path, Some(identity)),
+        Some(version) => {
+            let new = NewRows {
+                path,
+                identity,
+                version,
+            };
+            create_rows(ground.rt, ground.row_files, new)
+        }
+        None => ground.row_files.open(ground.rt, path, Some(identity)),
     }
 }
 
-/// Makes the row file that a configuration names, for its station and in the layout for rows of this version, and tells whose rows
-/// they are.
-///
-/// It is refused as [`RowFiles::make`] is.
-pub fn make_rows<F: RowFiles>(
-    rt: &HostRuntime,
-    row_files: &F,
-    config: &Config,
-    version: Version,
-) -> Result<Identity, RefusedRows>
+/// The row file that a configuration names, as it is to be made: for its station, and in the layout for rows of this version.
+pub(crate) fn new_rows(config: &Config, version: Version) -> NewRows<'_>
     requires { IsCircuit config.now.member config.now.stations.items }
-    ensures made { OnOk result (F.leaves row_files.now (string_bytes config.now.rows) (identity_of (file_of config.now)) version) }
-    ensures identity { IfOk result (λ i. i ≡ identity_of (file_of config.now)) }
+    ensures path { result.path.now ≡ string_bytes config.now.rows }
+    ensures station { result.identity ≡ identity_of (file_of config.now) }
+    ensures is_one { IsIdentity result.identity }
+    ensures version { result.version ≡ version }
 {
-    let identity = identity_of(config);
-    row_files.make(rt, &config.rows, identity, version)?;
-    Ok(identity)
+    NewRows {
+        path: &config.rows,
+        identity: identity_of(config),
+        version,
+    }
 }
 
 /// Why there is no wire: there is no memory for it, or the socket can't be bound.
@@ -132,37 +130,6 @@ fn wire_of<'f, H: Host>(host: &H, config: Config, keys: Option<Keys>) -> Result<
     match host.bind(&own, config.stations, keys) {
         Ok(wire) => Ok(wire),
         Err(error) => Err(no_wire(&error)),
-    }
-}
-
-/// The station of this identity, by these files and over these rows.
-fn station_of<R: Rows>(
-    alloc: Global,
-    identity: Identity,
-    table: CodeTable,
-    widths: Widths,
-    rows: R,
-) -> Station<R>
-    requires { IsIdentity identity }
-    ensures station { IsStationOf identity result }
-    ensures table { result.table ≡ table }
-    ensures widths { result.widths ≡ widths }
-    ensures rows { result.rows ≡ rows }
-    ensures version { result.speaker.wire ≡ R.version rows }
-{
-    let Identity {
-        circuit,
-        member,
-        members,
-    } = identity;
-    let place = Membership {
-        circuit,
-        me: member,
-        members,
-    };
-    match Station::new(alloc, place, Setting { table, widths }, rows) {
-        Ok(station) => station,
-        Err(_) => unreachable!(),
     }
 }
 
@@ -191,13 +158,25 @@ fn start_over<'f, R: Rows, N: Wire + Drop>(
     let Ok(copy) = table.copy(alloc) else {
         return Err(Fault::OutOfMemory);
     };
-    let station = station_of(alloc, identity, table, widths, rows);
-    Ok(Started {
-        station,
-        wire,
-        offer,
-        table: copy,
-    })
+    let Identity {
+        circuit,
+        member,
+        members,
+    } = identity;
+    let place = Membership {
+        circuit,
+        me: member,
+        members,
+    };
+    match Station::new(alloc, place, Setting { table, widths }, rows) {
+        Ok(station) => Ok(Started {
+            station,
+            wire,
+            offer,
+            table: copy,
+        }),
+        Err(_) => unreachable!(),
+    }
 }
 
 /// The station of a configuration, over its saved rows in one of the files, which is made first where a version is given, and in
@@ -217,8 +196,7 @@ pub fn start<H: Host, F: RowFiles, E: Write>(
     ensures same { IfOk result (λ s. s.table ≡ s.station.table) }
     ensures widths { IfOk result (λ s. AreWidthsAt (H.text ground.now.host.now) (string_bytes launch.entry.config.widths) s.station.widths) }
     ensures offer { IfOk result (λ s. IsOffer (H.text ground.now.host.now) (option_map (λ o. (o.0, o.1.now)) launch.entry.offer) s.offer) }
-    ensures rows { IfOk result (λ s. AreRowsAt (AreMade F.leaves F.takes_up F.Rows.version) F.takes_up ground.now.row_files.now
-        (string_bytes launch.entry.config.rows) launch.entry.making (identity_of (file_of launch.entry.config)) s.station.rows.rows) }
+    ensures rows { IfOk result (λ s. AreRowsFor F.leaves F.takes_up F.Rows.version ground.now.row_files.now launch.entry s.station.rows.rows) }
     ensures waits { IfOk result (λ s. s.station.rows.waits ≡ []) }
     ensures open { IfOk result (λ s. F.Rows.kept s.station.rows.rows → F.Rows.is_open s.station.rows.rows) }
     ensures version { IfOk result (λ s. s.station.speaker.wire ≡ F.Rows.version s.station.rows.rows) }
@@ -236,7 +214,7 @@ pub fn start<H: Host, F: RowFiles, E: Write>(
         Err(fault) => return Err(fault.tell(err)),
     };
     let identity = identity_of(&config);
-    let rows = match rows_of(rt, ground.row_files, &config.rows, identity, making) {
+    let rows = match rows_of(ground, &config.rows, identity, making) {
         Ok(rows) => rows,
         Err(refused) => return Err(refused.tell(err)),
     };
