@@ -11,6 +11,7 @@ use crate::host::Host;
 use code_table::CodeTable;
 use command_ends::{End, Fault};
 use configuration::Config;
+use line_check::Setting;
 use row_files::{NewRows, RefusedRows, RowFiles, create_rows};
 use row_groups::Grouped;
 use saved_rows::{Identity, Rows};
