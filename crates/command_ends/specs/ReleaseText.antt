@@ -7,7 +7,9 @@ use Rattle.line_check.specs.declared.fault.Cause.{Cause}
 use Rattle.line_check.specs.declared.fault.Cause.TheVariants.{UnknownCode, NoWidth, Unfinished, Overset, Loose}
 use Rattle.line_check.specs.declared.fault.SetFault.{SetFault}
 use Rattle.line_check.specs.declared.slug.Slug.{Slug}
+use Rattle.tape_frames.specs.Entries.{lent_entry}
 use Rattle.command_ends.specs.EntryText.{entry_text}
+use Rattle.command_ends.specs.declared.releases.PrintedRelease.{PrintedRelease}
 
 -- the word of a cause, with the units by which a line is overset or loose, before its place
 abbrev pub cause_at : Cause → List ℕ → List ℕ
@@ -44,3 +46,7 @@ tape_release lead n text (Err fault) = faulty_line lead n text fault
 abbrev pub release_text : List ℕ → ℕ → Entry → Result (List Slug) SetFault → List ℕ
 release_text lead n Void set = plain_line lead n (entry_text Void)
 release_text lead n (Taped tape) set = tape_release lead n (entry_text (Taped tape)) set
+
+-- the text of a release that is to be printed
+abbrev pub printed_text : PrintedRelease → List ℕ
+printed_text r = release_text r.lead.now r.number (lent_entry r.entry) (lent r.set)

@@ -1,7 +1,7 @@
 //! The faults that a person reads on standard error.
 
 ghost use Rattle.std.specs.Prelude.{◌≡◌};
-ghost use Rattle.command_ends.specs.Ends.{end_of, end_of_rows, end_of_step, IsOfInput, IsOfRows};
+ghost use Rattle.command_ends.specs.Ends.{end_of, end_of_rows, end_of_step, IsOfInput, IsOfRows, IsOfWriting};
 ghost use Rattle.command_ends.specs.declared.end.End.TheVariants.{Done, Input};
 
 use crate::cause_words::{CauseText, RefusalText};
@@ -17,6 +17,15 @@ use streams::InputFault;
 use tape_frames::TapeFault;
 use thiserror::Error;
 use widths::WidthFault;
+
+/// Why a text was not written whole.
+#[derive(Clone, Copy)]
+pub enum PutFault {
+    /// Memory for it was refused.
+    OutOfMemory,
+    /// The output did not take all of it.
+    CannotWrite,
+}
 
 /// Why a command did not end well. Its text is one line.
 #[derive(Clone, Copy, Error)]
@@ -99,6 +108,17 @@ impl<'a> Fault<'a> {
             InputFault::CannotRead => Fault::CannotRead(path),
             InputFault::TooLong => Fault::InputTooLong,
             InputFault::OutOfMemory => Fault::OutOfMemory,
+        }
+    }
+
+    /// Why a text was not written whole.
+    pub fn of_writing(fault: PutFault) -> Fault<'a>
+        ensures cause { IsOfWriting result }
+        ensures end { IsOfInput (end_of result) }
+    {
+        match fault {
+            PutFault::OutOfMemory => Fault::OutOfMemory,
+            PutFault::CannotWrite => Fault::CannotWrite,
         }
     }
 

@@ -14,8 +14,10 @@ mod sources;
 pub use cause_words::{CauseText, RefusalText};
 pub use end::End;
 pub use entry_texts::entry_text;
-pub use fault::Fault;
+pub use fault::{Fault, PutFault};
 pub use paths::{ScriptPaths, TapePaths};
 pub use refusal::Refusal;
-pub use releases::put_release;
-pub use sources::{read_table, read_tape, read_text, read_widths, table_of, tape_of, widths_of};
+pub use releases::{PrintedRelease, put_line, put_release, put_set};
+pub use sources::{
+    read_table, read_tape, read_text, read_widths, table_of, tape_of, text_of, widths_of,
+};

@@ -1,11 +1,11 @@
 //! The files that a command is given: their texts, and what these are taken as.
 
-ghost use Rattle.std.specs.Prelude.{◌≡◌, Ok, IfOk, IfErr, IfSome};
+ghost use Rattle.std.specs.Prelude.{◌≡◌, Ok, IfSome};
 ghost use Rattle.toml.specs.Parse.{parse_document};
 ghost use Rattle.code_table.specs.Reading.{read_table};
 ghost use Rattle.widths.specs.Reading.{read_widths};
 ghost use Rattle.tape_frames.specs.Frames.{IsTape};
-ghost use Rattle.command_ends.specs.Ends.{end_of, IsOfInput};
+ghost use Rattle.command_ends.specs.Giving.{Gives};
 
 use crate::fault::Fault;
 use code_table::{CodeTable, TableFault};
@@ -22,14 +22,13 @@ pub fn read_text<'a, R: Read>(
     input: &mut R,
     path: &'a str,
 ) -> Result<Vec<u8>, Fault<'a>>
-    ensures ok { IfOk result (λ v. IfSome (R.remaining input.old) (λ xs. v.items ≡ xs)) }
-    ensures err { IfErr result (λ fault. IsOfInput (end_of fault)) }
+    ensures { Gives result (λ v. IfSome (R.remaining input.old) (λ xs. v.items ≡ xs)) }
 {
     read_input(alloc, input).map_err(|fault| Fault::of_input(fault, path))
 }
 
 /// The text of bytes that are UTF-8.
-fn text_of(bytes: &[u8]) -> Option<&str>
+pub fn text_of(bytes: &[u8]) -> Option<&str>
     ensures { IfSome result (λ text. text.now ≡ bytes.now) }
 {
     match str::from_utf8(bytes) {
@@ -40,8 +39,7 @@ fn text_of(bytes: &[u8]) -> Option<&str>
 
 /// The code table of a text. What isn't UTF-8 is not TOML.
 pub fn table_of<'a>(alloc: Global, bytes: &[u8]) -> Result<CodeTable, Fault<'a>>
-    ensures ok { IfOk result (λ table. read_table (parse_document bytes.now) ≡ Ok table) }
-    ensures err { IfErr result (λ fault. IsOfInput (end_of fault)) }
+    ensures { Gives result (λ table. read_table (parse_document bytes.now) ≡ Ok table) }
 {
     let Some(text) = text_of(bytes) else {
         return Err(Fault::of_table(TableFault::NotToml));
@@ -54,8 +52,7 @@ pub fn table_of<'a>(alloc: Global, bytes: &[u8]) -> Result<CodeTable, Fault<'a>>
 
 /// The width file of a text. What isn't UTF-8 is not TOML.
 pub fn widths_of<'a>(alloc: Global, bytes: &[u8]) -> Result<Widths, Fault<'a>>
-    ensures ok { IfOk result (λ widths. read_widths (parse_document bytes.now) ≡ Ok widths) }
-    ensures err { IfErr result (λ fault. IsOfInput (end_of fault)) }
+    ensures { Gives result (λ widths. read_widths (parse_document bytes.now) ≡ Ok widths) }
 {
     let Some(text) = text_of(bytes) else {
         return Err(Fault::of_widths(WidthFault::NotToml));
@@ -68,8 +65,7 @@ pub fn widths_of<'a>(alloc: Global, bytes: &[u8]) -> Result<Widths, Fault<'a>>
 
 /// The tape of a file with one frame per byte.
 pub fn tape_of<'a>(alloc: Global, bytes: &[u8]) -> Result<Tape, Fault<'a>>
-    ensures ok { IfOk result (λ tape. tape ≡ bytes.now) }
-    ensures err { IfErr result (λ fault. IsOfInput (end_of fault)) }
+    ensures { Gives result (λ tape. tape ≡ bytes.now) }
 {
     Tape::from_bytes(alloc, bytes).map_err(|fault| Fault::of_tape(fault))
 }
@@ -80,8 +76,7 @@ pub fn read_table<'a, R: Read>(
     input: &mut R,
     path: &'a str,
 ) -> Result<CodeTable, Fault<'a>>
-    ensures ok { IfOk result (λ table. IfSome (R.remaining input.old) (λ ts. read_table (parse_document ts) ≡ Ok table)) }
-    ensures err { IfErr result (λ fault. IsOfInput (end_of fault)) }
+    ensures { Gives result (λ table. IfSome (R.remaining input.old) (λ ts. read_table (parse_document ts) ≡ Ok table)) }
 {
     let text = read_text(alloc, input, path)?;
     table_of(alloc, &text)
@@ -93,8 +88,7 @@ pub fn read_widths<'a, R: Read>(
     input: &mut R,
     path: &'a str,
 ) -> Result<Widths, Fault<'a>>
-    ensures ok { IfOk result (λ widths. IfSome (R.remaining input.old) (λ ws. read_widths (parse_document ws) ≡ Ok widths)) }
-    ensures err { IfErr result (λ fault. IsOfInput (end_of fault)) }
+    ensures { Gives result (λ widths. IfSome (R.remaining input.old) (λ ws. read_widths (parse_document ws) ≡ Ok widths)) }
 {
     let text = read_text(alloc, input, path)?;
     widths_of(alloc, &text)
@@ -106,8 +100,7 @@ pub fn read_tape<'a, R: Read>(
     input: &mut R,
     path: &'a str,
 ) -> Result<Tape, Fault<'a>>
-    ensures ok { IfOk result (λ tape. IfSome (R.remaining input.old) (λ xs. tape ≡ xs)) }
-    ensures err { IfErr result (λ fault. IsOfInput (end_of fault)) }
+    ensures { Gives result (λ tape. IfSome (R.remaining input.old) (λ xs. tape ≡ xs)) }
 {
     let frames = read_text(alloc, input, path)?;
     tape_of(alloc, &frames)

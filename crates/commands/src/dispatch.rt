@@ -19,7 +19,7 @@ use draw_command::{ChartingOrder, DrawOrder, SettingPaths, chart, draw};
 use editor_commands::StoryPaths;
 use plant_commands::{check_config, stop};
 use reel_commands::ChartPaths;
-use rehearse_command::rehearse;
+use rehearse_command::{RehearsalOrder, rehearse};
 use row_files::RowFiles;
 use station_commands::{CreatePlan, Ground, RunPlan, ThisHost, create, run, serve};
 use status_command::{Shape, status};
@@ -102,18 +102,13 @@ fn run_rehearse<F: RowFiles, R: Read + Drop, W: Write + Drop, E: Write + Drop>(
 ) -> End {
     let rt = console.rt;
     let Console { out, err, .. } = console;
-    let mut table = InputFile::at(rt, paths.table);
-    let mut widths = InputFile::at(rt, paths.widths);
-    let mut script = InputFile::at(rt, paths.script);
-    rehearse(
-        rt.alloc(),
+    let order = RehearsalOrder {
         paths,
-        &mut table,
-        &mut widths,
-        &mut script,
-        out,
-        err,
-    )
+        table: InputFile::at(rt, paths.table),
+        widths: InputFile::at(rt, paths.widths),
+        script: InputFile::at(rt, paths.script),
+    };
+    rehearse(rt.alloc(), order, out, err)
 }
 
 /// How a status is printed.

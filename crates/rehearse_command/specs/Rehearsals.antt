@@ -73,6 +73,47 @@ abbrev pub IsStaged : Inputs → Option (List ℕ) → Option (List ℕ) → Opt
 IsStaged by start now None = Appends start now []
 IsStaged by start now (Some stage) = IsOn by start now stage
 
+-- a new stage stands wherever nothing was written, by the texts that its members are set up by
+abbrev pub StandsNew : Given → World MemoryOf → Type 0
+StandsNew member v = (by : Inputs) (start now : Option (List ℕ)) → IsSetUpBy by member → Appends start now [] → Stands by start now v
+
+-- the same of the stage that the first line sets
+abbrev pub BeginsOn : Given → Rehearsal → Type 0
+BeginsOn member stage = (by : Inputs) (start now : Option (List ℕ)) → IsSetUpBy by member → Appends start now [] → IsOn by start now stage
+
+-- a stage that is set anew goes on from the one before
+abbrev pub TurnsOn : {A E : Type 0} → Given → Result A E → Rehearsal → Rehearsal → Type 0
+TurnsOn member result old new =
+    (by : Inputs) (start now : Option (List ℕ)) → IsSetUpBy by member → IsOn by start now old → OnOk result (IsOn by start now new)
+
+-- a line was played on the stage, and what was written goes on to be what is shown there
+abbrev pub PlaysOn : {A E : Type 0} → Given → Result A E → Option (List ℕ) → Rehearsal → Option (List ℕ) → Rehearsal → Type 0
+PlaysOn member result was old now new =
+    (by : Inputs) (start : Option (List ℕ)) → IsSetUpBy by member → IsOn by start was old → OnOk result (IsOn by start now new)
+
+-- or it stops there as a front of it
+abbrev pub StopsOn : {A E : Type 0} → Result A E → Option (List ℕ) → Rehearsal → Option (List ℕ) → Rehearsal → Type 0
+StopsOn result was old now new =
+    (by : Inputs) (start : Option (List ℕ)) → IsOn by start was old → OnErr result (StandsFront by start now new.world)
+
+-- a line was played, be there a stage already or not, and what was written goes on to be what is shown
+abbrev pub PlaysStaged : {A E : Type 0} → Given → Result A E → Option (List ℕ) → Option Rehearsal → Option (List ℕ) → Option Rehearsal → Type 0
+PlaysStaged member result was old now new =
+    (by : Inputs) (start : Option (List ℕ)) → IsSetUpBy by member → IsStaged by start was old → OnOk result (IsStaged by start now new)
+
 -- nothing was written, or what is shown of some world that agrees
 abbrev pub Rehearses : Inputs → (List ℕ → Type 0) → Type 0
 Rehearses by IsWritten = IsWritten [] ⊎ ((v : World MemoryOf) × Shows by v IsWritten)
+
+-- or it stops as a front of it
+abbrev pub StopsStaged : {A E : Type 0} → Given → Result A E → Option (List ℕ) → Option Rehearsal → Option (List ℕ) → Type 0
+StopsStaged member result was old now =
+    (by : Inputs) (start : Option (List ℕ)) → IsSetUpBy by member → IsStaged by start was old → OnErr result (Rehearses by (AppendsFront start now))
+
+-- all lines were played, and all was written that a rehearsal of such members shows
+abbrev pub PlaysAll : {A E : Type 0} → Given → Result A E → Option (List ℕ) → Option (List ℕ) → Type 0
+PlaysAll member result old new = (by : Inputs) → IsSetUpBy by member → OnOk result (Rehearses by (Appends old new))
+
+-- the lines were played up to one, and a front of that was written
+abbrev pub PlaysFront : {A E : Type 0} → Given → Result A E → Option (List ℕ) → Option (List ℕ) → Type 0
+PlaysFront member result old new = (by : Inputs) → IsSetUpBy by member → OnErr result (Rehearses by (AppendsFront old new))

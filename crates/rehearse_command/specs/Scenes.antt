@@ -18,6 +18,7 @@ use Rattle.world.specs.Reach.{StandsFor}
 use Rattle.world.specs.Taking.{actor, step_value, EndsAs}
 use Rattle.step_lines.specs.Datagrams.{datagrams_text}
 use Rattle.rehearse_command.specs.Lines.{outcome_line, released_text}
+use Rattle.rehearse_command.specs.declared.scene_lines.ShownStep.{ShownStep}
 
 -- one step: who acted and how it ended, the datagrams that were sent in it and the entries that were released
 pub record Scene : Type 0 where
@@ -33,6 +34,10 @@ scene_of seen sent releases = record { member = seen.member; outcome = seen.outc
 -- what is shown of a step, before which so many datagrams were sent
 abbrev pub scene_text : ℕ → Scene → List ℕ
 scene_text before s = outcome_line s.member s.outcome ++ (datagrams_text before s.sent ++ flat_map released_text s.releases)
+
+-- what is shown of a step that was seen
+abbrev pub shown_text : ShownStep → List ℕ
+shown_text s = scene_text s.before (scene_of s.seen s.sent.now s.releases.now)
 
 -- what is shown of steps, one after the other
 abbrev pub scenes_text : ℕ → List Scene → List ℕ

@@ -5,5 +5,5 @@ mod outcomes;
 mod rehearsal;
 mod scene_lines;
 
-pub use rehearsal::rehearse;
+pub use rehearsal::{RehearsalOrder, rehearse};
 pub use step_lines::NoteText;

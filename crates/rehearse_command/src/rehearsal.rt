@@ -1,6 +1,6 @@
 //! The command `rehearse`: a whole circuit in one process, driven by a script.
 
-ghost use Rattle.std.specs.Prelude.{◌≡◌, ℕ, List, [], Option, OnOk, OnErr, IfOk, IfErr, true, false};
+ghost use Rattle.std.specs.Prelude.{◌≡◌, OnOk, OnErr, IfOk, IfErr, true, false};
 ghost use Rattle.std.specs.List.{All};
 ghost use Rattle.std.specs.Io.KnownBytes.{Appends};
 ghost use Rattle.streams.specs.Fronts.{AppendsFront};
@@ -9,11 +9,11 @@ ghost use Rattle.command_ends.specs.declared.end.End.TheVariants.{Done};
 ghost use Rattle.protocol.specs.Versions.{One};
 ghost use Rattle.tape_frames.specs.Entries.{version_of};
 ghost use Rattle.rehearse_command.specs.Orders.{step_of};
-ghost use Rattle.rehearse_command.specs.Rehearsals.{BeginsIn, GoesOn, Inputs, IsOn, IsSetUpBy, IsStaged, inputs, Rehearses, Stands, StandsFront, Stops};
+ghost use Rattle.rehearse_command.specs.Rehearsals.{BeginsIn, BeginsOn, GoesOn, inputs, PlaysAll, PlaysFront, PlaysOn, PlaysStaged, Rehearses, StandsNew, Stops, StopsOn, StopsStaged, TurnsOn};
 
-use crate::scene_lines::put_scene;
+use crate::scene_lines::{ShownStep, put_scene};
 use code_table::CodeTable;
-use command_ends::{End, Fault, ScriptPaths, read_table, read_text, read_widths};
+use command_ends::{End, Fault, PutFault, ScriptPaths, read_table, read_text, read_widths};
 use saved_rows::MemoryRows;
 use script_lines::{Order, ScriptFault, is_ignored, order_of};
 use std::alloc::{AllocError, Global};
@@ -37,56 +37,66 @@ struct Rehearsal {
     is_new: bool,
 }
 
-/// What each member sets tapes by.
+/// What each member sets tapes by, and where its memory is from.
 #[derive(Clone, Copy)]
 struct MemberSetting<'a> {
+    alloc: Global,
     table: &'a CodeTable,
     widths: &'a Widths,
 }
 
+/// Why a line is not played.
+#[derive(Clone, Copy)]
+enum LineStop {
+    /// It asks for what can't be done.
+    Refused(&'static str),
+    /// What it shows was not written whole, or there was no memory for it.
+    Unwritten(PutFault),
+}
+
+impl LineStop {
+    /// What is told of it, where it ended this line, counted from 1.
+    fn at<'a>(self, line: usize) -> Fault<'a>
+        ensures { IsOfInput (end_of result) }
+    {
+        match self {
+            LineStop::Refused(what) => Fault::script(line, what),
+            LineStop::Unwritten(fault) => Fault::of_writing(fault),
+        }
+    }
+}
+
 /// So many members, each with a copy of this table and of these widths.
-fn members_of(
-    alloc: Global,
-    setting: MemberSetting<'_>,
-    count: u8,
-) -> Result<Vec<(CodeTable, Widths)>, AllocError>
+fn members_of(setting: MemberSetting<'_>, count: u8) -> Result<Vec<(CodeTable, Widths)>, AllocError>
     ensures { IfOk result (λ members. All (λ member. member ≡ (setting.entry.table.now, setting.entry.widths.now)) members.items) }
 {
-    let mut members = Vec::with_capacity(alloc, usize::from(count))?;
+    let mut members = Vec::with_capacity(setting.alloc, usize::from(count))?;
     for _ in 0..count {
-        let table = setting.table.copy(alloc)?;
-        let widths = setting.widths.copy(alloc)?;
+        let table = setting.table.copy(setting.alloc)?;
+        let widths = setting.widths.copy(setting.alloc)?;
         members.push((table, widths))?;
     }
     Ok(members)
 }
 
 /// A circuit of so many members in this version, in which nothing has happened yet.
-fn stage_of<'a>(
-    alloc: Global,
-    setting: MemberSetting<'_>,
-    line: usize,
-    count: u8,
-    version: Version,
-) -> Result<Rehearsal, Fault<'a>>
+fn stage_of(setting: MemberSetting<'_>, count: u8, version: Version) -> Result<Rehearsal, LineStop>
     ensures begins { IfOk result (λ stage. BeginsIn (version_of version) stage.world) }
-    ensures stands { IfOk result (λ stage. (by : Inputs) (start now : Option (List ℕ)) → IsSetUpBy by (setting.entry.table.now, setting.entry.widths.now)
-        → Appends start now [] → Stands by start now stage.world) }
-    ensures ends { IfErr result (λ fault. IsOfInput (end_of fault)) }
+    ensures stands { IfOk result (λ stage. StandsNew (setting.entry.table.now, setting.entry.widths.now) stage.world) }
 {
-    let Ok(members) = members_of(alloc, setting, count) else {
-        return Err(Fault::OutOfMemory);
+    let Ok(members) = members_of(setting, count) else {
+        return Err(LineStop::Unwritten(PutFault::OutOfMemory));
     };
-    match circuit_in_memory(alloc, CIRCUIT, version, members) {
+    match circuit_in_memory(setting.alloc, CIRCUIT, version, members) {
         Ok(world) => Ok(Rehearsal {
             world,
             now: 0,
-            text: String::new(alloc),
+            text: String::new(setting.alloc),
             count,
             is_new: true,
         }),
-        Err(PlayFault::BadCount) => Err(Fault::script(line, "bad line")),
-        Err(PlayFault::OutOfMemory) => Err(Fault::OutOfMemory),
+        Err(PlayFault::BadCount) => Err(LineStop::Refused("bad line")),
+        Err(PlayFault::OutOfMemory) => Err(LineStop::Unwritten(PutFault::OutOfMemory)),
     }
 }
 
@@ -128,78 +138,63 @@ fn step_of(order: Order, now: u64) -> Option<Step>
 }
 
 /// Why a line is not played whose step a world refuses.
-fn fault_of<'a>(refusal: WorldRefusal, line: usize) -> Fault<'a>
-    ensures { IsOfInput (end_of result) }
-{
+fn stop_of(refusal: WorldRefusal) -> LineStop {
     match refusal {
-        WorldRefusal::NoSuchMember => Fault::script(line, "no such member"),
-        WorldRefusal::NoSuchDatagram => Fault::script(line, "no such datagram"),
-        WorldRefusal::OutOfMemory => Fault::OutOfMemory,
-    }
-}
-
-/// Takes a step, and shows what it did.
-fn show_step<'a, W: Write>(
-    alloc: Global,
-    world: &mut World<MemoryRows>,
-    step: &Step,
-    line: usize,
-    text: &mut String,
-    out: &mut W,
-) -> Result<(), Fault<'a>>
-    ensures goes_on { GoesOn result (W.contents out.old) world.old (W.contents out.new) world.new }
-    ensures stops { Stops result (W.contents out.old) world.old (W.contents out.new) world.new }
-    ensures ends { IfErr result (λ fault. IsOfInput (end_of fault)) }
-{
-    let (sent, released) = (world.sent().len(), world.releases().len());
-    match world.step(step) {
-        Ok(seen) => {
-            let (_, new_sent) = world.sent().split_at(sent);
-            let (_, new_releases) = world.releases().split_at(released);
-            put_scene(alloc, text, &seen, sent, new_sent, new_releases, out)
-        }
-        Err(refusal) => Err(fault_of(refusal, line)),
+        WorldRefusal::NoSuchMember => LineStop::Refused("no such member"),
+        WorldRefusal::NoSuchDatagram => LineStop::Refused("no such datagram"),
+        WorldRefusal::OutOfMemory => LineStop::Unwritten(PutFault::OutOfMemory),
     }
 }
 
 impl Rehearsal {
     /// Sets the stage anew with its members in this version, as long as it is new.
-    fn turn_to<'a>(
-        &mut self,
-        alloc: Global,
-        setting: MemberSetting<'_>,
-        line: usize,
-        version: Version,
-    ) -> Result<(), Fault<'a>>
+    fn turn_to(&mut self, setting: MemberSetting<'_>, version: Version) -> Result<(), LineStop>
         ensures early { OnOk result (self.old.is_new ≡ true) }
         ensures begins { OnOk result (BeginsIn (version_of version) self.new.world) }
-        ensures goes_on { (by : Inputs) (start now : Option (List ℕ)) → IsSetUpBy by (setting.entry.table.now, setting.entry.widths.now)
-            → IsOn by start now self.old → OnOk result (IsOn by start now self.new) }
+        ensures goes_on { TurnsOn (setting.entry.table.now, setting.entry.widths.now) result self.old self.new }
         ensures stops { OnErr result (self.new.world ≡ self.old.world) }
         ensures no_more { OnOk result (self.new.is_new ≡ false) }
-        ensures ends { IfErr result (λ fault. IsOfInput (end_of fault)) }
     {
         if !self.is_new {
-            return Err(Fault::script(line, "bad line"));
+            return Err(LineStop::Refused("bad line"));
         }
-        let mut stage = stage_of(alloc, setting, line, self.count, version)?;
+        let mut stage = stage_of(setting, self.count, version)?;
         stage.is_new = false;
         *self = stage;
         Ok(())
     }
 
+    /// Takes a step, and shows what it did.
+    fn show<W: Write>(&mut self, alloc: Global, step: &Step, out: &mut W) -> Result<(), LineStop>
+        ensures goes_on { GoesOn result (W.contents out.old) self.old.world (W.contents out.new) self.new.world }
+        ensures stops { Stops result (W.contents out.old) self.old.world (W.contents out.new) self.new.world }
+        ensures stays { self.new.is_new ≡ self.old.is_new }
+    {
+        let (sent, released) = (self.world.sent().len(), self.world.releases().len());
+        match self.world.step(step) {
+            Ok(seen) => {
+                let (_, new_sent) = self.world.sent().split_at(sent);
+                let (_, new_releases) = self.world.releases().split_at(released);
+                let shown = ShownStep {
+                    seen,
+                    before: sent,
+                    sent: new_sent,
+                    releases: new_releases,
+                };
+                match put_scene(alloc, &mut self.text, &shown, out) {
+                    Ok(()) => Ok(()),
+                    Err(fault) => Err(LineStop::Unwritten(fault)),
+                }
+            }
+            Err(refusal) => Err(stop_of(refusal)),
+        }
+    }
+
     /// Takes the step that a line orders, and shows what it did.
-    fn play<'a, W: Write>(
-        &mut self,
-        alloc: Global,
-        order: Order,
-        line: usize,
-        out: &mut W,
-    ) -> Result<(), Fault<'a>>
+    fn play<W: Write>(&mut self, alloc: Global, order: Order, out: &mut W) -> Result<(), LineStop>
         ensures goes_on { GoesOn result (W.contents out.old) self.old.world (W.contents out.new) self.new.world }
         ensures stops { Stops result (W.contents out.old) self.old.world (W.contents out.new) self.new.world }
         ensures no_more { self.new.is_new ≡ false }
-        ensures ends { IfErr result (λ fault. IsOfInput (end_of fault)) }
     {
         self.is_new = false;
         if let Order::At(moment) = order {
@@ -207,75 +202,63 @@ impl Rehearsal {
             return Ok(());
         }
         match step_of(order, self.now) {
-            Some(step) => show_step(alloc, &mut self.world, &step, line, &mut self.text, out),
-            None => Err(Fault::script(line, "bad line")),
+            Some(step) => self.show(alloc, &step, out),
+            None => Err(LineStop::Refused("bad line")),
         }
     }
 }
 
 /// Sets the stage by the first line that is not ignored. Its members are in version 1 until the next line says else.
-fn set_stage<'a>(
-    alloc: Global,
+fn set_stage(
     setting: MemberSetting<'_>,
-    line: usize,
     order: Result<Order, ScriptFault>,
-) -> Result<Rehearsal, Fault<'a>>
+) -> Result<Rehearsal, LineStop>
     ensures begins { IfOk result (λ stage. BeginsIn One stage.world) }
-    ensures stands { IfOk result (λ stage. (by : Inputs) (start now : Option (List ℕ)) → IsSetUpBy by (setting.entry.table.now, setting.entry.widths.now)
-        → Appends start now [] → IsOn by start now stage) }
-    ensures ends { IfErr result (λ fault. IsOfInput (end_of fault)) }
+    ensures stands { IfOk result (λ stage. BeginsOn (setting.entry.table.now, setting.entry.widths.now) stage) }
 {
     match order {
-        Ok(Order::Members(count)) => stage_of(alloc, setting, line, count, Version::One),
-        Err(ScriptFault::OutOfMemory) => Err(Fault::OutOfMemory),
-        _ => Err(Fault::script(line, "bad line")),
+        Ok(Order::Members(count)) => stage_of(setting, count, Version::One),
+        Err(ScriptFault::OutOfMemory) => Err(LineStop::Unwritten(PutFault::OutOfMemory)),
+        _ => Err(LineStop::Refused("bad line")),
     }
 }
 
 /// Plays a line on the stage that is set.
-fn play_order<'a, W: Write>(
-    alloc: Global,
+fn play_order<W: Write>(
     setting: MemberSetting<'_>,
     stage: &mut Rehearsal,
-    line: usize,
     order: Result<Order, ScriptFault>,
     out: &mut W,
-) -> Result<(), Fault<'a>>
-    ensures goes_on { (by : Inputs) (start : Option (List ℕ)) → IsSetUpBy by (setting.entry.table.now, setting.entry.widths.now)
-        → IsOn by start (W.contents out.old) stage.old → OnOk result (IsOn by start (W.contents out.new) stage.new) }
-    ensures stops { (by : Inputs) (start : Option (List ℕ))
-        → IsOn by start (W.contents out.old) stage.old → OnErr result (StandsFront by start (W.contents out.new) stage.new.world) }
-    ensures ends { IfErr result (λ fault. IsOfInput (end_of fault)) }
+) -> Result<(), LineStop>
+    ensures goes_on { PlaysOn (setting.entry.table.now, setting.entry.widths.now) result
+        (W.contents out.old) stage.old (W.contents out.new) stage.new }
+    ensures stops { StopsOn result (W.contents out.old) stage.old (W.contents out.new) stage.new }
 {
     match order {
-        Ok(Order::Wire(version)) => stage.turn_to(alloc, setting, line, version),
-        Ok(order) => stage.play(alloc, order, line, out),
-        Err(ScriptFault::OutOfMemory) => Err(Fault::OutOfMemory),
-        Err(ScriptFault::BadTape) => Err(Fault::script(line, "bad tape")),
-        Err(ScriptFault::BadLine) => Err(Fault::script(line, "bad line")),
+        Ok(Order::Wire(version)) => stage.turn_to(setting, version),
+        Ok(order) => stage.play(setting.alloc, order, out),
+        Err(ScriptFault::OutOfMemory) => Err(LineStop::Unwritten(PutFault::OutOfMemory)),
+        Err(ScriptFault::BadTape) => Err(LineStop::Refused("bad tape")),
+        Err(ScriptFault::BadLine) => Err(LineStop::Refused("bad line")),
     }
 }
 
 /// Plays one line that is not ignored. The first such line sets the stage.
-fn play_line<'a, W: Write>(
-    alloc: Global,
+fn play_line<W: Write>(
     setting: MemberSetting<'_>,
     stage: &mut Option<Rehearsal>,
-    line: usize,
     words: &[u8],
     out: &mut W,
-) -> Result<(), Fault<'a>>
-    ensures goes_on { (by : Inputs) (start : Option (List ℕ)) → IsSetUpBy by (setting.entry.table.now, setting.entry.widths.now)
-        → IsStaged by start (W.contents out.old) stage.old → OnOk result (IsStaged by start (W.contents out.new) stage.new) }
-    ensures stops { (by : Inputs) (start : Option (List ℕ)) → IsSetUpBy by (setting.entry.table.now, setting.entry.widths.now)
-        → IsStaged by start (W.contents out.old) stage.old → OnErr result (Rehearses by (AppendsFront start (W.contents out.new))) }
-    ensures ends { IfErr result (λ fault. IsOfInput (end_of fault)) }
+) -> Result<(), LineStop>
+    ensures goes_on { PlaysStaged (setting.entry.table.now, setting.entry.widths.now) result
+        (W.contents out.old) stage.old (W.contents out.new) stage.new }
+    ensures stops { StopsStaged (setting.entry.table.now, setting.entry.widths.now) result (W.contents out.old) stage.old (W.contents out.new) }
 {
-    let order = order_of(alloc, words);
+    let order = order_of(setting.alloc, words);
     match stage {
-        Some(stage) => play_order(alloc, setting, stage, line, order, out),
+        Some(stage) => play_order(setting, stage, order, out),
         None => {
-            *stage = Some(set_stage(alloc, setting, line, order)?);
+            *stage = Some(set_stage(setting, order)?);
             Ok(())
         }
     }
@@ -288,21 +271,20 @@ fn lines_of<'a>(alloc: Global, script: &'a [u8]) -> Result<Vec<&'a [u8]>, AllocE
 
 /// Plays lines, up to the first fault. Where there is none, the memory of the circuit is not given back.
 fn play_lines<'a, W: Write>(
-    alloc: Global,
     setting: MemberSetting<'_>,
     lines: &[&[u8]],
     out: &mut W,
 ) -> Result<(), Fault<'a>>
-    ensures ok { (by : Inputs) → IsSetUpBy by (setting.entry.table.now, setting.entry.widths.now)
-        → OnOk result (Rehearses by (Appends (W.contents out.old) (W.contents out.new))) }
-    ensures err { (by : Inputs) → IsSetUpBy by (setting.entry.table.now, setting.entry.widths.now)
-        → OnErr result (Rehearses by (AppendsFront (W.contents out.old) (W.contents out.new))) }
+    ensures ok { PlaysAll (setting.entry.table.now, setting.entry.widths.now) result (W.contents out.old) (W.contents out.new) }
+    ensures err { PlaysFront (setting.entry.table.now, setting.entry.widths.now) result (W.contents out.old) (W.contents out.new) }
     ensures ends { IfErr result (λ fault. IsOfInput (end_of fault)) }
 {
     let mut stage = None;
     for (index, words) in lines.iter().enumerate() {
         if !is_ignored(words) {
-            play_line(alloc, setting, &mut stage, index + 1, words, out)?;
+            if let Err(stop) = play_line(setting, &mut stage, words, out) {
+                return Err(stop.at(index + 1));
+            }
         }
     }
     // The process ends with its rehearsal, so the memory of the circuit is not given back piece by piece: that took up to a fifth of
@@ -313,48 +295,60 @@ fn play_lines<'a, W: Write>(
 
 /// Plays all lines, up to the first fault.
 fn play_all<'a, W: Write>(
-    alloc: Global,
     setting: MemberSetting<'_>,
     script: &[u8],
     out: &mut W,
 ) -> Result<(), Fault<'a>>
-    ensures ok { (by : Inputs) → IsSetUpBy by (setting.entry.table.now, setting.entry.widths.now)
-        → OnOk result (Rehearses by (Appends (W.contents out.old) (W.contents out.new))) }
-    ensures err { (by : Inputs) → IsSetUpBy by (setting.entry.table.now, setting.entry.widths.now)
-        → OnErr result (Rehearses by (AppendsFront (W.contents out.old) (W.contents out.new))) }
+    ensures ok { PlaysAll (setting.entry.table.now, setting.entry.widths.now) result (W.contents out.old) (W.contents out.new) }
+    ensures err { PlaysFront (setting.entry.table.now, setting.entry.widths.now) result (W.contents out.old) (W.contents out.new) }
     ensures ends { IfErr result (λ fault. IsOfInput (end_of fault)) }
 {
-    let Ok(lines) = lines_of(alloc, script) else {
+    let Ok(lines) = lines_of(setting.alloc, script) else {
         return Err(Fault::OutOfMemory);
     };
-    play_lines(alloc, setting, &lines, out)?;
+    play_lines(setting, &lines, out)?;
     match out.flush() {
         Ok(()) => Ok(()),
         Err(_) => Err(Fault::CannotWrite),
     }
 }
 
+/// What `rehearse` is asked: where its three files are, and what they are read from.
+#[derive(Drop)]
+pub struct RehearsalOrder<'a, R: Read + Drop, S: Read + Drop, T: Read + Drop> {
+    pub paths: &'a ScriptPaths<'a>,
+    pub table: R,
+    pub widths: S,
+    pub script: T,
+}
+
 /// The same, from the three files.
-fn rehearsed<'a, R: Read, S: Read, T: Read, W: Write>(
+fn rehearsed<'a, R: Read + Drop, S: Read + Drop, T: Read + Drop, W: Write>(
     alloc: Global,
-    paths: &ScriptPaths<'a>,
-    table: &mut R,
-    widths: &mut S,
-    script: &mut T,
+    order: RehearsalOrder<'a, R, S, T>,
     out: &mut W,
 ) -> Result<(), Fault<'a>>
-    ensures ok { OnOk result (Rehearses (inputs (R.remaining table.old) (S.remaining widths.old)) (Appends (W.contents out.old) (W.contents out.new))) }
-    ensures err { OnErr result (Rehearses (inputs (R.remaining table.old) (S.remaining widths.old)) (AppendsFront (W.contents out.old) (W.contents out.new))) }
+    ensures ok { OnOk result (Rehearses (inputs (R.remaining order.entry.table) (S.remaining order.entry.widths))
+        (Appends (W.contents out.old) (W.contents out.new))) }
+    ensures err { OnErr result (Rehearses (inputs (R.remaining order.entry.table) (S.remaining order.entry.widths))
+        (AppendsFront (W.contents out.old) (W.contents out.new))) }
     ensures ends { IfErr result (λ fault. IsOfInput (end_of fault)) }
 {
-    let table = read_table(alloc, table, paths.table)?;
-    let widths = read_widths(alloc, widths, paths.widths)?;
-    let script = read_text(alloc, script, paths.script)?;
+    let RehearsalOrder {
+        paths,
+        mut table,
+        mut widths,
+        mut script,
+    } = order;
+    let table = read_table(alloc, &mut table, paths.table)?;
+    let widths = read_widths(alloc, &mut widths, paths.widths)?;
+    let script = read_text(alloc, &mut script, paths.script)?;
     let setting = MemberSetting {
+        alloc,
         table: &table,
         widths: &widths,
     };
-    play_all(alloc, setting, &script, out)
+    play_all(setting, &script, out)
 }
 
 /// Rehearses a circuit by a script: each line's step, what it sends and what it releases are written as they come.
@@ -367,21 +361,20 @@ fn rehearsed<'a, R: Read, S: Read, T: Read, W: Write>(
 /// Whatever the lines are, what is written is what a circuit did, step by step, whose members are set up by these texts
 /// and begin in one version, and its releases agree: no two of one number differ, and each released entry was offered for
 /// its number.
-pub fn rehearse<R: Read, S: Read, T: Read, W: Write, E: Write>(
+pub fn rehearse<R: Read + Drop, S: Read + Drop, T: Read + Drop, W: Write, E: Write>(
     alloc: Global,
-    paths: &ScriptPaths<'_>,
-    table: &mut R,
-    widths: &mut S,
-    script: &mut T,
+    order: RehearsalOrder<'_, R, S, T>,
     out: &mut W,
     err: &mut E,
 ) -> End
     // Where it ends well, all is written that is shown of such a circuit; otherwise a front of that.
-    ensures done { result ≡ Done → Rehearses (inputs (R.remaining table.old) (S.remaining widths.old)) (Appends (W.contents out.old) (W.contents out.new)) }
-    ensures front { Rehearses (inputs (R.remaining table.old) (S.remaining widths.old)) (AppendsFront (W.contents out.old) (W.contents out.new)) }
+    ensures done { result ≡ Done → Rehearses (inputs (R.remaining order.entry.table) (S.remaining order.entry.widths))
+        (Appends (W.contents out.old) (W.contents out.new)) }
+    ensures front { Rehearses (inputs (R.remaining order.entry.table) (S.remaining order.entry.widths))
+        (AppendsFront (W.contents out.old) (W.contents out.new)) }
     ensures ends { IsOfInput result }
 {
-    match rehearsed(alloc, paths, table, widths, script, out) {
+    match rehearsed(alloc, order, out) {
         Ok(()) => End::Done,
         Err(fault) => {
             // What the lines before the fault wrote stays.

@@ -1,15 +1,13 @@
 //! Releases that are printed as they come.
 
-ghost use Rattle.std.specs.Prelude.{◌≡◌, OnOk, OnErr, IfErr, option_copied};
-ghost use Rattle.std.specs.Io.KnownBytes.{Appends};
-ghost use Rattle.streams.specs.Fronts.{AppendsFront};
+ghost use Rattle.std.specs.Prelude.{◌≡◌, option_copied};
 ghost use Rattle.station.specs.Readiness.{slugs_of};
-ghost use Rattle.command_ends.specs.Ends.{IsOfWriting};
 ghost use Rattle.command_ends.specs.ReleaseText.{lent};
+ghost use Rattle.command_ends.specs.Writing.{Writes};
 ghost use Rattle.serve_command.specs.Serving.{release_of, printing};
 ghost use Rattle.serve_command.specs.Printed.{Printed, PrintedFront, printed};
 
-use command_ends::{Fault, put_release};
+use command_ends::{Fault, PrintedRelease, PutFault, put_release};
 use driver::{HeardDatagram, Log, Outlet, Sink, TakenStep};
 use line_check::{SetFault, Slug};
 use station::Release;
@@ -26,26 +24,27 @@ fn lent_slugs(release: &Release) -> Result<&[Slug], SetFault>
     }
 }
 
-fn put<W: Write>(alloc: Global, release: &Release, out: &mut W) -> Result<(), Fault<'static>>
-    ensures ok { OnOk result (Appends (W.contents out.old) (W.contents out.new) (release_of release.now)) }
-    ensures err { OnErr result (AppendsFront (W.contents out.old) (W.contents out.new) (release_of release.now)) }
-    ensures fault { IfErr result IsOfWriting }
+fn put<W: Write>(alloc: Global, release: &Release, out: &mut W) -> Result<(), PutFault>
+    ensures { Writes result (W.contents out.old) (W.contents out.new) (release_of release.now) }
 {
     let number = release.number.get();
-    let set = lent_slugs(release);
-    put_release(alloc, "", number, &release.entry.lend(), set, out)
+    let printed = PrintedRelease {
+        lead: "",
+        number,
+        entry: release.entry.lend(),
+        set: lent_slugs(release),
+    };
+    put_release(alloc, &printed, out)
 }
 
 /// Writes a release and hands it on at once.
-fn announce<W: Write>(alloc: Global, release: &Release, out: &mut W) -> Result<(), Fault<'static>>
-    ensures ok { OnOk result (Appends (W.contents out.old) (W.contents out.new) (release_of release.now)) }
-    ensures err { OnErr result (AppendsFront (W.contents out.old) (W.contents out.new) (release_of release.now)) }
-    ensures fault { IfErr result IsOfWriting }
+fn announce<W: Write>(alloc: Global, release: &Release, out: &mut W) -> Result<(), PutFault>
+    ensures { Writes result (W.contents out.old) (W.contents out.new) (release_of release.now) }
 {
     put(alloc, release, out)?;
     match out.flush() {
         Ok(()) => Ok(()),
-        Err(_) => Err(Fault::CannotWrite),
+        Err(_) => Err(PutFault::CannotWrite),
     }
 }
 
@@ -54,10 +53,8 @@ fn announce_any<W: Write>(
     alloc: Global,
     release: Option<&Release>,
     out: &mut W,
-) -> Result<(), Fault<'static>>
-    ensures ok { OnOk result (Appends (W.contents out.old) (W.contents out.new) (printing (option_copied release.entry))) }
-    ensures err { OnErr result (AppendsFront (W.contents out.old) (W.contents out.new) (printing (option_copied release.entry))) }
-    ensures fault { IfErr result IsOfWriting }
+) -> Result<(), PutFault>
+    ensures { Writes result (W.contents out.old) (W.contents out.new) (printing (option_copied release.entry)) }
 {
     match release {
         Some(release) => announce(alloc, release, out),
@@ -90,6 +87,9 @@ impl<W: Write> Outlet for Printer<'_, W> {
         step: &TakenStep,
         _log: &mut Log<'_, E>,
     ) -> Result<(), Fault<'static>> {
-        announce_any(self.alloc, step.answer.release.as_ref(), self.out)
+        match announce_any(self.alloc, step.answer.release.as_ref(), self.out) {
+            Ok(()) => Ok(()),
+            Err(fault) => Err(Fault::of_writing(fault)),
+        }
     }
 }

@@ -1,13 +1,10 @@
 //! The lines of datagrams.
 
-ghost use Rattle.std.specs.Prelude.{◌≡◌, ◌+◌, ◌≤◌, Some, IfErr, OnOk, OnErr, length, string_bytes};
-ghost use Rattle.std.specs.Io.KnownBytes.{Appends};
-ghost use Rattle.command_ends.specs.Ends.{IsOfInput, end_of};
-ghost use Rattle.streams.specs.Fronts.{AppendsFront};
+ghost use Rattle.std.specs.Prelude.{◌≡◌, ◌+◌, ◌≤◌, Some, OnOk, length, string_bytes};
+ghost use Rattle.command_ends.specs.Writing.{Writes};
 ghost use Rattle.step_lines.specs.Datagrams.{datagram_line, datagrams_text, kind_word, packet_line, route_text};
 
-use crate::lines::put_line;
-use command_ends::Fault;
+use command_ends::{PutFault, put_line};
 use packets::{BodyRef, PacketRef, decode};
 use station::Datagram;
 use std::alloc::AllocError;
@@ -59,36 +56,32 @@ fn packet_line(line: &mut String, k: usize, packet: &PacketRef<'_>) -> Result<()
 }
 
 /// Writes the `k`-th datagram ever sent. Each spells a packet, for a station sent it, in its own version.
-fn put_datagram<'a, W: Write>(
+fn put_datagram<W: Write>(
     line: &mut String,
     k: usize,
     datagram: &Datagram,
     out: &mut W,
-) -> Result<(), Fault<'a>>
-    ensures ok { OnOk result (Appends (W.contents out.old) (W.contents out.new) (datagram_line k datagram.now)) }
-    ensures err { OnErr result (AppendsFront (W.contents out.old) (W.contents out.new) (datagram_line k datagram.now)) }
-    ensures ends { IfErr result (λ fault. IsOfInput (end_of fault)) }
+) -> Result<(), PutFault>
+    ensures { Writes result (W.contents out.old) (W.contents out.new) (datagram_line k datagram.now) }
 {
     let Ok(packet) = decode(datagram.bytes(), Version::Two) else {
         return Ok(());
     };
     match packet_line(line, k, &packet) {
         Ok(()) => put_line(line, out),
-        Err(_) => Err(Fault::OutOfMemory),
+        Err(_) => Err(PutFault::OutOfMemory),
     }
 }
 
 /// Writes the datagrams that a step sent, before which so many were sent.
-pub fn put_datagrams<'a, W: Write>(
+pub fn put_datagrams<W: Write>(
     line: &mut String,
     before: usize,
     sent: &[Datagram],
     out: &mut W,
-) -> Result<(), Fault<'a>>
+) -> Result<(), PutFault>
     requires { before + length sent.now ≤ usize.MAX }
-    ensures ok { OnOk result (Appends (W.contents out.old) (W.contents out.new) (datagrams_text before sent.now)) }
-    ensures err { OnErr result (AppendsFront (W.contents out.old) (W.contents out.new) (datagrams_text before sent.now)) }
-    ensures ends { IfErr result (λ fault. IsOfInput (end_of fault)) }
+    ensures { Writes result (W.contents out.old) (W.contents out.new) (datagrams_text before sent.now) }
 {
     for (index, datagram) in sent.iter().enumerate() {
         put_datagram(line, before + index + 1, datagram, out)?;

@@ -2,11 +2,9 @@
 #![tactic(auto)]
 
 mod datagram_lines;
-mod lines;
 mod notes;
 mod release_lines;
 
 pub use datagram_lines::put_datagrams;
-pub use lines::put_line;
 pub use notes::NoteText;
-pub use release_lines::put_set;
+pub use release_lines::release_line;

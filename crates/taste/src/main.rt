@@ -3,7 +3,7 @@
 #![tactic(auto)]
 
 use command_ends::ScriptPaths;
-use rehearse_command::rehearse;
+use rehearse_command::{RehearsalOrder, rehearse};
 use std::process::ExitCode;
 use streams::InputFile;
 
@@ -14,17 +14,12 @@ const STORY: ScriptPaths<'static> = ScriptPaths {
 };
 
 fn main(rt: HostRuntime) -> ExitCode {
-    let mut table = InputFile::at(&rt, STORY.table);
-    let mut widths = InputFile::at(&rt, STORY.widths);
-    let mut script = InputFile::at(&rt, STORY.script);
-    let end = rehearse(
-        rt.alloc(),
-        &STORY,
-        &mut table,
-        &mut widths,
-        &mut script,
-        &mut rt.stdout(),
-        &mut rt.stderr(),
-    );
+    let order = RehearsalOrder {
+        paths: &STORY,
+        table: InputFile::at(&rt, STORY.table),
+        widths: InputFile::at(&rt, STORY.widths),
+        script: InputFile::at(&rt, STORY.script),
+    };
+    let end = rehearse(rt.alloc(), order, &mut rt.stdout(), &mut rt.stderr());
     end.status()
 }

@@ -6,7 +6,7 @@ use answer_command::answer;
 use ballots::Member;
 use check_command::check;
 use command_ends::End;
-use rehearse_command::rehearse;
+use rehearse_command::{RehearsalOrder, rehearse};
 use std::alloc::Global;
 use tape_frames::Version;
 
@@ -52,16 +52,14 @@ fn end_of_check(
 }
 
 fn end_of_rehearse(alloc: Global, inputs: Inputs<'_>, out: &mut Slow, err: &mut Vec<u8>) -> End {
-    let (mut table, mut widths, mut script) = inputs;
-    rehearse(
-        alloc,
-        &paths::OF_SCRIPT,
-        &mut table,
-        &mut widths,
-        &mut script,
-        out,
-        err,
-    )
+    let (table, widths, script) = inputs;
+    let order = RehearsalOrder {
+        paths: &paths::OF_SCRIPT,
+        table,
+        widths,
+        script,
+    };
+    rehearse(alloc, order, out, err)
 }
 
 fn end_of_answer(

@@ -1,12 +1,12 @@
 -- One line more.
 use Rattle.rehearse_command.proofs.Shown.{staged_rehearsed}
 use Rattle.rehearse_command.proofs.rehearsal.play_lines.Goals as goal
-use Rattle.rehearse_command.proofs.rehearsal.play_lines.Goals.{then-not-is_ignored+in_ok-play_line, else-not-is_ignored}
+use Rattle.rehearse_command.proofs.rehearsal.play_lines.Goals.{then-not-is_ignored+in_default, else-not-is_ignored}
 
 pub loop-index-preserved : goal.loop-index-preserved
 loop-index-preserved g c = λ by set_up.
     elim c.if-not-is_ignored.branch [
-      | then-not-is_ignored+in_ok-play_line w ↦ rw (w.out-is, w.stage-is) (w.in_ok-play_line.ensures.goes_on by (g.W.Write.contents c.args.out.now) set_up (c.loop-index.invariant by set_up))
+      | then-not-is_ignored+in_default w ↦ rw (w.out-is, w.stage-is) (w.in_default.ensures.goes_on by (g.W.Write.contents c.args.out.now) set_up (c.loop-index.invariant by set_up))
       | else-not-is_ignored w ↦ rw (w.out-is, w.stage-is) (c.loop-index.invariant by set_up)
     ]
 

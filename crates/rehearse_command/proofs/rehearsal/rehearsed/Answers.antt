@@ -3,7 +3,7 @@ use Rattle.rehearse_command.specs.Rehearsals.{inputs}
 use Rattle.rehearse_command.proofs.rehearsal.rehearsed.Goals as goal
 
 pub returns-clause-ok : goal.returns-clause-ok
-returns-clause-ok g c = c.play_all.ensures.ok (inputs (g.R.Read.remaining c.args.table.now) (g.S.Read.remaining c.args.widths.now)) (c.in_ok-table.ensures.ok, c.in_ok-widths.ensures.ok)
+returns-clause-ok g c = c.play_all.ensures.ok (inputs (g.R.Read.remaining c.args.order.table) (g.S.Read.remaining c.args.order.widths)) (c.in_ok-table.ensures.ok, c.in_ok-widths.ensures.ok)
 
 pub returns-clause-err : goal.returns-clause-err
-returns-clause-err g c = c.play_all.ensures.err (inputs (g.R.Read.remaining c.args.table.now) (g.S.Read.remaining c.args.widths.now)) (c.in_ok-table.ensures.ok, c.in_ok-widths.ensures.ok)
+returns-clause-err g c = c.play_all.ensures.err (inputs (g.R.Read.remaining c.args.order.table) (g.S.Read.remaining c.args.order.widths)) (c.in_ok-table.ensures.ok, c.in_ok-widths.ensures.ok)
