@@ -1,5 +1,5 @@
 -- What `check` writes: the galley of its three inputs.
-use Rattle.std.specs.Prelude.{◌≡◌, ℕ, List, Option, Ok, IfSome}
+use Rattle.std.specs.Prelude.{◌≡◌, ℕ, List, Option, Ok, IfSome, false}
 use Rattle.std.specs.Io.KnownBytes.{Appends}
 use Rattle.toml.specs.Parse.{parse_document}
 use Rattle.code_table.specs.Tables.{Places, mean}
@@ -10,6 +10,7 @@ use Rattle.slug_reader.specs.Meanings.{Meanings}
 use Rattle.line_check.specs.declared.slug.Slug.{Slug}
 use Rattle.line_check.specs.Sets.{Sets}
 use Rattle.line_check.specs.Galley.{galley_of}
+use Rattle.check_command.specs.declared.galley.CheckOrder.{CheckOrder}
 
 -- the tape sets as slugs, and their galley was written
 pub record IsSetAs (means : Meanings) (file : WidthFile) (tape : List ℕ) (old new : Option (List ℕ)) : Type 0 where
@@ -28,3 +29,9 @@ pub record IsGalleyOf (table widths tape : List ℕ) (old new : Option (List ℕ
 -- the galley of the three texts was written, where these are known
 abbrev pub WritesGalley : Option (List ℕ) → Option (List ℕ) → Option (List ℕ) → Option (List ℕ) → Option (List ℕ) → Type 0
 WritesGalley table widths tape old new = IfSome table (λ ts. IfSome widths (λ ws. IfSome tape (λ xs. IsGalleyOf ts ws xs old new)))
+
+-- without a listing, the galley of an order's three texts was written
+abbrev pub Checks : {R S T : Type 0} → (R → Option (List ℕ)) → (S → Option (List ℕ)) → (T → Option (List ℕ)) → CheckOrder R S T
+    → Option (List ℕ) → Option (List ℕ) → Type 0
+Checks in_table in_widths in_tape order old new =
+    order.listing ≡ false → WritesGalley (in_table order.table) (in_widths order.widths) (in_tape order.tape) old new

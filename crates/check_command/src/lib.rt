@@ -3,4 +3,4 @@
 
 mod galley;
 
-pub use galley::check;
+pub use galley::{CheckOrder, check};

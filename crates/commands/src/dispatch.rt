@@ -12,7 +12,7 @@ use crate::editing::{run_fit, run_punch, run_spell};
 use crate::reels::{run_import, run_survey};
 use crate::story::Story;
 use answer_command::answer;
-use check_command::check;
+use check_command::{CheckOrder, check};
 use command_ends::{End, ScriptPaths, TapePaths};
 use command_line::{Asked, Telling, print_version};
 use draw_command::{ChartingOrder, DrawOrder, SettingPaths, chart, draw};
@@ -40,19 +40,14 @@ fn run_check<F: RowFiles, R: Read + Drop, W: Write + Drop, E: Write + Drop>(
         err,
         ..
     } = console;
-    let mut table = InputFile::at(rt, paths.table);
-    let mut widths = InputFile::at(rt, paths.widths);
-    let mut tape = Story::at(rt, paths.tape, input);
-    check(
-        rt.alloc(),
+    let order = CheckOrder {
         paths,
-        &mut table,
-        &mut widths,
-        &mut tape,
+        table: InputFile::at(rt, paths.table),
+        widths: InputFile::at(rt, paths.widths),
+        tape: Story::at(rt, paths.tape, input),
         listing,
-        out,
-        err,
-    )
+    };
+    check(rt.alloc(), order, out, err)
 }
 
 /// Draws the tape at its path by the table and the widths at theirs.

@@ -4,7 +4,7 @@ use super::failing::{Input, Slow};
 use super::paths;
 use answer_command::answer;
 use ballots::Member;
-use check_command::check;
+use check_command::{CheckOrder, check};
 use command_ends::End;
 use rehearse_command::{RehearsalOrder, rehearse};
 use std::alloc::Global;
@@ -38,17 +38,15 @@ fn end_of_check(
     out: &mut Slow,
     err: &mut Vec<u8>,
 ) -> End {
-    let (mut table, mut widths, mut tape) = inputs;
-    check(
-        alloc,
-        &paths::OF_TAPE,
-        &mut table,
-        &mut widths,
-        &mut tape,
+    let (table, widths, tape) = inputs;
+    let order = CheckOrder {
+        paths: &paths::OF_TAPE,
+        table,
+        widths,
+        tape,
         listing,
-        out,
-        err,
-    )
+    };
+    check(alloc, order, out, err)
 }
 
 fn end_of_rehearse(alloc: Global, inputs: Inputs<'_>, out: &mut Slow, err: &mut Vec<u8>) -> End {
