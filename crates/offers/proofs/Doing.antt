@@ -6,6 +6,7 @@ use Rattle.offers.specs.declared.deed.Deed.TheVariants.{Move, Ask, Read, Refuse}
 use Rattle.offers.specs.declared.offer.Offer.{Offer}
 use Rattle.folders.specs.declared.names.FileRequest.{FileRequest}
 use Rattle.tape_frames.specs.declared.entry.Entry.{Entry}
+use Rattle.offers.specs.Choices.{MayMoveBy, MayTakeBy}
 use Rattle.offers.specs.Left.{NoMoves, HasLeft}
 use Rattle.offers.specs.Order.{rank, file_at, Rises, IsPlaceOf}
 use Rattle.offers.specs.Rules.{Standing, entry_of, is_under_way, IsLeaving, IsOther, Suits, MayDo, is_leaving_of}
@@ -28,13 +29,28 @@ others b o (Refuse r found why) h = record { file = h.0; as_found = h.1; whole =
 pub may_do : (b : Standing) (i : ℕ) (o : Offer) (d : Deed) → i < length b.files → o ≡ get_or b.files i o → Suits b d o → MayDo b d
 may_do b i o d within is h = (i, o, within, sym is, h)
 
-pub may_leave : (b : Standing) (i : ℕ) (o : Offer) (r : Option Deed) → i < length b.files → o ≡ get_or b.files i o → IfSome r (IsLeaving (entry_of b o.request.number) b.still b.looked o) → IfSome r (MayDo b)
-may_leave b i o None within is h = tt
-may_leave b i o (Some d) within is h = may_do b i o d within is (leaves b o d h)
+-- of which kind each is
+all_move : (entry : Option Entry) (still looked : ℕ) (o : Offer) (r : Option Deed) → IfSome r (IsLeaving entry still looked o) → IfSome r IsMove
+all_move entry still looked o None h = tt
+all_move entry still looked o (Some (Move r found to)) h = tt
+all_move entry still looked o (Some (Ask r)) h = absurd h
+all_move entry still looked o (Some (Read r found replaced)) h = absurd h
+all_move entry still looked o (Some (Refuse r found why)) h = absurd h
 
-pub may_other : (b : Standing) (i : ℕ) (o : Offer) (r : Option Deed) → i < length b.files → o ≡ get_or b.files i o → IfSome r (IsOther (is_under_way o.request.number b.window) b.still b.looked o) → IfSome r (MayDo b)
+all_other : (flies : Bool) (still looked : ℕ) (o : Offer) (r : Option Deed) → IfSome r (IsOther flies still looked o) → IfSome r IsOtherDeed
+all_other flies still looked o None h = tt
+all_other flies still looked o (Some (Move r found to)) h = absurd h
+all_other flies still looked o (Some (Ask r)) h = absurd h
+all_other flies still looked o (Some (Read r found replaced)) h = tt
+all_other flies still looked o (Some (Refuse r found why)) h = tt
+
+pub may_leave : (b : Standing) (i : ℕ) (o : Offer) (r : Option Deed) → i < length b.files → o ≡ get_or b.files i o → IfSome r (IsLeaving (entry_of b o.request.number) b.still b.looked o) → IfSome r (MayMoveBy b)
+may_leave b i o None within is h = tt
+may_leave b i o (Some d) within is h = (may_do b i o d within is (leaves b o d h), all_move _ _ _ o (Some d) h)
+
+pub may_other : (b : Standing) (i : ℕ) (o : Offer) (r : Option Deed) → i < length b.files → o ≡ get_or b.files i o → IfSome r (IsOther (is_under_way o.request.number b.window) b.still b.looked o) → IfSome r (MayTakeBy b)
 may_other b i o None within is h = tt
-may_other b i o (Some d) within is h = may_do b i o d within is (others b o d h)
+may_other b i o (Some d) within is h = (may_do b i o d within is (others b o d h), all_other _ _ _ o (Some d) h)
 
 -- where the file at an index does not leave, none does at it
 pub no_move : (b : Standing) (i : ℕ) (o : Offer) → i < length b.files → o ≡ get_or b.files i o → is_leaving_of b o ≡ false → NoMoves b i (i + 1)
@@ -54,18 +70,3 @@ go_left b r i rises there none (Some o) e =
 
 pub has_left : (b : Standing) (r : FileRequest) (i : ℕ) → Rises b.files → IsPlaceOf b.files (rank r) i → NoMoves b i (i + 1) → HasLeft b r
 has_left b r i rises there none = go_left b r i rises there none (file_at b.files (rank r)) refl
-
--- of which kind each is
-pub all_move : (entry : Option Entry) (still looked : ℕ) (o : Offer) (r : Option Deed) → IfSome r (IsLeaving entry still looked o) → IfSome r IsMove
-all_move entry still looked o None h = tt
-all_move entry still looked o (Some (Move r found to)) h = tt
-all_move entry still looked o (Some (Ask r)) h = absurd h
-all_move entry still looked o (Some (Read r found replaced)) h = absurd h
-all_move entry still looked o (Some (Refuse r found why)) h = absurd h
-
-pub all_other : (flies : Bool) (still looked : ℕ) (o : Offer) (r : Option Deed) → IfSome r (IsOther flies still looked o) → IfSome r IsOtherDeed
-all_other flies still looked o None h = tt
-all_other flies still looked o (Some (Move r found to)) h = absurd h
-all_other flies still looked o (Some (Ask r)) h = absurd h
-all_other flies still looked o (Some (Read r found replaced)) h = tt
-all_other flies still looked o (Some (Refuse r found why)) h = tt

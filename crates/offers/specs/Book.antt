@@ -1,6 +1,8 @@
 -- What the book knows at the start, and what holds of it at all times.
-use Rattle.std.specs.Prelude.{Bool, true, ◌≡◌, ◌≤◌, ℕ, [], false, nat_le, None, length, if◌then◌else◌}
+use Rattle.std.specs.Prelude.{Bool, true, ◌≡◌, ◌≤◌, ℕ, List, [], false, nat_le, None, length, if◌then◌else◌}
 use Rattle.offers.specs.declared.marks.Marks.{Marks}
+use Rattle.offers.specs.declared.offer.FoundOffer.{FoundOffer}
+use Rattle.offers.specs.Looks.{looked}
 use Rattle.offers.specs.Marks.{IsMarked}
 use Rattle.offers.specs.Order.{Rises}
 use Rattle.offers.specs.Rules.{Standing, AreApart, entry_of}
@@ -18,6 +20,10 @@ pub record IsFresh (b : Standing) : Type 0 where
 -- a place that begins with the first again, where it has come to the searches or to the end
 abbrev pub begun_again : ℕ → ℕ → ℕ
 begun_again index end = if nat_le end index then 0 else index
+
+-- the book after a look: all that was found is left to be seen to, and files that are no searches come first where searches were being read
+abbrev pub after_look : ℕ → List FoundOffer → Standing → Standing
+after_look now found b = record b { files = looked b.files now found; looked = now; moves = 0; others = begun_again b.others (length b.files); asks = true }
 
 -- what holds of every book: its files are in order, no two numbers under way are one, they are 16 at most, a file is under way only with
 -- its number, and of one number one file is; each file is marked as it is; and where none is left to be asked for, the station may be asked for none

@@ -3,6 +3,7 @@ use Rattle.std.specs.Prelude.{◌≡◌, ◌<◌, ◌≤◌, ◌+◌, ℕ, Bool,
 use Rattle.folders.specs.declared.names.FileRequest.{FileRequest}
 use Rattle.offers.specs.declared.offer.Offer.{Offer}
 use Rattle.offers.specs.Order.{rank, file_at, is_search}
+use Rattle.offers.specs.Stages.{tape_of, text_of, withdrawal_of, search_of}
 use Rattle.offers.specs.Rules.{Standing, is_leaving_of, ask_moment_of, ask_moment_among, has_other_of}
 
 -- none of the files from one index to another leaves the offers now
@@ -43,3 +44,7 @@ NoSearches b = NoneAmong (ask_moment_among true b) b.files
 -- the file that asks for this does not leave the offers now; or there is no such file
 abbrev pub HasLeft : Standing → FileRequest → Type 0
 HasLeft b r = IfSome (file_at b.files (rank r)) (λ o. is_leaving_of b o ≡ false)
+
+-- none of the files of a number leaves the offers now
+abbrev pub HaveLeft : Standing → ℕ → Type 0
+HaveLeft b n = HasLeft b (tape_of n) × HasLeft b (text_of n) × HasLeft b (withdrawal_of n) × HasLeft b (search_of n)

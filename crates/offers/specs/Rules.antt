@@ -2,7 +2,7 @@
 use Rattle.std.specs.Prelude.{◌≡◌, ◌≢◌, ◌<◌, ◌≤◌, ◌+◌, ℕ, List, Bool, true, false, nat_le, ◌==◌, ◌&&◌, Option, Some, None, is_some, length, not, if◌then◌else◌}
 use Rattle.std.specs.List.{Any, AllPairs, list_any}
 use Rattle.std.specs.Ordering.{nat_cmp}
-use Rattle.std.specs.BTreeMap.{is_at}
+use Rattle.std.specs.BTreeMap.{is_at, get}
 use Rattle.std.specs.Map.{lookup}
 use Rattle.folders.specs.declared.leaving.Place.{Place}
 use Rattle.folders.specs.declared.leaving.Place.TheVariants as places
@@ -14,6 +14,7 @@ use Rattle.tape_frames.specs.declared.entry.Entry.{Entry}
 use Rattle.tape_frames.specs.Entries.{owned_entry}
 use Rattle.offers.specs.declared.deed.Deed.{Deed}
 use Rattle.offers.specs.declared.deed.Deed.TheVariants.{Move, Ask, Read, Refuse}
+use Rattle.offers.specs.declared.known.RuleFacts.{RuleFacts}
 use Rattle.offers.specs.declared.offer.Offer.{Offer}
 use Rattle.offers.specs.Order.{is_search}
 use Rattle.offers.specs.declared.stage.OfferFault.{OfferFault}
@@ -165,9 +166,21 @@ leaves_now is_released looked Gone = false
 abbrev pub is_leaving : Option Entry → ℕ → ℕ → Offer → Bool
 is_leaving entry still looked o = is_whole still looked o && leaves_now (is_some entry) looked o.stage
 
+-- what was released under the number of a file, as far as is known
+abbrev pub entry_for : RuleFacts → Offer → Option Entry
+entry_for known o = get nat_cmp known.released o.request.number
+
+-- whether the number of a file is under way, as far as is known
+abbrev pub flies_by : RuleFacts → Offer → Bool
+flies_by known o = is_under_way o.request.number known.window
+
+-- whether the station may be asked for a file, once its moment has come: it is whole, and its number is neither released nor under way
+abbrev pub is_free : Option Entry → Bool → ℕ → ℕ → Offer → Bool
+is_free entry flies still looked o = is_whole still looked o && not (is_some entry) && not flies
+
 -- the moment since which the station may be asked for a file, if it may
 abbrev pub ask_moment : Option Entry → Bool → ℕ → ℕ → Offer → Option ℕ
-ask_moment entry flies still looked o = if is_whole still looked o && not (is_some entry) && not flies then moment_of looked o.stage else None
+ask_moment entry flies still looked o = if is_free entry flies still looked o then moment_of looked o.stage else None
 
 -- a moment of one of the searches, or of one of the others, and of no other file
 abbrev pub only_of : Bool → Bool → Option ℕ → Option ℕ

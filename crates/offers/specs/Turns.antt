@@ -127,6 +127,10 @@ files_after (Some (Ask r)) files = changed (rank r) (after news.Asked 0) files
 files_after (Some (Read r found replaced)) files = files
 files_after (Some (Refuse r found why)) files = files
 
+-- the book once this is done, wherever the work goes on behind it
+abbrev pub done_by : Option Deed → Standing → Standing
+done_by deed b = record b { row = row_after deed b.row; since_search = since_after deed b.since_search; window = window_after deed b.window; files = files_after deed b.files }
+
 -- where a file is read or refused, the work goes on behind it, and no further than the last place
 abbrev pub AdvancesOther : Standing → Standing → Deed → Type 0
 AdvancesOther old new (Move r found to) = ⊥

@@ -3,8 +3,7 @@
 ghost use Rattle.std.specs.Prelude.{◌≡◌, OnOk, OnErr, true, false};
 ghost use Rattle.offers.specs.Order.{rank};
 ghost use Rattle.offers.specs.Stages.{after, changed, news_of};
-ghost use Rattle.offers.specs.Rules.{is_under_way};
-ghost use Rattle.offers.specs.Answers.{landed_in, Keeps, Releases};
+ghost use Rattle.offers.specs.Answers.{landed_in, Keeps, Lands, Releases};
 ghost use Rattle.offers.specs.UnderWay.{begins};
 
 use crate::book::Book;
@@ -74,8 +73,7 @@ impl Book {
 
     /// This became of a number, at a moment: it is no longer under way. Whether it was.
     fn land(&mut self, number: Number, landing: Landing, now: u64) -> bool
-        ensures news { result ≡ is_under_way number self.old.window }
-        ensures same { self.new ≡ landed_in number landing now self.old }
+        ensures { Lands number landing now self.old self.new result }
     {
         let was_under_way = is_under_way(self.known.window.numbers(), number);
         self.asks = true;
@@ -89,8 +87,7 @@ impl Book {
     /// Its file is put off, by a second the first time and twice as long each time, a minute at most. Whether the number was under way: only
     /// then is there something to tell.
     pub fn ended(&mut self, number: Number, now: u64) -> bool
-        ensures news { result ≡ is_under_way number self.old.window }
-        ensures same { self.new ≡ landed_in number Landing.Ended now self.old }
+        ensures { Lands number Landing.Ended now self.old self.new result }
     {
         self.land(number, Landing::Ended, now)
     }
@@ -99,8 +96,7 @@ impl Book {
     /// [`ended`](Book::ended). A search for which that is the tenth time since it was found as it is leaves the offers at once, for those that
     /// are done. Whether the number was under way.
     pub fn found_nothing(&mut self, number: Number, now: u64) -> bool
-        ensures news { result ≡ is_under_way number self.old.window }
-        ensures same { self.new ≡ landed_in number Landing.Nothing now self.old }
+        ensures { Lands number Landing.Nothing now self.old self.new result }
     {
         self.land(number, Landing::Nothing, now)
     }
@@ -108,16 +104,14 @@ impl Book {
     /// The station has a number open already, which it was asked for at a moment: its file is asked for again a second later, and its
     /// pause does not grow. Whether the number was under way.
     pub fn busy(&mut self, number: Number, now: u64) -> bool
-        ensures news { result ≡ is_under_way number self.old.window }
-        ensures same { self.new ≡ landed_in number Landing.Busy now self.old }
+        ensures { Lands number Landing.Busy now self.old self.new result }
     {
         self.land(number, Landing::Busy, now)
     }
 
     /// The station does not take what it was asked for a number, and never will: its file is no offer. Whether the number was under way.
     pub fn barred(&mut self, number: Number, reason: OfferFault) -> bool
-        ensures news { result ≡ is_under_way number self.old.window }
-        ensures same { self.new ≡ landed_in number (Landing.Barred reason) 0 self.old }
+        ensures { Lands number (Landing.Barred reason) 0 self.old self.new result }
     {
         self.land(number, Landing::Barred { reason }, 0)
     }

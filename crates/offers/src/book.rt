@@ -1,11 +1,10 @@
 //! The book of offers.
 
 ghost use Rattle.std.specs.Prelude.{◌≡◌, IfOk, OnOk, OnErr, ◌≤◌, length, nat_le, option_copied, true, if◌then◌else◌};
-ghost use Rattle.offers.specs.Looks.{looked};
 ghost use Rattle.offers.specs.Order.{rank, file_at};
 ghost use Rattle.offers.specs.Stages.{wish_at};
 ghost use Rattle.offers.specs.Rules.{AreApart, entry_of, is_under_way};
-ghost use Rattle.offers.specs.Book.{IsFresh, begun_again, still_for};
+ghost use Rattle.offers.specs.Book.{IsFresh, after_look, begun_again, still_for};
 ghost use Rattle.offers.specs.Turns.{deeds_left};
 ghost use Rattle.offers.specs.UnderWay.{AreHeld, AreAlone, asked_count};
 
@@ -84,15 +83,8 @@ fn still_for(renamed: bool) -> u64
 }
 
 impl Book {
-    /// A book in which nothing stands. A file is whole once two looks found it as it is, half a second apart.
-    pub fn new(alloc: Global) -> Book
-        ensures fresh { IsFresh result }
-        ensures still { result.still ≡ 500 }
-    {
-        Book::over(alloc, false)
-    }
-
-    /// The same over a folder to which files come only by being renamed, or not only so: where they do, one look that found a file is enough.
+    /// A book in which nothing stands. A file is whole once two looks found it as it is, half a second apart; over a folder to which files
+    /// come only by being renamed, one look that found it is enough.
     pub fn over(alloc: Global, renamed: bool) -> Book
         ensures fresh { IsFresh result }
         ensures still { result.still ≡ still_for renamed }
@@ -119,7 +111,7 @@ impl Book {
     /// order is passed over. A file that is no longer found is forgotten, and one that was changed is watched anew. Where searches were
     /// being read, files that are no searches come first again. Where there is no memory, the book stays as it was.
     pub fn see(&mut self, found: &[FoundOffer], now: u64) -> Result<(), AllocError>
-        ensures ok { OnOk result (self.new ≡ record self.old { files = looked self.old.files now found.now; looked = now; moves = 0; others = begun_again self.old.others (length self.old.files); asks = true }) }
+        ensures ok { OnOk result (self.new ≡ after_look now found.now self.old) }
         ensures err { OnErr result (self.new ≡ self.old) }
     {
         let room = Vec::with_capacity(self.alloc, found.len())?;

@@ -3,12 +3,13 @@
 ghost use Rattle.std.specs.Prelude.{◌≡◌, ◌≤◌, ◌<◌, ◌+◌, ◌-◌, ◌*◌, ◌↔◌, Some, None, IsTrue, if◌then◌else◌, IfSome, length, is_some, min, true, false, slice_index_or};
 ghost use Rattle.offers.specs.declared.offer.Offer.{Offer};
 ghost use Rattle.offers.specs.Rules.{MayDo, ask_moment_among, has_other_of};
-ghost use Rattle.offers.specs.Stages.{after, changed, tape_of, text_of, withdrawal_of, search_of};
+ghost use Rattle.offers.specs.Stages.{after, changed};
 ghost use Rattle.offers.specs.Order.{rank, Rises};
+ghost use Rattle.offers.specs.Choices.{MayMoveBy, MayTakeBy, TakesNext, ChoosesBehindMoves};
 ghost use Rattle.pace.specs.UnderWay.{with_one};
 ghost use Rattle.offers.specs.Asks.{IsFirstAsk, MatchFirstAsk, MatchSoonest};
-ghost use Rattle.offers.specs.Left.{NoMoves, NoOthers, NoAsks, IsOtherAt, HasLeft};
-ghost use Rattle.offers.specs.Turns.{IsMove, IsOtherDeed, IsAskOf, NoMovesLeft, IsAskOrOther, IsEarly, IsStill, IsBehindMoves, IsInTurn, Rests, RestsButMoves, Advances, AdvancesOther, PassesFew, row_after, since_ask, since_after, window_after, files_after};
+ghost use Rattle.offers.specs.Left.{NoMoves, NoOthers, NoAsks, IsOtherAt, HasLeft, HaveLeft};
+ghost use Rattle.offers.specs.Turns.{IsAskOf, NoMovesLeft, IsAskOrOther, IsEarly, IsStill, IsBehindMoves, IsInTurn, Rests, RestsButMoves, Advances, PassesFew, since_ask, done_by};
 
 use crate::book::{Book, MOST_IN_A_ROW, MOST_WITHOUT_A_SEARCH};
 use crate::deed::{Allowed, Deed};
@@ -82,8 +83,7 @@ impl Book {
     /// How the file at an index leaves the offers that was released under its number, if its moment has come.
     fn move_at(&self, index: usize) -> Option<Deed>
         requires { index < length self.now.files }
-        ensures some { IfSome result (MayDo self.now) }
-        ensures kind { IfSome result IsMove }
+        ensures some { IfSome result (MayMoveBy self.now) }
         ensures none { result ≡ None → NoMoves self.now index (index + 1) }
     {
         leaving(&self.offers[index], &self.known)
@@ -93,8 +93,7 @@ impl Book {
     fn first_move(&self) -> Option<(usize, Deed)>
         ensures within { IfSome result (λ p. (self.now.moves ≤ p.0) × (p.0 < length self.now.files)) }
         ensures before { IfSome result (λ p. NoMoves self.now self.now.moves p.0) }
-        ensures rules { IfSome result (λ p. MayDo self.now p.1) }
-        ensures kind { IfSome result (λ p. IsMove p.1) }
+        ensures rules { IfSome result (λ p. MayMoveBy self.now p.1) }
         ensures none { result ≡ None → NoMoves self.now self.now.moves (length self.now.files) }
     {
         match self.marks.moves.next(self.moves) {
@@ -106,16 +105,19 @@ impl Book {
         }
     }
 
-    /// The same, and the work goes on behind it.
-    fn next_move(&mut self) -> Option<Deed>
-        ensures rules { IfSome result (MayDo self.old) }
-        ensures kind { IfSome result IsMove }
+    /// The same, where it is allowed, and the work goes on behind it.
+    fn move_if(&mut self, moves: bool) -> Option<Deed>
+        ensures rules { IfSome result (MayMoveBy self.old) }
+        ensures allowed { IfSome result (λ _. moves ≡ true) }
         ensures passed { NoMoves self.old self.old.moves (self.new.moves - 1) }
         ensures forward { IfSome result (λ _. self.old.moves < self.new.moves) }
-        ensures none { result ≡ None → NoMoves self.old self.old.moves (length self.old.files) }
-        ensures done { result ≡ None → length self.old.files ≤ self.new.moves }
+        ensures none { result ≡ None → NoMovesLeft self.old moves }
+        ensures done { result ≡ None → moves ≡ true → length self.old.files ≤ self.new.moves }
         ensures same { self.new ≡ record self.old { moves = self.new.moves } }
     {
+        if !moves {
+            return None;
+        }
         match self.first_move() {
             Some((index, deed)) => {
                 self.moves = index + 1;
@@ -128,25 +130,10 @@ impl Book {
         }
     }
 
-    /// The same, where it is allowed.
-    fn move_if(&mut self, moves: bool) -> Option<Deed>
-        ensures rules { IfSome result (MayDo self.old) }
-        ensures kind { IfSome result IsMove }
-        ensures allowed { IfSome result (λ _. moves ≡ true) }
-        ensures passed { NoMoves self.old self.old.moves (self.new.moves - 1) }
-        ensures forward { IfSome result (λ _. self.old.moves < self.new.moves) }
-        ensures none { result ≡ None → NoMovesLeft self.old moves }
-        ensures done { result ≡ None → moves ≡ true → length self.old.files ≤ self.new.moves }
-        ensures same { self.new ≡ record self.old { moves = self.new.moves } }
-    {
-        if moves { self.next_move() } else { None }
-    }
-
     /// Whether the file at an index is read or refused now.
     fn other_at(&self, index: usize) -> Option<Deed>
         requires { index < length self.now.files }
-        ensures some { IfSome result (MayDo self.now) }
-        ensures kind { IfSome result IsOtherDeed }
+        ensures some { IfSome result (MayTakeBy self.now) }
         ensures none { result ≡ None → (d : Offer) → has_other_of self.now (slice_index_or self.now.files index d) ≡ false }
     {
         other(&self.offers[index], &self.known)
@@ -194,8 +181,7 @@ impl Book {
     fn first_other(&self) -> Option<(usize, Deed)>
         ensures within { IfSome result (λ p. (self.now.others ≤ p.0) × (p.0 < 2 * length self.now.files)) }
         ensures before { IfSome result (λ p. NoOthers self.now self.now.others p.0) }
-        ensures rules { IfSome result (λ p. MayDo self.now p.1) }
-        ensures kind { IfSome result (λ p. IsOtherDeed p.1) }
+        ensures rules { IfSome result (λ p. MayTakeBy self.now p.1) }
         ensures none { result ≡ None → NoOthers self.now self.now.others (2 * length self.now.files) }
     {
         match self.next_place() {
@@ -209,14 +195,9 @@ impl Book {
 
     /// The same, and the work goes on behind it.
     fn next_other(&mut self) -> Option<Deed>
-        ensures rules { IfSome result (MayDo self.old) }
-        ensures kind { IfSome result IsOtherDeed }
-        ensures passed { NoOthers self.old self.old.others (self.new.others - 1) }
-        ensures forward { IfSome result (λ _. self.old.others < self.new.others) }
-        ensures within { IfSome result (λ _. self.new.others ≤ 2 * length self.old.files) }
+        ensures takes { TakesNext self.old self.new result }
         ensures none { result ≡ None → NoOthers self.old self.old.others (2 * length self.old.files) }
         ensures done { result ≡ None → self.new.others ≡ 2 * length self.old.files }
-        ensures same { self.new ≡ record self.old { others = self.new.others; row = row_after result self.old.row } }
     {
         match self.first_other() {
             Some((place, deed)) => {
@@ -287,7 +268,7 @@ impl Book {
         ensures rules { IfSome result (MayDo self.old) }
         ensures kind { IfSome result (IsAskOf self.old index) }
         ensures none { result ≡ None → 16 ≤ length self.old.window }
-        ensures same { self.new ≡ record self.old { asks = self.new.asks; row = row_after result self.old.row; since_search = since_after result self.old.since_search; window = window_after result self.old.window; files = files_after result self.old.files } }
+        ensures same { self.new ≡ record (done_by result self.old) { asks = self.new.asks } }
         ensures asks { self.new.asks ≡ true }
     {
         let found = take_off(&mut self.known.window, &mut self.offers, &request);
@@ -304,12 +285,9 @@ impl Book {
 
     /// Asks for the file that comes first, where that is allowed and there is room; where there is none, another is read or refused.
     fn ask_or_other(&mut self, asks: bool) -> Option<Deed>
-        ensures rules { IfSome result (MayDo self.old) }
+        ensures chooses { ChoosesBehindMoves self.old self.new result }
         ensures turn { IsAskOrOther self.old asks result }
         ensures still { result ≡ None → IsStill self.old self.new asks }
-        ensures passed { NoOthers self.old self.old.others (self.new.others - 1) }
-        ensures forward { IfSome result (AdvancesOther self.old self.new) }
-        ensures same { self.new ≡ record self.old { others = self.new.others; asks = self.new.asks; row = row_after result self.old.row; since_search = since_after result self.old.since_search; window = window_after result self.old.window; files = files_after result self.old.files } }
     {
         match self.first_ask() {
             Some(index) => {
@@ -329,14 +307,9 @@ impl Book {
 
     /// What is read or refused next, where eight files were asked for in a row.
     fn overdue(&mut self) -> Option<Deed>
-        ensures rules { IfSome result (MayDo self.old) }
-        ensures kind { IfSome result IsOtherDeed }
+        ensures takes { TakesNext self.old self.new result }
         ensures row { IfSome result (λ _. 8 ≤ self.old.row) }
         ensures early { result ≡ None → IsEarly self.old self.new }
-        ensures passed { NoOthers self.old self.old.others (self.new.others - 1) }
-        ensures forward { IfSome result (λ _. self.old.others < self.new.others) }
-        ensures within { IfSome result (λ _. self.new.others ≤ 2 * length self.old.files) }
-        ensures same { self.new ≡ record self.old { others = self.new.others; row = row_after result self.old.row } }
     {
         if self.row >= MOST_IN_A_ROW {
             self.next_other()
@@ -347,12 +320,9 @@ impl Book {
 
     /// What comes behind the moves.
     fn behind_moves(&mut self, asks: bool) -> Option<Deed>
-        ensures rules { IfSome result (MayDo self.old) }
+        ensures chooses { ChoosesBehindMoves self.old self.new result }
         ensures turn { IsBehindMoves self.old asks result }
         ensures rests { result ≡ None → RestsButMoves self.new asks }
-        ensures passed { NoOthers self.old self.old.others (self.new.others - 1) }
-        ensures forward { IfSome result (AdvancesOther self.old self.new) }
-        ensures same { self.new ≡ record self.old { others = self.new.others; asks = self.new.asks; row = row_after result self.old.row; since_search = since_after result self.old.since_search; window = window_after result self.old.window; files = files_after result self.old.files } }
     {
         match self.overdue() {
             Some(deed) => Some(deed),
@@ -372,7 +342,7 @@ impl Book {
         ensures moves { NoMoves self.old self.old.moves (self.new.moves - 1) }
         ensures others { NoOthers self.old self.old.others (self.new.others - 1) }
         ensures forward { IfSome result (Advances self.old self.new) }
-        ensures same { self.new ≡ record self.old { moves = self.new.moves; others = self.new.others; asks = self.new.asks; row = row_after result self.old.row; since_search = since_after result self.old.since_search; window = window_after result self.old.window; files = files_after result self.old.files } }
+        ensures same { self.new ≡ record (done_by result self.old) { moves = self.new.moves; others = self.new.others; asks = self.new.asks } }
     {
         match self.move_if(allowed.moves) {
             Some(deed) => Some(deed),
@@ -395,7 +365,7 @@ impl Book {
     /// read does, one after the other.
     pub fn leaving(&self, number: Number) -> Option<Deed>
         ensures rules { IfSome result (MayDo self.now) }
-        ensures none { result ≡ None → HasLeft self.now (tape_of number) × HasLeft self.now (text_of number) × HasLeft self.now (withdrawal_of number) × HasLeft self.now (search_of number) }
+        ensures none { result ≡ None → HaveLeft self.now number }
     {
         let tape = self.leaving_of(request_of(number, OfferKind::Tape));
         if tape.is_some() {

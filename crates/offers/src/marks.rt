@@ -1,8 +1,8 @@
 //! What may be done with each file now. It is kept up as each changes, so that what comes next is found without a walk over all.
 
-ghost use Rattle.std.specs.Prelude.{◌≡◌, ◌<◌, ◌≤◌, [], true, false, IfOk, length, slice_set};
-ghost use Rattle.offers.specs.Marks.{flag, move_mark, other_mark, ask_mark, AreMarks, HasRoom, RemarksPlace, RemarksNumber};
-ghost use Rattle.offers.specs.Moments.{AreNone, NoneFrom};
+ghost use Rattle.std.specs.Prelude.{◌≡◌, [], true, false, IfOk, length};
+ghost use Rattle.offers.specs.Marks.{flag, move_mark, other_mark, ask_mark, HasRoom, NoMarks, IsMarkAt, IsUnmarkedFrom, MarksAll, RemarksFile, RemarksFiles, marked_at};
+ghost use Rattle.offers.specs.Moments.{AreNone};
 ghost use Rattle.offers.specs.Order.{rank, Rises};
 ghost use Rattle.offers.specs.Rules.{only_of};
 
@@ -117,16 +117,8 @@ impl Marks {
 
     /// Marks the file at an index so.
     fn set(&mut self, index: usize, mark: FileMark)
-        requires moves { index < length self.old.moves }
-        requires others { index < length self.old.others }
-        requires sought { index < length self.old.sought }
-        requires entries { index < length self.old.entries }
-        requires searches { index < length self.old.searches }
-        ensures moves { self.new.moves ≡ slice_set self.old.moves index mark.moves }
-        ensures others { self.new.others ≡ slice_set self.old.others index mark.others }
-        ensures sought { self.new.sought ≡ slice_set self.old.sought index mark.sought }
-        ensures entries { self.new.entries ≡ slice_set self.old.entries index mark.entries }
-        ensures searches { self.new.searches ≡ slice_set self.old.searches index mark.searches }
+        requires { IsMarkAt self.old index }
+        ensures { self.new ≡ marked_at self.old index mark }
     {
         self.moves.set(index, mark.moves);
         self.others.set(index, mark.others);
@@ -137,21 +129,8 @@ impl Marks {
 
     /// The same where nothing is marked from there on.
     fn put(&mut self, index: usize, mark: FileMark)
-        requires moves { index < length self.old.moves }
-        requires others { index < length self.old.others }
-        requires sought { index < length self.old.sought }
-        requires entries { index < length self.old.entries }
-        requires searches { index < length self.old.searches }
-        requires no_moves { NoneFrom self.old.moves index }
-        requires no_others { NoneFrom self.old.others index }
-        requires no_sought { NoneFrom self.old.sought index }
-        requires no_entries { NoneFrom self.old.entries index }
-        requires no_searches { NoneFrom self.old.searches index }
-        ensures moves { self.new.moves ≡ slice_set self.old.moves index mark.moves }
-        ensures others { self.new.others ≡ slice_set self.old.others index mark.others }
-        ensures sought { self.new.sought ≡ slice_set self.old.sought index mark.sought }
-        ensures entries { self.new.entries ≡ slice_set self.old.entries index mark.entries }
-        ensures searches { self.new.searches ≡ slice_set self.old.searches index mark.searches }
+        requires { IsUnmarkedFrom self.old index }
+        ensures { self.new ≡ marked_at self.old index mark }
     {
         self.moves.put(index, mark.moves);
         self.others.put(index, mark.others);
@@ -164,16 +143,8 @@ impl Marks {
 /// Marks all files, of which none is marked.
 pub(crate) fn mark_all(marks: &mut Marks, offers: &[Offer], known: &RuleFacts)
     requires room { HasRoom offers.now marks.old }
-    requires no_moves { AreNone marks.old.moves }
-    requires no_others { AreNone marks.old.others }
-    requires no_sought { AreNone marks.old.sought }
-    requires no_entries { AreNone marks.old.entries }
-    requires no_searches { AreNone marks.old.searches }
-    ensures moves { AreMarks (move_mark known.now.released.entries known.now.still known.now.looked) offers.now marks.new.moves }
-    ensures others { AreMarks (other_mark false known.now.window known.now.still known.now.looked) offers.now marks.new.others }
-    ensures sought { AreMarks (other_mark true known.now.window known.now.still known.now.looked) offers.now marks.new.sought }
-    ensures entries { AreMarks (ask_mark false known.now.released.entries known.now.window known.now.still known.now.looked) offers.now marks.new.entries }
-    ensures searches { AreMarks (ask_mark true known.now.released.entries known.now.window known.now.still known.now.looked) offers.now marks.new.searches }
+    requires none { NoMarks marks.old }
+    ensures { MarksAll known.now offers.now marks.new }
 {
     for index in 0..offers.len() {
         let mark = mark_of(&offers[index], known);
@@ -185,11 +156,7 @@ pub(crate) fn mark_all(marks: &mut Marks, offers: &[Offer], known: &RuleFacts)
 fn remark_at(marks: &mut Marks, offers: &[Offer], known: &RuleFacts, place: u32)
     requires rises { Rises offers.now }
     requires room { HasRoom offers.now marks.old }
-    ensures moves { RemarksPlace (move_mark known.now.released.entries known.now.still known.now.looked) offers.now place marks.old.moves marks.new.moves }
-    ensures others { RemarksPlace (other_mark false known.now.window known.now.still known.now.looked) offers.now place marks.old.others marks.new.others }
-    ensures sought { RemarksPlace (other_mark true known.now.window known.now.still known.now.looked) offers.now place marks.old.sought marks.new.sought }
-    ensures entries { RemarksPlace (ask_mark false known.now.released.entries known.now.window known.now.still known.now.looked) offers.now place marks.old.entries marks.new.entries }
-    ensures searches { RemarksPlace (ask_mark true known.now.released.entries known.now.window known.now.still known.now.looked) offers.now place marks.old.searches marks.new.searches }
+    ensures { RemarksFile known.now offers.now place marks.old marks.new }
 {
     if let Some(index) = index_of(offers, place) {
         let mark = mark_of(&offers[index], known);
@@ -201,11 +168,7 @@ fn remark_at(marks: &mut Marks, offers: &[Offer], known: &RuleFacts, place: u32)
 pub(crate) fn remark(marks: &mut Marks, offers: &[Offer], known: &RuleFacts, number: Number)
     requires rises { Rises offers.now }
     requires room { HasRoom offers.now marks.old }
-    ensures moves { RemarksNumber (move_mark known.now.released.entries known.now.still known.now.looked) offers.now number marks.old.moves marks.new.moves }
-    ensures others { RemarksNumber (other_mark false known.now.window known.now.still known.now.looked) offers.now number marks.old.others marks.new.others }
-    ensures sought { RemarksNumber (other_mark true known.now.window known.now.still known.now.looked) offers.now number marks.old.sought marks.new.sought }
-    ensures entries { RemarksNumber (ask_mark false known.now.released.entries known.now.window known.now.still known.now.looked) offers.now number marks.old.entries marks.new.entries }
-    ensures searches { RemarksNumber (ask_mark true known.now.released.entries known.now.window known.now.still known.now.looked) offers.now number marks.old.searches marks.new.searches }
+    ensures { RemarksFiles known.now offers.now number marks.old marks.new }
 {
     remark_at(
         marks,

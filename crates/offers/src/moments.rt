@@ -111,19 +111,10 @@ impl Moments {
         ensures { self.new ≡ slice_set self.old index moment }
     {
         if moment.is_some() {
-            self.add(index, moment);
+            self.each[index] = moment;
+            let block = index / BLOCK;
+            self.blocks[block] = sooner(self.blocks[block], index, moment);
         }
-    }
-
-    /// Puts a moment, or none, at an index, where there was none from there on.
-    fn add(&mut self, index: usize, moment: Option<u64>)
-        requires within { index < length self.old }
-        requires none { NoneFrom self.old index }
-        ensures { self.new ≡ slice_set self.old index moment }
-    {
-        self.each[index] = moment;
-        let block = index / BLOCK;
-        self.blocks[block] = sooner(self.blocks[block], index, moment);
     }
 
     /// The first of all, with its index: of those that are the same the one of the least index.

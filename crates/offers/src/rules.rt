@@ -1,9 +1,9 @@
 //! What the rules say of one file.
 
-ghost use Rattle.std.specs.Prelude.{◌≡◌, ◌&&◌, None, false, not, is_some, IfSome};
+ghost use Rattle.std.specs.Prelude.{◌≡◌, None, false, is_some, IfSome};
 ghost use Rattle.std.specs.Ordering.{nat_cmp};
 ghost use Rattle.std.specs.BTreeMap.{get};
-ghost use Rattle.offers.specs.Rules.{is_whole, is_leaving, leaves_now, moment_of, ask_moment, is_other, has_other, is_under_way, IsLeaving, IsMoveFor, IsOther};
+ghost use Rattle.offers.specs.Rules.{is_whole, is_leaving, leaves_now, moment_of, ask_moment, is_free, is_other, has_other, entry_for, flies_by, IsLeaving, IsMoveFor, IsOther};
 
 use crate::deed::Deed;
 use crate::known::RuleFacts;
@@ -50,8 +50,8 @@ fn leave_answered(offer: &Offer) -> Deed
 
 /// How a file leaves the offers that was released under its number, or is a search that was answered, if its moment has come.
 pub(crate) fn leaving(offer: &Offer, known: &RuleFacts) -> Option<Deed>
-    ensures some { IfSome result (IsLeaving (get nat_cmp known.now.released offer.now.request.number) known.now.still known.now.looked offer.now) }
-    ensures none { result ≡ None → is_leaving (get nat_cmp known.now.released offer.now.request.number) known.now.still known.now.looked offer.now ≡ false }
+    ensures some { IfSome result (IsLeaving (entry_for known.now offer.now) known.now.still known.now.looked offer.now) }
+    ensures none { result ≡ None → is_leaving (entry_for known.now offer.now) known.now.still known.now.looked offer.now ≡ false }
 {
     if !is_whole(offer, known) {
         return None;
@@ -87,7 +87,7 @@ fn moment_of(stage: &Stage, looked: u64) -> Option<u64>
 
 /// Whether the number of a file was released.
 fn is_released(offer: &Offer, known: &RuleFacts) -> bool
-    ensures { result ≡ is_some (get nat_cmp known.now.released offer.now.request.number) }
+    ensures { result ≡ is_some (entry_for known.now offer.now) }
 {
     let key = offer.request.number.get();
     known.released.contains_key(&key)
@@ -95,7 +95,7 @@ fn is_released(offer: &Offer, known: &RuleFacts) -> bool
 
 /// Whether a file in its state leaves the offers. What was released is asked only where its moment has come.
 fn leaves_now(offer: &Offer, known: &RuleFacts) -> bool
-    ensures { result ≡ leaves_now (is_some (get nat_cmp known.now.released offer.now.request.number)) known.now.looked offer.now.stage }
+    ensures { result ≡ leaves_now (is_some (entry_for known.now offer.now)) known.now.looked offer.now.stage }
 {
     let looked = known.looked;
     match &offer.stage {
@@ -107,28 +107,28 @@ fn leaves_now(offer: &Offer, known: &RuleFacts) -> bool
 
 /// Whether a file leaves the offers now, whatever its way.
 pub(crate) fn is_leaving(offer: &Offer, known: &RuleFacts) -> bool
-    ensures { result ≡ is_leaving (get nat_cmp known.now.released offer.now.request.number) known.now.still known.now.looked offer.now }
+    ensures { result ≡ is_leaving (entry_for known.now offer.now) known.now.still known.now.looked offer.now }
 {
     is_whole(offer, known) && leaves_now(offer, known)
 }
 
 /// Whether the number of a file is under way.
 fn flies(offer: &Offer, known: &RuleFacts) -> bool
-    ensures { result ≡ is_under_way offer.now.request.number known.now.window }
+    ensures { result ≡ flies_by known.now offer.now }
 {
     is_under_way(known.window.numbers(), offer.request.number)
 }
 
 /// Whether the station may be asked for a file, once its moment has come.
 fn is_free(offer: &Offer, known: &RuleFacts) -> bool
-    ensures { result ≡ (is_whole known.now.still known.now.looked offer.now && not (is_some (get nat_cmp known.now.released offer.now.request.number)) && not (is_under_way offer.now.request.number known.now.window)) }
+    ensures { result ≡ is_free (entry_for known.now offer.now) (flies_by known.now offer.now) known.now.still known.now.looked offer.now }
 {
     is_whole(offer, known) && !is_released(offer, known) && !flies(offer, known)
 }
 
 /// The moment since which the station may be asked for a file.
 pub(crate) fn ask_moment(offer: &Offer, known: &RuleFacts) -> Option<u64>
-    ensures { result ≡ ask_moment (get nat_cmp known.now.released offer.now.request.number) (is_under_way offer.now.request.number known.now.window) known.now.still known.now.looked offer.now }
+    ensures { result ≡ ask_moment (entry_for known.now offer.now) (flies_by known.now offer.now) known.now.still known.now.looked offer.now }
 {
     let moment = moment_of(&offer.stage, known.looked);
     if moment.is_some() && is_free(offer, known) {
@@ -140,7 +140,7 @@ pub(crate) fn ask_moment(offer: &Offer, known: &RuleFacts) -> Option<u64>
 
 /// Whether a file in its state was not read and is to be, or is to be refused. What is under way is asked only where its moment has come.
 fn is_other(offer: &Offer, known: &RuleFacts) -> bool
-    ensures { result ≡ is_other (is_under_way offer.now.request.number known.now.window) known.now.looked offer.now.stage }
+    ensures { result ≡ is_other (flies_by known.now offer.now) known.now.looked offer.now.stage }
 {
     let looked = known.looked;
     match &offer.stage {
@@ -152,15 +152,15 @@ fn is_other(offer: &Offer, known: &RuleFacts) -> bool
 
 /// Whether a file is read or refused now.
 pub(crate) fn has_other(offer: &Offer, known: &RuleFacts) -> bool
-    ensures { result ≡ has_other (is_under_way offer.now.request.number known.now.window) known.now.still known.now.looked offer.now }
+    ensures { result ≡ has_other (flies_by known.now offer.now) known.now.still known.now.looked offer.now }
 {
     is_whole(offer, known) && is_other(offer, known)
 }
 
 /// How a file is read or refused now.
 pub(crate) fn other(offer: &Offer, known: &RuleFacts) -> Option<Deed>
-    ensures some { IfSome result (IsOther (is_under_way offer.now.request.number known.now.window) known.now.still known.now.looked offer.now) }
-    ensures none { result ≡ None → has_other (is_under_way offer.now.request.number known.now.window) known.now.still known.now.looked offer.now ≡ false }
+    ensures some { IfSome result (IsOther (flies_by known.now offer.now) known.now.still known.now.looked offer.now) }
+    ensures none { result ≡ None → has_other (flies_by known.now offer.now) known.now.still known.now.looked offer.now ≡ false }
 {
     if !is_whole(offer, known) {
         return None;

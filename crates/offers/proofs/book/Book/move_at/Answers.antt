@@ -1,12 +1,9 @@
 use Rattle.std.proofs.Common.{sym}
-use Rattle.offers.proofs.Doing.{may_leave, all_move, no_move}
+use Rattle.offers.proofs.Doing.{may_leave, no_move}
 use Rattle.offers.proofs.book.Book.move_at.Goals as goal
 
 pub returns-clause-some : goal.returns-clause-some
 returns-clause-some c = rw (sym c.self.view_is) (may_leave _ c.args.index c.index.result.now c.leaving.result (rw (sym c.self.view_is) at c.requires) c.index.ensures c.leaving.ensures.some)
-
-pub returns-clause-kind : goal.returns-clause-kind
-returns-clause-kind c = all_move _ _ _ _ c.leaving.result c.leaving.ensures.some
 
 pub returns-clause-none : goal.returns-clause-none
 returns-clause-none c = λ none.

@@ -2,7 +2,7 @@ use Rattle.std.proofs.Common.{◌≡◌, ◌≤◌, ◌<◌, ◌+◌, ◌*◌, �
 use Rattle.std.proofs.lemmas.List.{get_or_default}
 use Rattle.offers.specs.Moments.{MatchIn}
 use Rattle.offers.proofs.Blocks.{put_in, set_block}
-use Rattle.offers.proofs.moments.Moments.add.Goals as goal
+use Rattle.offers.proofs.moments.Moments.put.Goals as goal
 
 pub invariant_of-self : goal.invariant_of-self
 invariant_of-self c =
