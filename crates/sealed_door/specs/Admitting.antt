@@ -100,6 +100,12 @@ pub record BringsSealed (door : SealedDoor) (sender : SocketAddr) (bytes : List 
   pub comes : ComesFrom door.stations.items piece.label.from sender
   pub names : IsFromTo d.bytes.items d.sender door.own
 
+-- a door stays as it is, but for the packets of which some parts are there
+pub record KeepsDoor (old new : SealedDoor) : Type 0 where
+  pub keys : new.keys ≡ old.keys
+  pub own : new.own ≡ old.own
+  pub stations : new.stations ≡ old.stations
+
 -- the socket was given the first datagrams of a packet for an address, sealed under this key with this label, and took each
 abbrev pub TookFirst : (Address → List ℕ → Bool → Type 0) → Address → List ℕ → Label → List ℕ → ℕ → Type 0
 TookFirst given address block label packet count = (index : ℕ) → index < count → given address (sealed block label index packet) true

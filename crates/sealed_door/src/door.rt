@@ -4,7 +4,7 @@ ghost use Rattle.std.specs.Prelude.{◌≡◌, [], IfOk, IfSome, IfNone};
 ghost use Rattle.seals.specs.Opening.{IsPart};
 ghost use Rattle.wire.specs.Doors.{BringsAlike, BringsOnly};
 ghost use Rattle.gathering.specs.Parts.{IsSealedAs};
-ghost use Rattle.sealed_door.specs.Admitting.{AdmitsAlone, AdmitsPart, AdmitsSealed, BringsSealed, IsNamed, reason_of, sends_sealed};
+ghost use Rattle.sealed_door.specs.Admitting.{AdmitsAlone, AdmitsPart, AdmitsSealed, BringsSealed, IsNamed, KeepsDoor, reason_of, sends_sealed};
 
 use crate::naming::is_from_to;
 use crate::sending::send_parts;
@@ -102,9 +102,7 @@ impl SealedDoor {
     fn admit_part(&mut self, alloc: Global, piece: &Piece<'_>) -> Brought
         requires { IsPart piece.now.label piece.now.index piece.now.part.now }
         ensures admits { AdmitsPart self.old.keys self.old.own piece.now self.old.gathering self.new.gathering result }
-        ensures keys { self.new.keys ≡ self.old.keys }
-        ensures own { self.new.own ≡ self.old.own }
-        ensures stations { self.new.stations ≡ self.old.stations }
+        ensures keeps { KeepsDoor self.old self.new }
     {
         match self.gathering.take(alloc, &self.keys, piece) {
             Ok(Some(packet)) => named(packet, piece.label.from(), self.own),
@@ -129,9 +127,7 @@ impl Door for SealedDoor {
         ensures admits { AdmitsSealed self.old self.new sender bytes.now result }
         ensures brings { BringsOnly (BringsSealed self.new sender bytes.now) result }
         ensures alike { BringsAlike (BringsSealed self.old) (BringsSealed self.new) }
-        ensures keys { self.new.keys ≡ self.old.keys }
-        ensures own { self.new.own ≡ self.old.own }
-        ensures stations { self.new.stations ≡ self.old.stations }
+        ensures keeps { KeepsDoor self.old self.new }
     {
         if place_of(&self.stations, sender).is_none() {
             return Brought::Refused(Reason::Stranger);
@@ -155,9 +151,7 @@ impl Door for SealedDoor {
     fn send<S: Socket>(&mut self, socket: &S, to: Member, bytes: &[u8]) -> bool
         ensures sends { sends_sealed self.old (S.given socket.now) to bytes.now result }
         ensures alike { BringsAlike (BringsSealed self.old) (BringsSealed self.new) }
-        ensures keys { self.new.keys ≡ self.old.keys }
-        ensures own { self.new.own ≡ self.old.own }
-        ensures stations { self.new.stations ≡ self.old.stations }
+        ensures keeps { KeepsDoor self.old self.new }
     {
         let Some(address) = address_of(&self.stations, to) else {
             return false;
