@@ -45,25 +45,16 @@ impl<'a> fmt::Display for RefusedKey<'a> {
 }
 
 impl<'a> RefusedKey<'a> {
-    /// How a command ends by it.
-    fn end(&self) -> End
-        ensures end { result ≡ end_of_key self.now.fault }
-        ensures cause { IsOfInput result }
-        ensures fails { ¬ (result ≡ Done) }
-    {
-        match self.fault {
-            KeyFault::OutOfMemory => End::Memory,
-            _ => End::Input,
-        }
-    }
-
-    /// Writes the text, and gives the end. That the writer fails is ignored.
+    /// Writes the text, and gives the end of a command that stops by it. That the writer fails is ignored.
     pub fn tell<E: Write>(&self, err: &mut E) -> End
         ensures end { result ≡ end_of_key self.now.fault }
         ensures cause { IsOfInput result }
         ensures fails { ¬ (result ≡ Done) }
     {
         let _ = writeln!(err, "{self}");
-        self.end()
+        match self.fault {
+            KeyFault::OutOfMemory => End::Memory,
+            _ => End::Input,
+        }
     }
 }
