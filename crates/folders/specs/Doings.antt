@@ -12,6 +12,10 @@ pub data Doing : Type 0 where
   moved_file : (name : List ℕ) (to : Place) → Doing
   removed_file : (name : List ℕ) → Doing
 
+-- a file of this name among the offers was found, and read to its end: it holds these bytes
+abbrev pub read_whole : List ℕ → List ℕ → List Doing
+read_whole name bytes = saw_file name ∷ read_file (record { name = name; bytes = bytes }) ∷ []
+
 -- these were done since, in this order, and no others; of folders that don't tell, nothing is said
 abbrev pub Does : Option (List Doing) → Option (List Doing) → List Doing → Type 0
 Does None new doings = Unit {0}

@@ -1,10 +1,12 @@
 -- What went out at a plant, as a station keeps it in the file `.released` and beside it.
-use Rattle.std.specs.Prelude.{◌≡◌, ◌↔◌, ◌⊎◌, ◌++◌, ◌&&◌, ℕ, Bool, not, IsTrue, List, Option, None, Some, take, length}
+use Rattle.std.specs.Prelude.{◌≡◌, ◌≤◌, ◌↔◌, ◌⊎◌, ◌++◌, ◌&&◌, ℕ, Bool, not, IsTrue, List, Option, None, Some, take, length}
 use Rattle.gone_out.specs.declared.origin.Origin.{Origin}
 use Rattle.gone_out.specs.Origins.{IsOrigin}
 use Rattle.gone_out.specs.Files.{IsNumber, HasHead, HasRecord, records, whole_part}
 use Rattle.gone_out.specs.Laws.{IsAmong}
 use Rattle.gone_out.specs.Numbers.{has}
+use Rattle.folders.specs.declared.change.Change.{Change}
+use Rattle.folders.specs.Changes.{after}
 
 -- the file begins with the station's head, and the numbers that have a record in it are those of the set
 pub record IsFileOf (o : Origin) (flags : List Bool) (bytes : List ℕ) : Type 0 where
@@ -17,6 +19,11 @@ pub record IsFileBut (o : Origin) (flags : List Bool) (waiting bytes : List ℕ)
   pub head : HasHead bytes o
   pub all : (n : ℕ) → IsNumber n → IsTrue (has flags n) → HasRecord bytes o n ⊎ IsAmong waiting n
   pub only : (n : ℕ) → IsNumber n → HasRecord bytes o n ⊎ IsAmong waiting n → IsTrue (has flags n)
+
+-- the change makes the file good that has this length, or 0 where there is none: the numbers that wait have their records then
+abbrev pub MakesGood : Origin → List Bool → List ℕ → ℕ → Change → Type 0
+MakesGood o flags waiting len change =
+    (bytes : List ℕ) → length bytes ≡ len → (16 ≤ len → IsFileBut o flags waiting bytes) → IsFileOf o flags (after change bytes)
 
 -- the file begins with the head of no station
 abbrev pub HasNoHead : List ℕ → Type 0

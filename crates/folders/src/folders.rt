@@ -1,7 +1,7 @@
 //! What a station asks of its folders.
 
 ghost use Rattle.std.specs.Prelude.{◌≡◌, ◌≤◌, ◌<◌, List, [], ◌∷◌, Option, None, OnOk, OnErr, IfOk, IfErr, IfSome, IfNone, length, map, take};
-ghost use Rattle.folders.specs.Doings.{Doing, saw_file, read_file, wrote_file, moved_file, removed_file, Does, MayDo};
+ghost use Rattle.folders.specs.Doings.{Doing, saw_file, read_whole, wrote_file, moved_file, removed_file, Does, MayDo};
 ghost use Rattle.folders.specs.GoneOut.{StartsWith};
 
 use crate::fault::FolderFault;
@@ -113,7 +113,7 @@ pub trait Folders {
         most: usize,
     ) -> Result<Option<Vec<u8>>, FolderFault>
         ensures most { IfOk result (λ held. IfSome held (λ v. length v.items ≤ most)) }
-        ensures whole { IfOk result (λ held. IfSome held (λ v. Does (doings self.old) (doings self.new) (saw_file name.now ∷ read_file (record { name = name.now; bytes = v.items }) ∷ []))) }
+        ensures whole { IfOk result (λ held. IfSome held (λ v. Does (doings self.old) (doings self.new) (read_whole name.now v.items))) }
         ensures longer { IfOk result (λ held. IfNone held (Does (doings self.old) (doings self.new) (saw_file name.now ∷ []))) }
         ensures err { OnErr result (MayDo (doings self.old) (doings self.new) (saw_file name.now)) };
 

@@ -1,12 +1,11 @@
 //! What went out, as a station has it beside its file.
 
-ghost use Rattle.std.specs.Prelude.{◌≡◌, ◌≤◌, ◌↔◌, ◌⊎◌, [], ℕ, List, IsTrue, IfOk, OnOk, OnErr, length};
+ghost use Rattle.std.specs.Prelude.{◌≡◌, ◌↔◌, ◌⊎◌, [], ℕ, List, IsTrue, IfOk, OnOk, OnErr};
 ghost use Rattle.gone_out.specs.declared.origin.Origin.{Origin as OriginValue};
 ghost use Rattle.gone_out.specs.Files.{IsNumber};
 ghost use Rattle.gone_out.specs.Laws.{IsAmong};
 ghost use Rattle.gone_out.specs.Numbers.{has};
-ghost use Rattle.folders.specs.Changes.{after};
-ghost use Rattle.folders.specs.GoneOut.{IsFileOf, IsFileBut, HaveSame};
+ghost use Rattle.folders.specs.GoneOut.{IsFileOf, IsFileBut, HaveSame, MakesGood};
 
 use crate::change::{Change, Records};
 use crate::released::{is_station, members, new_file, records_of};
@@ -61,7 +60,7 @@ impl Ledger {
     /// What is to be done with the file, which has this length, or 0 where there is none: it is written anew where it is too short for a
     /// head, and else gets the records that wait.
     pub fn change(&self, alloc: Global, own: &Origin, len: u64) -> Result<Change, AllocError>
-        ensures { IfOk result (λ c. (bytes : List ℕ) → length bytes ≡ len → (16 ≤ len → IsFileBut own.now self.now.numbers self.now.waiting.items bytes) → IsFileOf own.now self.now.numbers (after c bytes)) }
+        ensures { IfOk result (MakesGood own.now self.now.numbers self.now.waiting.items len) }
     {
         laws::adds_one();
         is_station(own);

@@ -59,6 +59,11 @@ fn offer_of(
     })
 }
 
+/// Takes the offer of this name away, if there is one.
+fn drop_offer(offers: &mut Vec<MemoryOffer>, name: &str) {
+    offers.retain(|offer| offer.name.as_str() != name);
+}
+
 /// An offer that is open to be read, which may be written anew at the moment at which it is.
 #[derive(Drop)]
 struct OpenOffer {
@@ -91,6 +96,15 @@ struct MemoryKeeper {
     ledger: Ledger,
 }
 
+/// The file `.released` in memory.
+#[derive(Drop)]
+struct MemoryReleased {
+    /// Its bytes; none where there is no file.
+    bytes: Vec<u8>,
+    /// Who keeps it.
+    keeper: Option<MemoryKeeper>,
+}
+
 /// Folders in memory. They can be told to refuse what is written among the releases, and to write an offer anew while it is read.
 #[derive(Drop)]
 pub struct MemoryFolders {
@@ -102,10 +116,75 @@ pub struct MemoryFolders {
     /// What was done, in order.
     acts: Vec<Act>,
     is_full: bool,
-    /// The bytes of the file `.released`; none where there is no file.
-    released: Vec<u8>,
-    /// Who keeps it.
-    keeper: Option<MemoryKeeper>,
+    released: MemoryReleased,
+}
+
+impl MemoryReleased {
+    /// Keeps what went out from now on, over what the file holds of this station. One whose head is damaged is written anew.
+    fn go_on(&mut self, alloc: Global, own: &Origin, kept: Kept) -> Result<WentOut, FolderFault>
+        ensures starts { IfOk result (λ w. (known : List Bool) → StartsWith known w.numbers w.missing) }
+        ensures same { IfOk result (λ w. HaveSame w.numbers kept.numbers) }
+    {
+        let went = went_before(alloc, &kept.numbers)?;
+        if !kept.has_head {
+            self.bytes.clear();
+        }
+        self.keeper = Some(MemoryKeeper {
+            own: *own,
+            ledger: Ledger::new(alloc, kept.numbers),
+        });
+        Ok(went)
+    }
+
+    /// Begins to keep what went out, where a file of these numbers was found. What lay there goes aside.
+    fn begin(
+        &mut self,
+        alloc: Global,
+        own: &Origin,
+        known: &Numbers,
+        found: &Numbers,
+    ) -> Result<WentOut, FolderFault>
+        ensures starts { IfOk result (λ w. StartsWith known.now w.numbers w.missing) }
+    {
+        let mut went = first_went_out(alloc, known, found)?;
+        let ledger = Ledger::new(alloc, copy_of(alloc, known)?);
+        went.set_aside = !self.bytes.is_empty();
+        self.bytes.clear();
+        self.keeper = Some(MemoryKeeper { own: *own, ledger });
+        Ok(went)
+    }
+
+    /// Reads what went out, or begins to keep it where the file is not this station's, by the numbers of which a file was found.
+    fn start_keeping(
+        &mut self,
+        alloc: Global,
+        own: &Origin,
+        known: &Numbers,
+        found: &Numbers,
+    ) -> Result<WentOut, FolderFault>
+        ensures starts { IfOk result (λ w. StartsWith known.now w.numbers w.missing) }
+        ensures kept { IsOwnFile self.old.bytes.items own.now → IfOk result (λ w. AreThoseOf w.numbers own.now self.old.bytes.items) }
+    {
+        match kept_of(alloc, &self.bytes, own)? {
+            Some(kept) => self.go_on(alloc, own, kept),
+            None => self.begin(alloc, own, known, found),
+        }
+    }
+
+    /// Adds the records of the numbers that wait for them, unless what is written is refused.
+    fn write_records(&mut self, alloc: Global, is_full: bool) -> Result<(), FolderFault> {
+        let Some(keeper) = &mut self.keeper else {
+            return Ok(());
+        };
+        if is_full {
+            return Err(FolderFault::Full);
+        }
+        let len = self.bytes.len() as u64;
+        let change = keeper.ledger.change(alloc, &keeper.own, len)?;
+        changed(&mut self.bytes, change)?;
+        keeper.ledger.made();
+        Ok(())
+    }
 }
 
 impl MemoryFolders {
@@ -117,25 +196,30 @@ impl MemoryFolders {
             coming: None,
             acts: Vec::new(alloc),
             is_full: false,
-            released: Vec::new(alloc),
-            keeper: None,
+            released: MemoryReleased {
+                bytes: Vec::new(alloc),
+                keeper: None,
+            },
         }
     }
 
     /// The bytes of the file `.released` among the releases; none where there is no file.
     pub fn released(&self) -> &[u8]
-        ensures { result.now ≡ self.now.released.items }
+        ensures { result.now ≡ self.now.released.bytes.items }
     {
-        &self.released
+        &self.released.bytes
     }
 
     /// Lays the file `.released` among the releases, as a start before left it, in place of what is there. It is read at the next start.
     pub fn lay_released(&mut self, alloc: Global, bytes: &[u8]) -> Result<(), AllocError>
         ensures acts { self.new.acts ≡ self.old.acts }
-        ensures bytes { OnOk result (self.new.released.items ≡ bytes.now) }
+        ensures bytes { OnOk result (self.new.released.bytes.items ≡ bytes.now) }
     {
-        self.released = Vec::from_slice(alloc, bytes)?;
-        self.keeper = None;
+        let bytes = Vec::from_slice(alloc, bytes)?;
+        self.released = MemoryReleased {
+            bytes,
+            keeper: None,
+        };
         Ok(())
     }
 
@@ -144,7 +228,7 @@ impl MemoryFolders {
         let mut found = Numbers::new(alloc)?;
         for act in self.acts.iter() {
             let number = match act {
-                Act::Wrote(file) => release_number(alloc, file.name())?,
+                Act::Wrote(file) => release_number(alloc, file.name.as_str())?,
                 Act::SetAside(name, Place::Sent) => sent_number(alloc, name)?,
                 _ => None,
             };
@@ -153,75 +237,6 @@ impl MemoryFolders {
             }
         }
         Ok(found)
-    }
-
-    /// Keeps what went out from now on, over what the file holds of this station. One whose head is damaged is written anew.
-    fn go_on(&mut self, alloc: Global, own: &Origin, kept: Kept) -> Result<WentOut, FolderFault>
-        ensures acts { self.new.acts ≡ self.old.acts }
-        ensures starts { IfOk result (λ w. (known : List Bool) → StartsWith known w.numbers w.missing) }
-        ensures same { IfOk result (λ w. HaveSame w.numbers kept.numbers) }
-    {
-        let went = went_before(alloc, &kept.numbers)?;
-        if !kept.has_head {
-            self.released.clear();
-        }
-        self.keeper = Some(MemoryKeeper {
-            own: *own,
-            ledger: Ledger::new(alloc, kept.numbers),
-        });
-        Ok(went)
-    }
-
-    /// Begins to keep what went out. What lay there goes aside.
-    fn begin(
-        &mut self,
-        alloc: Global,
-        own: &Origin,
-        known: &Numbers,
-    ) -> Result<WentOut, FolderFault>
-        ensures acts { self.new.acts ≡ self.old.acts }
-        ensures starts { IfOk result (λ w. StartsWith known.now w.numbers w.missing) }
-    {
-        let mut went = first_went_out(alloc, known, &self.files(alloc)?)?;
-        let ledger = Ledger::new(alloc, copy_of(alloc, known)?);
-        went.set_aside = !self.released.is_empty();
-        self.released.clear();
-        self.keeper = Some(MemoryKeeper { own: *own, ledger });
-        Ok(went)
-    }
-
-    /// Reads what went out, or begins to keep it where the file is not this station's.
-    fn start_keeping(
-        &mut self,
-        alloc: Global,
-        own: &Origin,
-        known: &Numbers,
-    ) -> Result<WentOut, FolderFault>
-        ensures acts { self.new.acts ≡ self.old.acts }
-        ensures starts { IfOk result (λ w. StartsWith known.now w.numbers w.missing) }
-        ensures kept { IsOwnFile self.old.released.items own.now → IfOk result (λ w. AreThoseOf w.numbers own.now self.old.released.items) }
-    {
-        match kept_of(alloc, &self.released, own)? {
-            Some(kept) => self.go_on(alloc, own, kept),
-            None => self.begin(alloc, own, known),
-        }
-    }
-
-    /// Adds the records of the numbers that wait for them.
-    fn write_records(&mut self, alloc: Global) -> Result<(), FolderFault>
-        ensures acts { self.new.acts ≡ self.old.acts }
-    {
-        let Some(keeper) = &mut self.keeper else {
-            return Ok(());
-        };
-        if self.is_full {
-            return Err(FolderFault::Full);
-        }
-        let len = self.released.len() as u64;
-        let change = keeper.ledger.change(alloc, &keeper.own, len)?;
-        changed(&mut self.released, change)?;
-        keeper.ledger.made();
-        Ok(())
     }
 
     /// Whether what is written among the releases is refused from now on.
@@ -245,7 +260,7 @@ impl MemoryFolders {
         changed: i64,
     ) -> Result<(), AllocError> {
         let offer = offer_of(alloc, name, bytes, changed)?;
-        self.drop_offer(name);
+        drop_offer(&mut self.offers, name);
         self.offers.push(offer)?;
         Ok(())
     }
@@ -260,12 +275,6 @@ impl MemoryFolders {
     ) -> Result<(), AllocError> {
         self.coming = Some(offer_of(alloc, name, bytes, changed)?);
         Ok(())
-    }
-
-    fn drop_offer(&mut self, name: &str)
-        ensures { self.new.acts ≡ self.old.acts }
-    {
-        self.offers.retain(|offer| offer.name.as_str() != name);
     }
 
     fn find(&self, name: &str) -> Option<&MemoryOffer> {
@@ -286,7 +295,7 @@ impl MemoryFolders {
     {
         let before = self.stamp_of(name)?;
         if let Some(coming) = self.coming.take() {
-            self.drop_offer(coming.name.as_str());
+            drop_offer(&mut self.offers, coming.name.as_str());
             if self.offers.push(coming).is_err() {
                 return Err(FolderFault::OutOfMemory);
             }
@@ -300,17 +309,6 @@ impl MemoryFolders {
         })
     }
 
-    /// Keeps what was done behind what was done before.
-    fn keep(&mut self, act: Act) -> Result<(), FolderFault>
-        ensures ok { OnOk result (acts_of self.new.acts.items ≡ acts_of self.old.acts.items ++ act_of act) }
-        ensures err { OnErr result (self.new.acts.items ≡ self.old.acts.items) }
-    {
-        if let Err(_) = self.acts.push(act) {
-            return Err(FolderFault::OutOfMemory);
-        }
-        Ok(())
-    }
-
     /// Lets a file leave the offers. Where there is no memory to tell it, it stays.
     fn leave(&mut self, name: &str, act: Act) -> Result<(), FolderFault>
         ensures ok { OnOk result (acts_of self.new.acts.items ≡ acts_of self.old.acts.items ++ act_of act) }
@@ -319,8 +317,8 @@ impl MemoryFolders {
         if self.find(name).is_none() {
             return Err(FolderFault::Missing);
         }
-        self.keep(act)?;
-        self.drop_offer(name);
+        keep(&mut self.acts, act)?;
+        drop_offer(&mut self.offers, name);
         Ok(())
     }
 
@@ -332,8 +330,8 @@ impl MemoryFolders {
         if self.is_full {
             return Err(FolderFault::Full);
         }
-        let named = NamedFile::of(alloc, named.name(), named.bytes())?;
-        self.keep(Act::Wrote(named))
+        let named = NamedFile::of(alloc, &named.name, &named.bytes)?;
+        keep(&mut self.acts, Act::Wrote(named))
     }
 
     /// Writes the text beside where a file goes.
@@ -345,8 +343,19 @@ impl MemoryFolders {
             name: text_name(alloc, leaving.name)?,
             text: String::from_str(alloc, text)?,
         };
-        self.keep(Act::Noted(noted))
+        keep(&mut self.acts, Act::Noted(noted))
     }
+}
+
+/// Keeps what was done behind what was done before.
+fn keep(acts: &mut Vec<Act>, act: Act) -> Result<(), FolderFault>
+    ensures ok { OnOk result (acts_of acts.new.items ≡ acts_of acts.old.items ++ act_of act) }
+    ensures err { OnErr result (acts.new.items ≡ acts.old.items) }
+{
+    if let Err(_) = acts.push(act) {
+        return Err(FolderFault::OutOfMemory);
+    }
+    Ok(())
 }
 
 /// The bytes of a file after a change.
@@ -405,14 +414,14 @@ impl Folders for MemoryFolders {
     ) -> Result<Option<Vec<u8>>, FolderFault> {
         let seen = String::from_str(alloc, name)?;
         test_same(stamp, self.stamp_of(name)?)?;
-        self.keep(Act::Saw(seen))?;
+        keep(&mut self.acts, Act::Saw(seen))?;
         if stamp.length > most as u64 {
             return Ok(None);
         }
         let mut file = self.open(alloc, name)?;
         let bytes = read_between(alloc, &mut file, stamp)?;
         let named = NamedFile::of(alloc, name, &bytes)?;
-        self.keep(Act::Read(named))?;
+        keep(&mut self.acts, Act::Read(named))?;
         Ok(Some(bytes))
     }
 
@@ -452,23 +461,24 @@ impl Folders for MemoryFolders {
     ) -> Result<Option<WentOut>, FolderFault>
         ensures same { self.new.acts ≡ self.old.acts }
         ensures starts { IfOk result (λ kept. IfSome kept (λ w. StartsWith known.now w.numbers w.missing)) }
-        ensures kept { IsOwnFile self.old.released.items own.now → IfOk result (λ kept. IfSome kept (λ w. AreThoseOf w.numbers own.now self.old.released.items)) }
+        ensures kept { IsOwnFile self.old.released.bytes.items own.now → IfOk result (λ kept. IfSome kept (λ w. AreThoseOf w.numbers own.now self.old.released.bytes.items)) }
     {
-        let went = self.start_keeping(alloc, own, known)?;
-        self.write_records(alloc)?;
+        let found = self.files(alloc)?;
+        let went = self.released.start_keeping(alloc, own, known, &found)?;
+        self.released.write_records(alloc, self.is_full)?;
         Ok(Some(went))
     }
 
     fn note_gone(&mut self, alloc: Global, numbers: &[Number]) -> Result<(), FolderFault> {
-        if let Some(keeper) = &mut self.keeper {
+        if let Some(keeper) = &mut self.released.keeper {
             keeper.ledger.note(numbers)?;
         }
         // One that is refused is tried again as they are settled.
-        let _ = self.write_records(alloc);
+        let _ = self.released.write_records(alloc, self.is_full);
         Ok(())
     }
 
     fn settle(&mut self, alloc: Global) -> Result<(), FolderFault> {
-        self.write_records(alloc)
+        self.released.write_records(alloc, self.is_full)
     }
 }

@@ -5,11 +5,11 @@ ghost use Rattle.std.specs.Prelude.{◌≡◌, IfOk, string_bytes};
 use std::alloc::{AllocError, Global};
 use std::marker::Model;
 
-/// A file, as its name and what it holds. Clauses see both.
+/// A file, as its name and what it holds. Clauses see the bytes of both.
 #[derive(Drop)]
 pub struct NamedFile {
-    name: String,
-    bytes: Vec<u8>,
+    pub name: String,
+    pub bytes: Vec<u8>,
 }
 
 impl Model for NamedFile {
@@ -36,17 +36,5 @@ impl NamedFile {
         let name = String::from_str(alloc, name)?;
         let bytes = Vec::from_slice(alloc, bytes)?;
         Ok(NamedFile::new(name, bytes))
-    }
-
-    pub fn name(&self) -> &str
-        ensures { result.now ≡ self.now.name }
-    {
-        self.name.as_str()
-    }
-
-    pub fn bytes(&self) -> &[u8]
-        ensures { result.now ≡ self.now.bytes }
-    {
-        self.bytes.as_slice()
     }
 }

@@ -68,7 +68,7 @@ pub(crate) fn write_beside(
     name: &str,
     text: &str,
 ) -> Result<(), FolderFault> {
-    let name = text_name(maker.alloc(), name)?;
+    let name = text_name(maker.rt.alloc(), name)?;
     let path = free_path(maker.rt, folder, &name, Some(text))?;
     if id_at(maker.rt, &path)?.is_some() {
         return Ok(());

@@ -58,7 +58,7 @@ fn make_anew(
     bytes: &[u8],
 ) -> Result<Held, FolderFault> {
     let path = path_in(maker.rt, releases.path())?;
-    let held = Part::filled(maker, releases.path(), bytes)?.keep_as(maker.rt, &path)?;
+    let held = Part::filled(maker, releases.path(), bytes)?.name_as(maker.rt, &path)?;
     releases.sync()?;
     Ok(held)
 }
@@ -119,7 +119,7 @@ impl PlantFolders<'_, '_> {
         ensures { IfOk result (λ w. StartsWith known.now w.numbers w.missing) }
     {
         let files = self.files()?;
-        let mut went = first_went_out(self.maker.alloc(), known, &files)?;
+        let mut went = first_went_out(self.maker.rt.alloc(), known, &files)?;
         if is_other {
             set_aside(self.maker.rt, self.releases.path())?;
             went.set_aside = true;
@@ -174,7 +174,7 @@ impl GoneKeeper {
             Some(held) => held.len()?,
             None => 0,
         };
-        match self.ledger.change(maker.alloc(), &self.own, len)? {
+        match self.ledger.change(maker.rt.alloc(), &self.own, len)? {
             Change::Stays => return Ok(()),
             Change::Adds(records) => match &mut self.held {
                 Some(held) => held.add(&records)?,
@@ -256,7 +256,7 @@ impl GoneOut {
     ) -> Result<WentOut, FolderFault>
         ensures { IfOk result (λ w. StartsWith known.now w.numbers w.missing) }
     {
-        let alloc = plant.maker.alloc();
+        let alloc = plant.maker.rt.alloc();
         let found = find(plant.maker.rt, plant.releases.path(), own)?;
         let is_other = found.is_some();
         if let Some(

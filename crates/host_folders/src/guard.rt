@@ -1,7 +1,8 @@
 //! Folders that one process alone works with.
 
-use crate::looks::{folder_at, id_of};
+use crate::looks::{folder_at, id_of, within};
 use folders::{FileId, FolderFault};
+use std::alloc::{AllocError, Global};
 use std::fs::{File, TryLockError};
 
 /// A folder whose lock is held, as long as it is open.
@@ -25,7 +26,7 @@ pub(crate) enum Guard {
 /// A folder by its path, and the one that is held there.
 #[derive(Drop)]
 pub(crate) struct Guarded {
-    path: String,
+    pub(crate) path: String,
     held: Option<HeldFolder>,
     /// Whether one was ever held.
     was_held: bool,
@@ -50,8 +51,9 @@ impl Guarded {
         }
     }
 
-    pub(crate) fn path(&self) -> &str {
-        self.path.as_str()
+    /// The path of a file in the folder.
+    pub(crate) fn within(&self, alloc: Global, name: &str) -> Result<String, AllocError> {
+        within(alloc, &self.path, name)
     }
 
     /// Whether this very folder is held.

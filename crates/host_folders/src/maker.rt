@@ -1,7 +1,7 @@
 //! What files are made with: the host, and names that nobody else makes.
 
 use folders::own_name;
-use std::alloc::{AllocError, Global};
+use std::alloc::AllocError;
 use std::process;
 use std::time::SystemTime;
 
@@ -34,10 +34,6 @@ impl<'a> Maker<'a> {
             start: clock(rt),
             count: 0,
         }
-    }
-
-    pub(crate) fn alloc(&self) -> Global {
-        self.rt.alloc()
     }
 
     /// The start, in nanoseconds since 1970 by the host's clock.

@@ -24,14 +24,14 @@ fn make_place(rt: &HostRuntime, offers: &str, to: Place) -> Result<String, Folde
 
 /// Takes a file from its name into the passage, and answers its path there.
 fn take_away(maker: &mut Maker<'_>, offers: &str, name: &str) -> Result<String, FolderFault> {
-    let passage = within(maker.alloc(), offers, PASSAGE)?;
+    let passage = within(maker.rt.alloc(), offers, PASSAGE)?;
     fs::create_dir_all(maker.rt, passage.as_str())?;
-    let own = within(maker.alloc(), &passage, name)?;
+    let own = within(maker.rt.alloc(), &passage, name)?;
     if id_at(maker.rt, &own)?.is_some() {
         put_back(maker, offers, &own, name)?;
         return Err(FolderFault::Changed);
     }
-    let from = within(maker.alloc(), offers, name)?;
+    let from = within(maker.rt.alloc(), offers, name)?;
     fs::rename(maker.rt, from.as_str(), own.as_str())?;
     Ok(own)
 }
@@ -54,7 +54,7 @@ fn give_back(rt: &HostRuntime, own: &str, home: &str) -> Result<(), FolderFault>
 
 /// Puts what lies in the passage back to its name among the offers, or where another stands there, to what is refused.
 fn put_back(maker: &mut Maker<'_>, offers: &str, own: &str, name: &str) -> Result<(), FolderFault> {
-    let home = within(maker.alloc(), offers, name)?;
+    let home = within(maker.rt.alloc(), offers, name)?;
     let Some(file) = id_at(maker.rt, own)? else {
         return Ok(());
     };
@@ -129,7 +129,7 @@ pub(crate) fn set_aside(
     leaving: Leaving<'_>,
     beside: Option<&str>,
 ) -> Result<(), FolderFault> {
-    let alloc = maker.alloc();
+    let alloc = maker.rt.alloc();
     let home = within(alloc, offers, leaving.name)?;
     test_same(leaving.stamp, found_again(maker.rt, &home)?)?;
     let folder = make_place(maker.rt, offers, leaving.to)?;
@@ -139,10 +139,10 @@ pub(crate) fn set_aside(
 
 /// Puts back what lies in the passage: what was on its way as a process ended.
 fn clear_passage(maker: &mut Maker<'_>, offers: &str) -> Result<(), FolderFault> {
-    let passage = within(maker.alloc(), offers, PASSAGE)?;
+    let passage = within(maker.rt.alloc(), offers, PASSAGE)?;
     for entry in fs::read_dir(maker.rt, passage.as_str())? {
         if let Ok(entry) = entry {
-            let own = within(maker.alloc(), &passage, entry.file_name())?;
+            let own = within(maker.rt.alloc(), &passage, entry.file_name())?;
             // One that can't be put back now stays for the next start.
             let _ = put_back(maker, offers, &own, entry.file_name());
         }
@@ -156,7 +156,7 @@ pub(crate) fn clear_offers(maker: &mut Maker<'_>, offers: &str) -> Result<(), Fo
     let _ = clear_passage(maker, offers);
     let _ = clear_parts(maker.rt, offers);
     for place in PLACES {
-        let folder = within(maker.alloc(), offers, place.folder())?;
+        let folder = within(maker.rt.alloc(), offers, place.folder())?;
         let _ = clear_parts(maker.rt, &folder);
     }
     Ok(())

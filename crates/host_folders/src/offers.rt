@@ -3,7 +3,7 @@
 ghost use Rattle.std.specs.Prelude.{◌≡◌, ◌≤◌, IfOk, IfSome, length};
 
 use crate::guard::{Guard, Guarded};
-use crate::looks::{found_again, plain_file, stamp_of, within};
+use crate::looks::{found_again, plain_file, stamp_of};
 use crate::maker::Maker;
 use crate::moving::clear_offers;
 use crate::part::Part;
@@ -94,12 +94,12 @@ impl Offers {
     }
 
     pub(crate) fn path(&self) -> &str {
-        self.guarded.path()
+        self.guarded.path.as_str()
     }
 
     /// Takes the start from the clock of the folder.
     pub(crate) fn note_start(&mut self, maker: &mut Maker<'_>) {
-        if let Ok(start) = clock_of(maker, self.guarded.path()) {
+        if let Ok(start) = clock_of(maker, &self.guarded.path) {
             self.start = start;
         }
     }
@@ -109,7 +109,7 @@ impl Offers {
     pub(crate) fn check(&mut self, maker: &mut Maker<'_>) -> Result<bool, FolderFault> {
         let guard = self.guarded.check(maker.rt)?;
         if guard != Guard::Same {
-            clear_offers(maker, self.guarded.path())?;
+            clear_offers(maker, &self.guarded.path)?;
         }
         Ok(guard == Guard::Other)
     }
@@ -167,8 +167,8 @@ impl Offers {
 
     /// Begins a look, in place of one that went on. It fails where the folder may be listed and not searched.
     fn begin(&self, rt: &HostRuntime) -> Result<Walk, FolderFault> {
-        let path = self.guarded.path();
-        fs::symlink_metadata(rt, within(rt.alloc(), path, ".")?.as_str())?;
+        let path = self.guarded.path.as_str();
+        fs::symlink_metadata(rt, self.guarded.within(rt.alloc(), ".")?.as_str())?;
         let entries = fs::read_dir(rt, path)?;
         Ok(Walk { entries, took: 0 })
     }
@@ -197,7 +197,7 @@ impl Offers {
 
     /// Whether a file `stop` that is newer than the start lies there.
     pub(crate) fn has_stop(&self, rt: &HostRuntime) -> bool {
-        let Ok(path) = within(rt.alloc(), self.guarded.path(), STOP) else {
+        let Ok(path) = self.guarded.within(rt.alloc(), STOP) else {
             return false;
         };
         matches!(plain_file(rt, &path), Ok(stamp) if self.is_new(stamp))
@@ -213,7 +213,7 @@ impl Offers {
     ) -> Result<Option<Vec<u8>>, FolderFault>
         ensures { IfOk result (λ held. IfSome held (λ v. length v.items ≤ most)) }
     {
-        let path = within(rt.alloc(), self.guarded.path(), name)?;
+        let path = self.guarded.within(rt.alloc(), name)?;
         test_same(stamp, found_again(rt, &path)?)?;
         if stamp.length > most as u64 {
             return Ok(None);
@@ -226,7 +226,7 @@ impl Offers {
 
     /// Takes a plain file away that is older than the start. What can't be looked at is not there.
     pub(crate) fn remove(&self, rt: &HostRuntime, name: &str) -> Result<(), FolderFault> {
-        let path = within(rt.alloc(), self.guarded.path(), name)?;
+        let path = self.guarded.within(rt.alloc(), name)?;
         match plain_file(rt, &path) {
             Ok(stamp) if self.is_new(stamp) => Ok(()),
             Ok(_) => Ok(fs::remove_file(rt, path.as_str())?),

@@ -24,7 +24,7 @@ impl Part {
     /// Makes an empty file in a folder, under a name that nothing has.
     pub(crate) fn make(maker: &mut Maker<'_>, folder: &str) -> Result<Part, FolderFault> {
         let name = maker.next_name()?;
-        let path = within(maker.alloc(), folder, &name)?;
+        let path = within(maker.rt.alloc(), folder, &name)?;
         let file = File::create_new(maker.rt, path.as_str())?;
         let id = id_of(&file.metadata()?);
         Ok(Part { path, file, id })
@@ -63,25 +63,19 @@ impl Part {
         Ok(stamp_of(&self.file.metadata()?).touched)
     }
 
+    /// Writes bytes into it, and has the host begin to write them to the disk. By POSIX this is advice that its bytes are not needed soon, for
+    /// which Linux starts to write those that the disk lacks; a host that does not take it starts at the wait.
     fn write(&mut self, bytes: &[u8]) -> Result<(), FolderFault> {
         self.file.write_all(bytes)?;
         self.file.set_len(bytes.len() as u64)?;
-        Ok(())
-    }
-
-    /// Has the host begin to write what it holds to the disk, and does not wait for it. By POSIX this is advice that its bytes are not needed
-    /// soon, for which Linux starts to write those that the disk lacks; a host that does not take it starts at the wait.
-    fn hand_over(&self) {
         libc::posix_fadvise(self.file.as_raw_fd(), 0, 0, libc::POSIX_FADV_DONTNEED);
+        Ok(())
     }
 
     /// Writes bytes into it, all that it then holds, and does not wait for the disk. Where that fails it is taken away.
     pub(crate) fn fill(mut self, rt: &HostRuntime, bytes: &[u8]) -> Result<Part, FolderFault> {
         match self.write(bytes) {
-            Ok(()) => {
-                self.hand_over();
-                Ok(self)
-            }
+            Ok(()) => Ok(self),
             Err(fault) => {
                 self.discard(rt);
                 Err(fault)
@@ -103,15 +97,10 @@ impl Part {
         }
     }
 
-    /// Gives it its name once the disk has what it holds, or takes it away. It is seen to be the very file that was filled before and
-    /// after: where another stands under either name, `Changed`. For the host renames by path, and the folder may be another by now.
-    pub(crate) fn name_as(self, rt: &HostRuntime, path: &str) -> Result<(), FolderFault> {
-        self.keep_as(rt, path)?;
-        Ok(())
-    }
-
-    /// The same, and the file stays open.
-    pub(crate) fn keep_as(self, rt: &HostRuntime, path: &str) -> Result<Held, FolderFault> {
+    /// Gives it its name once the disk has what it holds, and lets it stay open; or takes it away. It is seen to be the very file that was
+    /// filled before and after: where another stands under either name, `Changed`. For the host renames by path, and the folder may be
+    /// another by now.
+    pub(crate) fn name_as(self, rt: &HostRuntime, path: &str) -> Result<Held, FolderFault> {
         if let Err(fault) = self.rename(rt, path) {
             self.discard(rt);
             return Err(fault);

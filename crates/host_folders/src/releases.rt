@@ -3,7 +3,6 @@
 ghost use Rattle.std.specs.Prelude.{◌<◌, IfErr, length};
 
 use crate::guard::{Guard, Guarded};
-use crate::looks::within;
 use crate::maker::Maker;
 use crate::part::{Part, clear_parts};
 use folders::{FolderFault, NamedFile, News, Unwritten};
@@ -55,12 +54,12 @@ impl Releases {
             }
         }
         self.spares.clear();
-        let _ = clear_parts(rt, self.guarded.path());
+        let _ = clear_parts(rt, &self.guarded.path);
         Ok(())
     }
 
     pub(crate) fn path(&self) -> &str {
-        self.guarded.path()
+        self.guarded.path.as_str()
     }
 
     /// Waits until the disk has the names that are in the folder now.
@@ -81,7 +80,7 @@ impl Releases {
     pub(crate) fn make_spares(&mut self, maker: &mut Maker<'_>) {
         for _ in self.spares.len()..MOST_SPARES {
             // Where one can't be made, it is tried again at the next look, or made in its turn.
-            let Ok(part) = Part::roomy(maker, self.guarded.path()) else {
+            let Ok(part) = Part::roomy(maker, &self.guarded.path) else {
                 return;
             };
             let _ = self.spares.push(part);
@@ -90,22 +89,23 @@ impl Releases {
 
     /// A file that holds these bytes, and has no name yet.
     fn fill_one(&mut self, maker: &mut Maker<'_>, bytes: &[u8]) -> Result<Part, FolderFault> {
-        match self.spares.pop() {
-            Some(spare) => spare.fill(maker.rt, bytes),
-            None => Part::filled(maker, self.guarded.path(), bytes),
-        }
+        let empty = match self.spares.pop() {
+            Some(spare) => spare,
+            None => Part::make(maker, &self.guarded.path)?,
+        };
+        empty.fill(maker.rt, bytes)
     }
 
     /// The first of these files, filled, in their order. To write all of them before the first wait for the disk takes less than to write
     /// one after the other: the disk then has them together, and the waits behind the first are short.
     fn begin(&mut self, maker: &mut Maker<'_>, files: &[NamedFile]) -> VecDeque<Part> {
-        let mut begun = VecDeque::new(maker.alloc());
+        let mut begun = VecDeque::new(maker.rt.alloc());
         if self.check(maker.rt).is_err() {
             return begun;
         }
         for named in files.iter().take(MOST_BEGUN) {
             // One that can't be begun is written whole in its turn, or refused then.
-            let Ok(part) = self.fill_one(maker, named.bytes()) else {
+            let Ok(part) = self.fill_one(maker, &named.bytes) else {
                 return begun;
             };
             let _ = begun.push_back(part);
@@ -121,12 +121,13 @@ impl Releases {
         bytes: &[u8],
     ) -> Result<(), FolderFault> {
         for _ in 0..TRIES {
-            let part = Part::filled(maker, self.guarded.path(), bytes)?;
+            let part = Part::filled(maker, &self.guarded.path, bytes)?;
             match part.name_as(maker.rt, path) {
+                Ok(_) => return Ok(()),
                 Err(FolderFault::Changed) => {
                     let _ = self.news.push(News::WrittenAnew);
                 }
-                done => return done,
+                Err(fault) => return Err(fault),
             }
         }
         Err(FolderFault::Changed)
@@ -141,16 +142,17 @@ impl Releases {
     ) -> Result<(), FolderFault> {
         self.check(maker.rt)?;
         self.has_new_names = true;
-        let path = within(maker.alloc(), self.guarded.path(), named.name())?;
+        let path = self.guarded.within(maker.rt.alloc(), &named.name)?;
         let Some(part) = begun else {
-            return self.write_whole(maker, &path, named.bytes());
+            return self.write_whole(maker, &path, &named.bytes);
         };
         match part.name_as(maker.rt, &path) {
+            Ok(_) => Ok(()),
             Err(FolderFault::Changed) => {
                 let _ = self.news.push(News::WrittenAnew);
-                self.write_whole(maker, &path, named.bytes())
+                self.write_whole(maker, &path, &named.bytes)
             }
-            done => done,
+            Err(fault) => Err(fault),
         }
     }
 
@@ -162,7 +164,7 @@ impl Releases {
     ) -> Result<(), Unwritten>
         ensures { IfErr result (λ u. u.written < length files.now) }
     {
-        let mut begun = VecDeque::new(maker.alloc());
+        let mut begun = VecDeque::new(maker.rt.alloc());
         for (written, named) in files.iter().enumerate() {
             if begun.is_empty() {
                 begun = self.begin(maker, &files[written..]);

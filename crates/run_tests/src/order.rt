@@ -19,8 +19,8 @@ use tape_frames::Version;
 fn put_act(act: &Act, text: &mut Vec<u8>) -> bool {
     let (word, name) = match act {
         Act::Saw(_) => return true,
-        Act::Read(named) => ("read", named.name()),
-        Act::Wrote(named) => ("wrote", named.name()),
+        Act::Read(named) => ("read", named.name.as_str()),
+        Act::Wrote(named) => ("wrote", named.name.as_str()),
         Act::Noted(noted) => ("noted", noted.name.as_str()),
         Act::SetAside(name, to) => (place_word(*to), name.as_str()),
         Act::TakenAway(name) => ("gone", name.as_str()),
