@@ -19,13 +19,15 @@ use Rattle.command_ends.specs.declared.fault.Fault.{Fault}
 use Rattle.exchange.specs.Driving.{Rests}
 use Rattle.exchange.specs.Events.{Event, Aside, asked, took, stored, aside, heard, hailed, rolled, coming, sending, going, coming_by, going_by, passing_behind, waiting_behind, Takes, HasCause, ended}
 use Rattle.wire.proofs.Passing.{Passes-nil, Passes-then}
-use Rattle.exchange.proofs.Stretches.{takes_then, passing_then, waiting_then, ends_badly, cause_then, refused_cause, unstored_cause}
+use Rattle.exchange.proofs.Stretches.{settling_kept, takes_kept, takes_then, passing_then, waiting_then, ends_badly, cause_then, refused_cause, unstored_cause}
 use Rattle.driver.specs.declared.calls.Call.{Call}
 use Rattle.driver.specs.declared.calls.Call.TheVariants.{Offer, Withdraw, Seek}
 use Rattle.driver.specs.Calls.{call_of, IsAsked}
 use Rattle.driver.specs.Fates.{ByAnswer, ByStored, Fates}
 use Rattle.driver.specs.Todos.{IsGoodSending, IsHailing}
-use Rattle.driver.specs.Driving.{Post, post, post_with, Fate, Known, known, Driven, Drove, Anyhow, AtClock, Then, Held, TakesUp, HasStored, WasSent, HandsOn, Holds, IsReceiving, IsTakingIn, IsFallingDue, IsSeeingToDue, IsStoring, no_step}
+use Rattle.driver.specs.Driving.{Post, post, post_with, Fate, Known, known, Driven, Drove, Anyhow, AtClock, Then, Held, TakesUp, SameHands, HasEnded, IsUnstored, WasSent, HandsOn, Holds, IsReceiving, IsTakingIn, IsFallingDue, IsSeeingToDue, IsTakingUp, IsDueUp, IsStoring, no_step}
+use Rattle.driver.specs.declared.driver.Driver.{Driver}
+use Rattle.driver.specs.declared.group.Group.{Group}
 use Rattle.driver.specs.declared.sink.TakenStep.{TakenStep}
 
 -- what holds whatever the result is
@@ -41,6 +43,17 @@ writing_cause : (log : List Event) (f : Fault) (old new : Bool) → IsOfWriting 
 writing_cause log f old new (inl is) same = subst (λ (f : Fault). HasCause log old new (end_of f)) (sym is) (inl same)
 writing_cause log f old new (inr is) same = subst (λ (f : Fault). HasCause log old new (end_of f)) (sym is) same
 
+-- what happened where nothing happened before
+pub behind_none : (G : List Event → Type 0) (log : List Event) → Then (λ (first : List Event). first ≡ []) G log → G log
+behind_none G log it = subst G (sym (it.joined ∙ ap (λ (l : List Event). l ++ it.last) it.is_first)) it.is_last
+
+-- the forms of steps that were taken, and wait
+pub taken_up : (now : ℕ) (a : Answer) (call : StationCall) → IsReceiving now call → IsTakingUp now (took call (Ok a) ∷ [])
+taken_up now a call it = inr (it.0, a, ap (λ (x : StationCall). took x (Ok a) ∷ []) it.1)
+
+pub due_up : (now : ℕ) (a : Answer) (call : StationCall) → IsFallingDue now call → IsDueUp now (took call (Ok a) ∷ [])
+due_up now a call it = inr (a, ap (λ (x : StationCall). took x (Ok a) ∷ []) it)
+
 -- the forms of steps that were handed on
 pub received : (now : ℕ) (a : Answer) (call : StationCall) → IsReceiving now call → IsTakingIn now (took call (Ok a) ∷ stored (Ok tt) ∷ [])
 received now a call it = inr (inl (it.0, inl (a, ap (λ (x : StationCall). took x (Ok a) ∷ stored (Ok tt) ∷ []) it.1)))
@@ -51,23 +64,20 @@ fell_due now a call it = inl (a, ap (λ (x : StationCall). took x (Ok a) ∷ sto
 pub was_asked : (c : Call) (now : ℕ) (a : Answer) (call : StationCall) → call ≡ call_of c now → IsAsked c now (took call (Ok a) ∷ stored (Ok tt) ∷ [])
 was_asked c now a call it = (a, ap (λ (x : StationCall). took x (Ok a) ∷ stored (Ok tt) ∷ []) it)
 
--- what is kept behind the store was kept before it
-pub settling_kept : {R : Type 0} (g : Ghosts R) (i : R → Type 0) (old new : Station R) (r : Result (Unit {0}) StepRefusal) → Settling g i old new r → g.kept new.rows → g.kept old.rows
-settling_kept g i old new (Ok done) it = it.reads.was_kept
-settling_kept g i old new (Err (steps.Store fault)) it = it.was_kept
-settling_kept {R = R} g i old new (Err steps.Stopped) it = λ kept. subst (λ (s : Station R). g.kept s.rows) it.1 kept
-settling_kept g i old new (Err (steps.BadDatagram fault)) it = absurd it
-settling_kept g i old new (Err steps.WrongCircuit) it = absurd it
-settling_kept g i old new (Err steps.NotForMe) it = absurd it
-settling_kept g i old new (Err steps.Stranger) it = absurd it
-settling_kept g i old new (Err steps.BadNumber) it = absurd it
-settling_kept g i old new (Err steps.NoSuchMember) it = absurd it
-settling_kept g i old new (Err steps.AlreadyReleased) it = absurd it
-settling_kept g i old new (Err steps.AlreadyOpen) it = absurd it
-settling_kept g i old new (Err steps.WireTooOld) it = absurd it
-settling_kept g i old new (Err (steps.TapeFaulty fault)) it = absurd it
-settling_kept g i old new (Err steps.RoundsSpent) it = absurd it
-settling_kept g i old new (Err steps.OutOfMemory) it = absurd it
+-- what ended so answered nothing else
+pub no_result : {A : Type 0} (r : Result A Fault) (f : Fault) (P : Type 0) → ended r ≡ end_of f → OnOk r P
+no_result (Ok x) f P is = absurd (ends_badly f (sym is))
+no_result (Err e) f P is = tt
+
+-- a driver has the hands that it had before both
+pub hands_then : {R N S : Type 0} (a b c : Driver R N S) → SameHands a b → SameHands b c → SameHands a c
+hands_then a b c p q = (q.0 ∙ p.0, q.1 ∙ p.1)
+
+-- a group that has ended has no steps
+pub none_left_in : {S A : Type 0} (Handed : S → S → List TakenStep → Type 0) (r : Result A Fault) (old new : S) (before after : Group)
+    → OnOk r (HasEnded Handed old new before after) → OnOk r (after.steps.items ≡ [])
+none_left_in Handed (Ok x) old new before after it = it.none
+none_left_in Handed (Err f) old new before after it = tt
 
 -- nothing comes for what is asked
 pub asked_passes : (call : Call) (now : ℕ) (a : Trace) → Passes a a (coming (call_of call now))
@@ -151,6 +161,10 @@ module _ {R N S : Type 0} (k : Known R N S) where
     };
     form = a.form;
   }
+
+  -- rows that are kept in the end were kept before
+  pub drove_kept : (old new : Post R N S) (end : End) (F : List Event → Type 0) → Drove k old new end F → k.rows.kept new.station.rows → k.rows.kept old.station.rows
+  drove_kept old new end F a kept = takes_kept k.rows k.is_settled old.station new.station a.log (a.driven.steps kept) kept
 
   -- what ended well has not stopped its station
   pub stays : (old new : Post R N S) (end : End) (F : List Event → Type 0) → end ≡ ends.Done → Drove k old new end F → new.station.stopped ≡ old.station.stopped
@@ -343,9 +357,10 @@ module _ {R N S : Type 0} (k : Known R N S) (may : S → StationCall → Type 0)
       }
 
   -- the same of a step that was taken up
-  pub held_back : (Kind : StationCall → Type 0) (a : Answer) (s t : Station R) (w v : N) (o u x : S) (q y : List Passed) (r : Result (Unit {0}) Fault)
-      → Held k may Kind (post_with s w o q) (post_with t v u q) a → Holds k.fate may u x q y a r → Drove k (post_with s w o q) (post_with t v x y) (ended r) Anyhow
-  held_back Kind a s t w v o u x q y r h holds = noted h.call a s t w v o u x q y r Anyhow h.rests h.allowed h.step h.passes holds h.stays tt
+  pub held_back : (Kind : StationCall → Type 0) (F : List Event → Type 0) (a : Answer) (s t : Station R) (w v : N) (o u x : S) (q y : List Passed) (r : Result (Unit {0}) Fault)
+      → Held k may Kind (post_with s w o q) (post_with t v u q) a → Holds k.fate may u x q y a r → ((call : StationCall) → Kind call → F (took call (Ok a) ∷ []))
+      → Drove k (post_with s w o q) (post_with t v x y) (ended r) F
+  held_back Kind F a s t w v o u x q y r h holds form = noted h.call a s t w v o u x q y r F h.rests h.allowed h.step h.passes holds h.stays (form h.call h.kind)
 
   -- what the station saved was stored, and what waited was handed on
   pub settled_so : (s t : Station R) (w x v : N) (o y u : S) (q : List Passed) → x ≡ w → y ≡ o → Settling k.rows k.is_settled s t (Ok tt) → Passes (k.passed x) (k.passed v) q
@@ -368,7 +383,7 @@ module _ {R N S : Type 0} (k : Known R N S) (may : S → StationCall → Type 0)
       }
 
   -- it could not be stored, and nothing was handed on
-  pub unstored_so : (s t : Station R) (w : N) (o : S) (q x : List Passed) (f : Fault) (F : List Event → Type 0) → HasStored k.rows k.is_settled s t (Err f)
+  pub unstored_so : (s t : Station R) (w : N) (o : S) (q x : List Passed) (f : Fault) (F : List Event → Type 0) → IsUnstored k.rows k.is_settled s t f
       → Drove k (post_with s w o q) (post_with t w o x) (end_of f) F
   unstored_so s t w o q x f F unstored =
       let log = stored (Err unstored.0) ∷ [] in
@@ -448,12 +463,17 @@ module _ {R N S : Type 0} (k : Known R N S) (may : S → StationCall → Type 0)
       go (Ok done) ok err fault = (was, subst (λ (z : S). ByStored k.fate.lived may z u a) is' ok)
       go (Err f) ok err fault = inr (was, subst (λ (z : S). ByStored k.fate.front may z u a) is' err, fault)
 
+  -- where it was handed on, the station goes on as before
+  pub on_goes : (a : Answer) (s t : Station R) (w v : N) (o u : S) (r : Result (Unit {0}) Fault) → HandsOn k may (post s w o) (post t v u) a r
+      → s.stopped ≡ false → OnOk r (t.stopped ≡ false)
+  on_goes a s t w v o u (Ok done) on goes = ap (λ (y : Station R). y.stopped) on.0.settled.reads.only_rows ∙ goes
+  on_goes a s t w v o u (Err f) on goes = tt
+
   -- a step that was taken, and was handed on as far as its release was taken, or what it saved could not be stored
   pub handed : (Kind : StationCall → Type 0) (a : Answer) (s mid t : Station R) (w v z : N) (o u x : S) (r : Result (Unit {0}) Fault) (F : List Event → Type 0)
-      → (k.rows.kept t.rows → k.rows.kept mid.rows)
       → Held k may Kind (post s w o) (post mid v u) a → HandsOn k may (post mid v u) (post t z x) a r
       → ((call : StationCall) → Kind call → F (took call (Ok a) ∷ stored (Ok tt) ∷ [])) → Drove k (post s w o) (post t z x) (ended r) F
-  handed Kind a s mid t w v z o u x r F back h on form = go r on
+  handed Kind a s mid t w v z o u x r F h on form = go r on
     where
       log : List Event
       log = took h.call (Ok a) ∷ stored (Ok tt) ∷ []
@@ -462,6 +482,9 @@ module _ {R N S : Type 0} (k : Known R N S) (may : S → StationCall → Type 0)
       over was =
           subst (λ (l : List Passed). Passes (k.passed w) (k.passed z) (coming h.call ++ l)) (sym (append-nil (sending a.out.items)))
           (Passes-then (k.passed w) (k.passed v) (k.passed z) (coming h.call) (sending a.out.items) h.passes was.passes)
+
+      before : Settling k.rows k.is_settled mid t (Ok tt) → k.rows.kept t.rows → k.rows.kept mid.rows
+      before settled kept = settling_kept k.rows k.is_settled mid t (Ok tt) settled kept
 
       same : Settling k.rows k.is_settled mid t (Ok tt) → t.stopped ≡ s.stopped
       same settled = ap (λ (y : Station R). y.stopped) settled.reads.only_rows ∙ h.stays
@@ -472,7 +495,7 @@ module _ {R N S : Type 0} (k : Known R N S) (may : S → StationCall → Type 0)
           record {
             log = log;
             driven = record {
-              steps = λ kept. (mid, h.step (back kept), (t, on.0.settled, refl));
+              steps = λ kept. (mid, h.step (before on.0.settled kept), (t, on.0.settled, refl));
               passes = over on.0;
               waits = λ done. refl;
               front = fates.begins o x log lived;
@@ -484,7 +507,7 @@ module _ {R N S : Type 0} (k : Known R N S) (may : S → StationCall → Type 0)
       go (Err f) (inr on) = record {
         log = log;
         driven = record {
-          steps = λ kept. (mid, h.step (back kept), (t, on.0.settled, refl));
+          steps = λ kept. (mid, h.step (before on.0.settled kept), (t, on.0.settled, refl));
           passes = over on.0;
           waits = λ done. absurd (ends_badly f done);
           front = fates.joins_front o u x [] log h.rests (on.1 h.call h.allowed);
@@ -500,7 +523,7 @@ module _ {R N S : Type 0} (k : Known R N S) (may : S → StationCall → Type 0)
           record {
             log = first ++ last;
             driven = record {
-              steps = λ kept. (mid, h.step (back kept), (t, on.unstored.1, refl));
+              steps = λ kept. (mid, h.step (settling_kept k.rows k.is_settled mid t (Err refusal) on.unstored.1 kept), (t, on.unstored.1, refl));
               passes =
                   subst (λ (y : N). Passes (k.passed w) (k.passed y) (passing_behind [] (first ++ last))) (sym on.wire)
                   (subst (λ (l : List Passed). Passes (k.passed w) (k.passed v) l) (sym (append-nil (coming h.call))) h.passes);
@@ -533,16 +556,15 @@ module _ {R N S : Type 0} (k : Known R N S) (may : S → StationCall → Type 0)
   }
 
   -- the one, and then the other
-  pub and_then : (old mid new : Post R N S) (end : End) (F G : List Event → Type 0) → (k.rows.kept new.station.rows → k.rows.kept mid.station.rows)
-      → Drove k old mid ends.Done F → Drove k mid new end G → Drove k old new end (Then F G)
-  and_then old mid new end F G back a b =
+  pub and_then : (old mid new : Post R N S) (end : End) (F G : List Event → Type 0) → Drove k old mid ends.Done F → Drove k mid new end G → Drove k old new end (Then F G)
+  and_then old mid new end F G a b =
       let left : mid.waits ≡ waiting_behind old.waits a.log = a.driven.waits refl in
       let seen : Passes (k.passed mid.wire) (k.passed new.wire) (passing_behind (waiting_behind old.waits a.log) b.log) =
       subst (λ (l : List Passed). Passes (k.passed mid.wire) (k.passed new.wire) (passing_behind l b.log)) left b.driven.passes in
       record {
         log = a.log ++ b.log;
         driven = record {
-          steps = λ kept. takes_then k.rows k.is_settled old.station mid.station new.station a.log b.log (a.driven.steps (back kept)) (b.driven.steps kept);
+          steps = λ kept. takes_then k.rows k.is_settled old.station mid.station new.station a.log b.log (a.driven.steps (drove_kept k mid new end G b kept)) (b.driven.steps kept);
           passes =
               subst (λ (l : List Passed). Passes (k.passed old.wire) (k.passed new.wire) l) (sym (passing_then old.waits a.log b.log))
               (Passes-then (k.passed old.wire) (k.passed mid.wire) (k.passed new.wire) (passing_behind old.waits a.log) (passing_behind (waiting_behind old.waits a.log) b.log)
@@ -556,6 +578,5 @@ module _ {R N S : Type 0} (k : Known R N S) (may : S → StationCall → Type 0)
       }
 
   -- the same, whatever happened
-  pub then_any : (old mid new : Post R N S) (end : End) → (k.rows.kept new.station.rows → k.rows.kept mid.station.rows)
-      → Drove k old mid ends.Done Anyhow → Drove k mid new end Anyhow → Drove k old new end Anyhow
-  then_any old mid new end back a b = of_form k old new end (Then Anyhow Anyhow) Anyhow (λ log done form. tt) (and_then old mid new end Anyhow Anyhow back a b)
+  pub then_any : (old mid new : Post R N S) (end : End) → Drove k old mid ends.Done Anyhow → Drove k mid new end Anyhow → Drove k old new end Anyhow
+  then_any old mid new end a b = of_form k old new end (Then Anyhow Anyhow) Anyhow (λ log done form. tt) (and_then old mid new end Anyhow Anyhow a b)

@@ -1,6 +1,6 @@
 -- What was done with a station on a wire and a sink, by a list of what happened: which steps the station took, what passed over the wire,
 -- what became of the sink, and how it ended.
-use Rattle.std.specs.Prelude.{◌≡◌, ◌⊎◌, ℕ, List, [], ◌∷◌, ◌++◌, flat_map, false, Option, Some, None, Result, Ok, Err}
+use Rattle.std.specs.Prelude.{◌≡◌, ◌⊎◌, ℕ, List, [], ◌∷◌, ◌++◌, flat_map, false, Option, Some, None, Result, Ok, Err, OnOk}
 use Rattle.protocol.specs.Refusals.{Call, Falling_due, Receiving}
 use Rattle.saved_rows.specs.declared.rows.Rows.{Ghosts}
 use Rattle.station.specs.declared.answer.Answer.{Answer}
@@ -119,6 +119,18 @@ IsFallingDue now call = call ≡ Falling_due now
 abbrev pub IsStoring : List Event → Type 0
 IsStoring log = log ≡ stored (Ok tt) ∷ []
 
+-- that, or nothing happened
+abbrev pub MayStore : List Event → Type 0
+MayStore log = (log ≡ []) ⊎ IsStoring log
+
+-- one datagram at most was taken in, where what its step saved may wait to be stored
+abbrev pub IsTakingUp : ℕ → List Event → Type 0
+IsTakingUp now log = IsTakingIn now log ⊎ ((bytes : List ℕ) × (answer : Answer) × (log ≡ took (Receiving bytes now) (Ok answer) ∷ []))
+
+-- it was seen to what is due, where what its step saved may wait to be stored
+abbrev pub IsDueUp : ℕ → List Event → Type 0
+IsDueUp now log = IsSeeingToDue now log ⊎ ((answer : Answer) × (log ≡ took (Falling_due now) (Ok answer) ∷ []))
+
 -- whatever happened
 abbrev pub Anyhow : List Event → Type 0
 Anyhow log = Unit {0}
@@ -158,24 +170,32 @@ sends steps = flat_map sending_of steps
 abbrev pub sends_of : Group → List Passed
 sends_of group = sends group.steps.items
 
--- what was done up to this result, by events of this form
-abbrev pub DroveUpTo :
-    {R N S A : Type 0} → (List Event → Type 0) → Result A Fault → Ghosts R → (R → Type 0) → (N → Trace) → SinkGhosts S
-    → Driver R N S → Driver R N S → Type 0
-DroveUpTo Form result rows is_settled passed sink old new =
-    Drove (known rows is_settled passed (fate_of sink)) (post_of old) (post_of new) (ended result) Form
+-- a driver still has the station and the wire that it was made with
+abbrev pub SameHands : {R N S : Type 0} → Driver R N S → Driver R N S → Type 0
+SameHands old new = (new.station.ghost_name ≡ old.station.ghost_name) × (new.wire.ghost_name ≡ old.wire.ghost_name)
 
--- what was done up to this result, by events of this form, where what this group hands out waited to be sent, and in the end what that one does
-abbrev pub DroveBehind :
-    {R N S A : Type 0} → (List Event → Type 0) → Result A Fault → Ghosts R → (R → Type 0) → (N → Trace) → SinkGhosts S
-    → Driver R N S → Driver R N S → Group → Group → Type 0
-DroveBehind Form result rows is_settled passed sink old new before after =
-    Drove (known rows is_settled passed (fate_of sink)) (post_behind old (sends_of before)) (post_behind new (sends_of after)) (ended result) Form
+-- what a driver did up to this result, by events of this form, with the station and the wire that it was made with
+pub record DroveUpTo {R N S A : Type 0} (Form : List Event → Type 0) (result : Result A Fault) (rows : Ghosts R) (is_settled : R → Type 0)
+    (passed : N → Trace) (sink : SinkGhosts S) (old new : Driver R N S) : Type 0 where
+  pub hands : SameHands old new
+  pub done : Drove (known rows is_settled passed (fate_of sink)) (post_of old) (post_of new) (ended result) Form
 
--- all that the station saved was stored, up to this result; or its refusal is the fault
-abbrev pub HasStored : {R : Type 0} → Ghosts R → (R → Type 0) → Station R → Station R → Result (Unit {0}) Fault → Type 0
-HasStored g is_settled old new (Ok done) = Settling g is_settled old new (Ok tt)
-HasStored g is_settled old new (Err fault) = (refusal : StepRefusal) × Settling g is_settled old new (Err refusal) × (end_of fault ≡ end_of_step refusal)
+-- the same, where a station goes on unless this result is a fault
+pub record WentOn {R N S A : Type 0} (Form : List Event → Type 0) (result : Result A Fault) (rows : Ghosts R) (is_settled : R → Type 0)
+    (passed : N → Trace) (sink : SinkGhosts S) (old new : Driver R N S) : Type 0 where
+  pub hands : SameHands old new
+  pub done : Drove (known rows is_settled passed (fate_of sink)) (post_of old) (post_of new) (ended result) Form
+  pub goes_on : OnOk result (new.station.now.stopped ≡ false)
+
+-- what a driver did up to this result, by events of this form, where what this group hands out waited to be sent, and in the end what that one does
+pub record DroveBehind {R N S A : Type 0} (Form : List Event → Type 0) (result : Result A Fault) (rows : Ghosts R) (is_settled : R → Type 0)
+    (passed : N → Trace) (sink : SinkGhosts S) (old new : Driver R N S) (before after : Group) : Type 0 where
+  pub hands : SameHands old new
+  pub done : Drove (known rows is_settled passed (fate_of sink)) (post_behind old (sends_of before)) (post_behind new (sends_of after)) (ended result) Form
+
+-- all that the station saved could not be stored, and its refusal is the fault
+abbrev pub IsUnstored : {R : Type 0} → Ghosts R → (R → Type 0) → Station R → Station R → Fault → Type 0
+IsUnstored g is_settled old new fault = (refusal : StepRefusal) × Settling g is_settled old new (Err refusal) × (end_of fault ≡ end_of_step refusal)
 
 -- what the station saved was stored, and then the datagrams of an answer were sent
 pub record WasSent {R N S : Type 0} (k : Known R N S) (old new : Post R N S) (answer : Answer) : Type 0 where
@@ -184,7 +204,7 @@ pub record WasSent {R N S : Type 0} (k : Known R N S) (old new : Post R N S) (an
 
 -- what the station saved could not be stored, and nothing was handed on
 pub record WasWithheld {R N S : Type 0} (k : Known R N S) (old new : Post R N S) (fault : Fault) : Type 0 where
-  pub unstored : HasStored k.rows k.is_settled old.station new.station (Err fault)
+  pub unstored : IsUnstored k.rows k.is_settled old.station new.station fault
   pub wire : new.wire ≡ old.wire
   pub sink : new.sink ≡ old.sink
 
@@ -195,10 +215,16 @@ HandsOn k may old new answer (Err fault) =
     WasWithheld k old new fault ⊎ (WasSent k old new answer × ByStored k.fate.front may old.sink new.sink answer × IsOfWriting fault)
 
 -- the same, of a driver
-abbrev pub HandedOn :
-    {R N S : Type 0} → Ghosts R → (R → Type 0) → (N → Trace) → SinkGhosts S → Driver R N S → Driver R N S → Answer → Result (Unit {0}) Fault → Type 0
-HandedOn rows is_settled passed sink old new answer result =
-    HandsOn (known rows is_settled passed (fate_of sink)) sink.may (post_of old) (post_of new) answer result
+pub record HandedOn {R N S : Type 0} (rows : Ghosts R) (is_settled : R → Type 0) (passed : N → Trace) (sink : SinkGhosts S) (old new : Driver R N S)
+    (answer : Answer) (result : Result (Unit {0}) Fault) : Type 0 where
+  pub hands : SameHands old new
+  pub on : HandsOn (known rows is_settled passed (fate_of sink)) sink.may (post_of old) (post_of new) answer result
+
+-- a group whose steps were handed on: what they released went outside, none waits, and no work shares the next save yet
+pub record HasEnded {S : Type 0} (Handed : S → S → List TakenStep → Type 0) (old new : S) (before after : Group) : Type 0 where
+  pub handed : Handed old new before.steps.items
+  pub none : after.steps.items ≡ []
+  pub begins : after.works ≡ 0
 
 -- up to this result a sink noted a step, and what it hands out waits behind what waited
 abbrev pub Holds : {S : Type 0} → Fate S → (S → Call → Type 0) → S → S → List Passed → List Passed → Answer → Result (Unit {0}) Fault → Type 0
@@ -215,9 +241,7 @@ no_step (Ok done) = Ok None
 no_step (Err fault) = Err fault
 
 -- a step was taken up to this result, or none was, whatever waited to be sent
-abbrev pub TookUp :
-    {R N S : Type 0} → (Call → Type 0) → (List Event → Type 0) → Result (Option TakenStep) Fault → Ghosts R → (R → Type 0) → (N → Trace) → SinkGhosts S
-    → Driver R N S → Driver R N S → Type 0
-TookUp Kind Form result rows is_settled passed sink old new =
-    (waits : List Passed)
-    → TakesUp (known rows is_settled passed (fate_of sink)) sink.may Kind Form (post_behind old waits) (post_behind new waits) result
+pub record TookUp {R N S : Type 0} (Kind : Call → Type 0) (Form : List Event → Type 0) (result : Result (Option TakenStep) Fault) (rows : Ghosts R)
+    (is_settled : R → Type 0) (passed : N → Trace) (sink : SinkGhosts S) (old new : Driver R N S) : Type 0 where
+  pub hands : SameHands old new
+  pub up : (waits : List Passed) → TakesUp (known rows is_settled passed (fate_of sink)) sink.may Kind Form (post_behind old waits) (post_behind new waits) result

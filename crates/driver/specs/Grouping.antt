@@ -1,5 +1,5 @@
 -- Steps that share one save.
-use Rattle.std.specs.Prelude.{ℕ, ◌&&◌, ◌||◌, ◌==◌, ◌+◌, min, List, [], ◌∷◌, length, Bool, true, false, nat_le, nat_lt, if◌then◌else◌, Option, Some, None}
+use Rattle.std.specs.Prelude.{◌≡◌, ℕ, ◌&&◌, ◌||◌, ◌==◌, ◌+◌, min, List, [], ◌∷◌, ◌++◌, length, Bool, true, false, nat_le, nat_lt, if◌then◌else◌, Option, Some, None}
 use Rattle.pace.specs.declared.turns.Work.{Work}
 use Rattle.pace.specs.declared.turns.Work.TheVariants as works
 use Rattle.protocol.specs.Circuit.{Datagram}
@@ -21,6 +21,11 @@ is_worth answer = worth answer.out.items answer.release
 -- of a step, what is kept
 abbrev pub worthy : TakenStep → List TakenStep
 worthy step = if is_worth step.answer then step ∷ [] else []
+
+-- one step more waits behind those before it, if it is kept, and nothing else of the group has changed
+pub record HasAdded (step : TakenStep) (old new : Group) : Type 0 where
+  pub behind : new.steps.items ≡ old.steps.items ++ worthy step
+  pub only_steps : new ≡ record old { steps = new.steps }
 
 -- sixteen such steps are as many as share a save, or thirty-two works
 abbrev pub is_full : Group → Bool

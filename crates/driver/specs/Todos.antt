@@ -11,6 +11,9 @@ use Rattle.catch_up.specs.Errands.{IsGoodErrand}
 use Rattle.catch_up.specs.declared.errand.Errand.{Errand}
 use Rattle.catch_up.specs.declared.errand.Errand.TheVariants as errands
 use Rattle.exchange.specs.Events.{Event, took, stored, aside, hailed, rolled}
+use Rattle.driver.specs.declared.calls.Call.{Call}
+use Rattle.driver.specs.Calls.{call_of}
+use Rattle.driver.specs.Driving.{MayStore, IsTakingUp, IsDueUp, Then}
 use Rattle.driver.specs.declared.desk.Todo.{Todo}
 use Rattle.driver.specs.declared.desk.Todo.TheVariants as todos
 
@@ -42,3 +45,24 @@ abbrev pub IsRunOf : Errand → ℕ → List Event → Type 0
 IsRunOf (errands.Send to bytes) now log = IsHailing to bytes.items log
 IsRunOf (errands.Tell number to) now log = IsTellingAgain number to log
 IsRunOf (errands.Seek number) now log = IsSearching number now log
+
+-- the station was asked for a file at this moment, or was not asked
+abbrev pub IsAskingFor : ℕ → List Event → Type 0
+IsAskingFor now log = (log ≡ []) ⊎ ((call : Call) × (answer : Result Answer StepRefusal) × (log ≡ took (call_of call now) answer ∷ []))
+
+-- what was to be done for the desk was done at this moment
+abbrev pub IsTodoDone : Todo → ℕ → List Event → Type 0
+IsTodoDone (todos.Ask request) now log = IsAskingFor now log
+IsTodoDone (todos.Run errand) now log = IsRunOf errand now log
+
+-- a deed: the desk did it, or said what was to be done
+abbrev pub IsDeed : ℕ → List Event → Type 0
+IsDeed now log = (log ≡ []) ⊎ ((todo : Todo) × IsTodoDone todo now log)
+
+-- a work: a look, in which nothing happens, a datagram that waits or is waited for, what is due, or a deed
+abbrev pub IsWorkDone : ℕ → List Event → Type 0
+IsWorkDone now log = (log ≡ []) ⊎ (IsTakingUp now log ⊎ (IsDueUp now log ⊎ IsDeed now log))
+
+-- the next work: what the works before it saved may be stored, and then it is done
+abbrev pub IsNextWork : ℕ → List Event → Type 0
+IsNextWork now log = Then MayStore (IsWorkDone now) log

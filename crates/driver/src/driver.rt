@@ -1,7 +1,7 @@
 //! A station on a wire, driven step by step.
 
 ghost use Rattle.std.specs.Prelude.{◌≡◌, OnOk, false};
-ghost use Rattle.driver.specs.Driving.{HasStored, TookUp, post, post_of, no_step, IsReceiving, IsFallingDue, IsTakingIn, IsSeeingToDue};
+ghost use Rattle.driver.specs.Driving.{TookUp, post, post_of, no_step, IsReceiving, IsFallingDue, IsTakingIn, IsSeeingToDue};
 
 use crate::log::Log;
 use crate::pacing::Pacing;
@@ -62,21 +62,6 @@ impl<'a, R: Settles, N: Wire, S: Sink> Driver<'a, R, N, S> {
         &self.sink
     }
 
-    /// Stores all that the station saved. Before it, nothing may be handed on of what a step handed out.
-    pub(crate) fn store(&mut self) -> Result<(), Fault<'static>>
-        ensures station { self.new.station.ghost_name ≡ self.old.station.ghost_name }
-        ensures wire { self.new.wire.ghost_name ≡ self.old.wire.ghost_name }
-        ensures wire_stays { self.new.wire.now ≡ self.old.wire.now }
-        ensures sink { self.new.sink ≡ self.old.sink }
-        ensures was_kept { R.kept self.new.station.now.rows → R.kept self.old.station.now.rows }
-        ensures stores { HasStored R.Rows R.Settles.is_settled self.old.station.now self.new.station.now result }
-    {
-        match self.station.settle() {
-            Ok(()) => Ok(()),
-            Err(refusal) => Err(Fault::of_step(refusal)),
-        }
-    }
-
     /// Takes up what comes at a moment in milliseconds, one datagram at most: the step that the station took, if it took one. A datagram that it
     /// refuses is passed over; where that is for its layout, it is told.
     pub(crate) fn take_up<E: Write>(
@@ -84,10 +69,7 @@ impl<'a, R: Settles, N: Wire, S: Sink> Driver<'a, R, N, S> {
         now: u64,
         log: &mut Log<'_, E>,
     ) -> Result<Option<TakenStep>, Fault<'static>>
-        ensures station { self.new.station.ghost_name ≡ self.old.station.ghost_name }
-        ensures wire { self.new.wire.ghost_name ≡ self.old.wire.ghost_name }
-        ensures was_kept { R.kept self.new.station.now.rows → R.kept self.old.station.now.rows }
-        ensures took { TookUp (IsReceiving now) (IsTakingIn now) result R.Rows R.Settles.is_settled N.passed S.Sink self.old self.new }
+        ensures { TookUp (IsReceiving now) (IsTakingIn now) result R.Rows R.Settles.is_settled N.passed S.Sink self.old self.new }
     {
         match take_datagram(self.station, self.wire, now, &mut self.intake.room) {
             Received::Nothing => Ok(None),
@@ -120,9 +102,6 @@ impl<'a, R: Settles, N: Wire, S: Sink> Driver<'a, R, N, S> {
 
     /// Sees to what is due at a moment in milliseconds, one number at most: the step that the station took, if it took one.
     pub(crate) fn fall_due(&mut self, now: u64) -> Result<Option<TakenStep>, Fault<'static>>
-        ensures station { self.new.station.ghost_name ≡ self.old.station.ghost_name }
-        ensures wire { self.new.wire.ghost_name ≡ self.old.wire.ghost_name }
-        ensures was_kept { R.kept self.new.station.now.rows → R.kept self.old.station.now.rows }
         ensures took { TookUp (IsFallingDue now) (IsSeeingToDue now) result R.Rows R.Settles.is_settled N.passed S.Sink self.old self.new }
         ensures goes_on { OnOk result (self.new.station.now.stopped ≡ false) }
     {

@@ -19,6 +19,13 @@ use saved_rows::Rows;
 use std::io::Write;
 use wire::Wire;
 
+/// Bytes that spell a recall or a roll, and to whom.
+#[derive(Clone, Copy)]
+struct Hail<'b> {
+    to: Member,
+    bytes: &'b [u8],
+}
+
 /// A vote that is told again: of which number, and to whom.
 #[derive(Clone, Copy)]
 struct Again {
@@ -27,24 +34,20 @@ struct Again {
 }
 
 impl<'a, R: Settles, N: Wire, S: Desk> Driver<'a, R, N, S> {
-    /// Sends bytes that spell a recall or a roll to the member that it is to, at a moment in milliseconds. They may speak of what the steps of
+    /// Sends a recall or a roll to the member that it is to, at a moment in milliseconds. They may speak of what the steps of
     /// the group saved, so that is stored before, and the group is handed on.
     fn hail<E: Write>(
         &mut self,
-        to: Member,
-        bytes: &[u8],
+        hail: Hail<'_>,
         now: u64,
         group: &mut Group,
         log: &mut Log<'_, E>,
     ) -> Result<(), Fault<'static>>
-        requires spelled { IsGoodSending to bytes.now }
-        ensures station { self.new.station.ghost_name ≡ self.old.station.ghost_name }
-        ensures wire { self.new.wire.ghost_name ≡ self.old.wire.ghost_name }
-        ensures was_kept { R.kept self.new.station.now.rows → R.kept self.old.station.now.rows }
-        ensures drove { DroveBehind (IsHailing to bytes.now) result R.Rows R.Settles.is_settled N.passed S.Sink self.old self.new group.old group.new }
+        requires spelled { IsGoodSending hail.to hail.bytes.now }
+        ensures { DroveBehind (IsHailing hail.entry.to hail.entry.bytes.now) result R.Rows R.Settles.is_settled N.passed S.Sink self.old self.new group.old group.new }
     {
         self.settle_group(now, group, log)?;
-        send_bytes(to, bytes, self.wire, log.err);
+        send_bytes(hail.to, hail.bytes, self.wire, log.err);
         Ok(())
     }
 
@@ -56,10 +59,7 @@ impl<'a, R: Settles, N: Wire, S: Desk> Driver<'a, R, N, S> {
         group: &mut Group,
         log: &mut Log<'_, E>,
     ) -> Result<(), Fault<'static>>
-        ensures station { self.new.station.ghost_name ≡ self.old.station.ghost_name }
-        ensures wire { self.new.wire.ghost_name ≡ self.old.wire.ghost_name }
-        ensures was_kept { R.kept self.new.station.now.rows → R.kept self.old.station.now.rows }
-        ensures drove { DroveBehind (IsTellingAgain again.number again.to) result R.Rows R.Settles.is_settled N.passed S.Sink self.old self.new group.old group.new }
+        ensures { DroveBehind (IsTellingAgain again.number again.to) result R.Rows R.Settles.is_settled N.passed S.Sink self.old self.new group.old group.new }
     {
         match self.station.recall(again.number.get(), again.to.get()) {
             Ok(answer) => {
@@ -67,7 +67,7 @@ impl<'a, R: Settles, N: Wire, S: Desk> Driver<'a, R, N, S> {
                     answer,
                     moment: now,
                 };
-                self.hold(step, group, log)
+                group.hold(step, &mut self.sink, log)
             }
             Err(refusal) => pass_over(refusal),
         }
@@ -81,10 +81,7 @@ impl<'a, R: Settles, N: Wire, S: Desk> Driver<'a, R, N, S> {
         group: &mut Group,
         log: &mut Log<'_, E>,
     ) -> Result<(), Fault<'static>>
-        ensures station { self.new.station.ghost_name ≡ self.old.station.ghost_name }
-        ensures wire { self.new.wire.ghost_name ≡ self.old.wire.ghost_name }
-        ensures was_kept { R.kept self.new.station.now.rows → R.kept self.old.station.now.rows }
-        ensures drove { DroveBehind (IsSearching number now) result R.Rows R.Settles.is_settled N.passed S.Sink self.old self.new group.old group.new }
+        ensures { DroveBehind (IsSearching number now) result R.Rows R.Settles.is_settled N.passed S.Sink self.old self.new group.old group.new }
     {
         match self.station.seek(number.get(), now) {
             Ok(answer) => {
@@ -92,7 +89,7 @@ impl<'a, R: Settles, N: Wire, S: Desk> Driver<'a, R, N, S> {
                     answer,
                     moment: now,
                 };
-                self.hold(step, group, log)
+                group.hold(step, &mut self.sink, log)
             }
             Err(refusal) => {
                 let declined = Declined {
@@ -115,13 +112,16 @@ impl<'a, R: Settles, N: Wire, S: Desk> Driver<'a, R, N, S> {
         log: &mut Log<'_, E>,
     ) -> Result<(), Fault<'static>>
         requires good { IsGoodErrand errand.now }
-        ensures station { self.new.station.ghost_name ≡ self.old.station.ghost_name }
-        ensures wire { self.new.wire.ghost_name ≡ self.old.wire.ghost_name }
-        ensures was_kept { R.kept self.new.station.now.rows → R.kept self.old.station.now.rows }
-        ensures drove { DroveBehind (IsRunOf errand.now now) result R.Rows R.Settles.is_settled N.passed S.Sink self.old self.new group.old group.new }
+        ensures { DroveBehind (IsRunOf errand.now now) result R.Rows R.Settles.is_settled N.passed S.Sink self.old self.new group.old group.new }
     {
         match errand {
-            Errand::Send { to, bytes } => self.hail(*to, bytes.as_slice(), now, group, log),
+            Errand::Send { to, bytes } => {
+                let hail = Hail {
+                    to: *to,
+                    bytes: bytes.as_slice(),
+                };
+                self.hail(hail, now, group, log)
+            }
             Errand::Tell { number, to } => {
                 let again = Again {
                     number: *number,

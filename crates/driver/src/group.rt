@@ -1,13 +1,16 @@
 //! Steps that share one save: what they hand out waits until all that the station saved is stored.
 
-ghost use Rattle.std.specs.Prelude.{◌≡◌, ◌++◌, [], OnOk};
-ghost use Rattle.exchange.specs.Events.{sending};
+ghost use Rattle.std.specs.Prelude.{◌≡◌, ◌++◌, [], ◌∷◌, Ok, OnOk};
+ghost use Rattle.exchange.specs.Events.{sending, stored};
 ghost use Rattle.wire.specs.Passing.{Passes};
-ghost use Rattle.driver.specs.Driving.{sends, sends_of};
-ghost use Rattle.driver.specs.Grouping.{comes_late, ends_group, goes_alone, has_waited, is_full, is_worth, one_more, worthy};
+ghost use Rattle.driver.specs.Driving.{IsHeld, sends, sends_of};
+ghost use Rattle.driver.specs.Grouping.{comes_late, ends_group, goes_alone, has_waited, is_full, is_worth, one_more, worthy, HasAdded};
 
+use crate::desk::Desk;
+use crate::log::Log;
 use crate::sink::TakenStep;
-use exchange::send_answer;
+use command_ends::Fault;
+use exchange::send_all;
 use pace::Work;
 use std::alloc::{AllocError, Global};
 use std::io::Write;
@@ -19,7 +22,8 @@ const MOST_STEPS: usize = 16;
 /// How many works share a save at most: a flood of datagrams that call for no reply keeps none waiting longer than so many.
 const MOST_WORKS: u8 = 32;
 
-/// For how long deeds share the save of the works before them, in milliseconds: so long, and for one deed more, a reply waits at most.
+/// For how long deeds share the save of the works before them, in milliseconds: from when the first work that is counted began. The work that
+/// ends a group is not counted in the next, so a reply of that work waits for the work itself, for so long, and for one deed more.
 const MOST_WAIT: u64 = 2;
 
 /// The steps of a group.
@@ -98,8 +102,9 @@ impl Group {
     }
 
     /// One step more, behind those before it, unless it neither sends nor releases anything. There may be no memory for it.
-    pub(crate) fn add(&mut self, step: TakenStep) -> Result<(), AllocError>
-        ensures steps { OnOk result (self.new.steps.items ≡ self.old.steps.items ++ worthy step) }
+    fn add(&mut self, step: TakenStep) -> Result<(), AllocError>
+        ensures behind { OnOk result (self.new.steps.items ≡ self.old.steps.items ++ worthy step) }
+        ensures only_steps { self.new ≡ record self.old { steps = self.new.steps } }
         ensures sends { OnOk result (sends_of self.new ≡ sends_of self.old ++ sending step.answer.out.items) }
     {
         if is_worth(&step) {
@@ -107,13 +112,52 @@ impl Group {
         }
         Ok(())
     }
+
+    /// Holds a step until what it saved is stored: the desk notes it, and it waits behind those before it.
+    pub(crate) fn hold<S: Desk, E: Write>(
+        &mut self,
+        step: TakenStep,
+        desk: &mut S,
+        log: &mut Log<'_, E>,
+    ) -> Result<(), Fault<'static>>
+        ensures still { S.is_still desk.old desk.new }
+        ensures added { OnOk result (HasAdded step self.old self.new) }
+        ensures holds { IsHeld S.Sink desk.old desk.new self.old self.new step.answer result }
+    {
+        desk.note(&step, log)?;
+        match self.add(step) {
+            Ok(()) => Ok(()),
+            Err(_) => Err(Fault::OutOfMemory),
+        }
+    }
+
+    /// Hands on what the steps handed out, at a moment in milliseconds: their datagrams to the wire, each once, in order, and then what they
+    /// released to the desk. What they saved is stored before.
+    pub(crate) fn hand_on<N: Wire, S: Desk, E: Write>(
+        &mut self,
+        wire: &mut N,
+        desk: &mut S,
+        now: u64,
+        log: &mut Log<'_, E>,
+    )
+        ensures sends { Passes (N.passed wire.old) (N.passed wire.new) (sends_of self.old) }
+        ensures lived { S.lived desk.old desk.new (stored (Ok tt) ∷ []) }
+        ensures handed { S.handed desk.old desk.new self.old.steps.items }
+        ensures none { self.new.steps.items ≡ [] }
+        ensures begins { self.new.works ≡ 0 }
+    {
+        send_each(self.steps.as_slice(), wire, log.err);
+        desk.hand_out(self.steps.as_slice(), now, log);
+        self.steps.clear();
+        self.works = 0;
+    }
 }
 
 /// Sends what steps hand out, each datagram once, in order.
-pub(crate) fn send_each<N: Wire, E: Write>(steps: &[TakenStep], wire: &mut N, err: &mut E)
+fn send_each<N: Wire, E: Write>(steps: &[TakenStep], wire: &mut N, err: &mut E)
     ensures { Passes (N.passed wire.old) (N.passed wire.new) (sends steps.now) }
 {
     for step in steps {
-        send_answer(&step.answer, wire, err);
+        send_all(step.answer.out.as_slice(), wire, err);
     }
 }

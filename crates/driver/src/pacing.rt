@@ -65,6 +65,24 @@ pub(crate) fn asking_of(ballot: Option<Ballot>, number: Number, length: usize) -
     })
 }
 
+/// The last work, if there was one, has ended at a moment in milliseconds.
+fn end_last(turns: &mut Turns, last: Option<Done>, now: u64)
+    ensures { turns.new ≡ counts_at now last turns.old }
+{
+    if let Some(done) = last {
+        turns.after(done, now);
+    }
+}
+
+/// Where no datagram waits, what comes from now on was sent after what was asked for.
+fn settle(pace: &mut Pace, waits: bool)
+    ensures { pace.new ≡ settled_where waits pace.old }
+{
+    if !waits {
+        pace.settle();
+    }
+}
+
 impl Pacing {
     /// Nothing was done yet, and nothing asked for.
     pub(crate) fn new() -> Pacing
@@ -79,26 +97,6 @@ impl Pacing {
         }
     }
 
-    /// The last work has ended, at a moment in milliseconds.
-    fn end_last(&mut self, now: u64)
-        ensures turns { self.new.turns ≡ counts_at now self.old.done self.old.turns }
-        ensures pace { self.new.pace ≡ self.old.pace }
-    {
-        if let Some(done) = self.done {
-            self.turns.after(done, now);
-        }
-    }
-
-    /// Where no datagram waits, what comes from now on was sent after what was asked for.
-    fn settle(&mut self, waits: bool)
-        ensures pace { self.new.pace ≡ settled_where waits self.old.pace }
-        ensures turns { self.new.turns ≡ self.old.turns }
-    {
-        if !waits {
-            self.pace.settle();
-        }
-    }
-
     /// The work that comes next at a moment in milliseconds, where a datagram waits in memory or none does, and this is to be done with
     /// files.
     pub(crate) fn next(&mut self, waits: bool, tasks: Tasks, now: u64) -> Work
@@ -107,8 +105,8 @@ impl Pacing {
         ensures done { self.new.done ≡ Some (done_of result) }
         ensures pace { self.new.pace ≡ settled_where waits self.old.pace }
     {
-        self.end_last(now);
-        self.settle(waits);
+        end_last(&mut self.turns, self.done, now);
+        settle(&mut self.pace, waits);
         let sight = Sight {
             now,
             waits,

@@ -4,9 +4,9 @@ ghost use Rattle.std.specs.Prelude.{◌≡◌, [], OnOk, true};
 ghost use Rattle.wire.specs.Passing.{Passes};
 ghost use Rattle.exchange.specs.Events.{ended};
 ghost use Rattle.driver.specs.Replies.{IsAskedBy, awaited, reply_of};
-ghost use Rattle.driver.specs.Driving.{Anyhow, Drove, DroveBehind, fate_of, known, post_of};
+ghost use Rattle.driver.specs.Driving.{Anyhow, AtClock, Drove, DroveBehind, fate_of, known, post_of};
 ghost use Rattle.driver.specs.Grouping.{goes_alone};
-ghost use Rattle.driver.specs.Todos.{IsGoodTodo};
+ghost use Rattle.driver.specs.Todos.{IsAskingFor, IsDeed, IsGoodTodo, IsNextWork, IsTodoDone, IsWorkDone};
 
 use crate::calls::ask;
 use crate::desk::{Chance, Denied, Desk, Todo};
@@ -112,10 +112,7 @@ impl<'a, R: Settles, N: Wire, S: Desk> Driver<'a, R, N, S> {
         group: &mut Group,
         log: &mut Log<'_, E>,
     ) -> Result<(), Fault<'static>>
-        ensures station { self.new.station.ghost_name ≡ self.old.station.ghost_name }
-        ensures wire { self.new.wire.ghost_name ≡ self.old.wire.ghost_name }
-        ensures was_kept { R.kept self.new.station.now.rows → R.kept self.old.station.now.rows }
-        ensures drove { DroveBehind Anyhow result R.Rows R.Settles.is_settled N.passed S.Sink self.old self.new group.old group.new }
+        ensures { DroveBehind (IsAskingFor now) result R.Rows R.Settles.is_settled N.passed S.Sink self.old self.new group.old group.new }
     {
         match ask_by(self.station, &self.sink, request, now) {
             FileReply::Done { answer, length } => {
@@ -126,7 +123,7 @@ impl<'a, R: Settles, N: Wire, S: Desk> Driver<'a, R, N, S> {
                     answer,
                     moment: now,
                 };
-                self.hold(step, group, log)
+                group.hold(step, &mut self.sink, log)
             }
             FileReply::Refused(refusal) => {
                 let denied = Denied {
@@ -150,10 +147,7 @@ impl<'a, R: Settles, N: Wire, S: Desk> Driver<'a, R, N, S> {
         log: &mut Log<'_, E>,
     ) -> Result<(), Fault<'static>>
         requires good { IsGoodTodo todo.now }
-        ensures station { self.new.station.ghost_name ≡ self.old.station.ghost_name }
-        ensures wire { self.new.wire.ghost_name ≡ self.old.wire.ghost_name }
-        ensures was_kept { R.kept self.new.station.now.rows → R.kept self.old.station.now.rows }
-        ensures drove { DroveBehind Anyhow result R.Rows R.Settles.is_settled N.passed S.Sink self.old self.new group.old group.new }
+        ensures { DroveBehind (IsTodoDone todo.now now) result R.Rows R.Settles.is_settled N.passed S.Sink self.old self.new group.old group.new }
     {
         match todo {
             Todo::Ask(request) => self.ask_for(request, now, group, log),
@@ -168,10 +162,7 @@ impl<'a, R: Settles, N: Wire, S: Desk> Driver<'a, R, N, S> {
         group: &mut Group,
         log: &mut Log<'_, E>,
     ) -> Result<(), Fault<'static>>
-        ensures station { self.new.station.ghost_name ≡ self.old.station.ghost_name }
-        ensures wire { self.new.wire.ghost_name ≡ self.old.wire.ghost_name }
-        ensures was_kept { R.kept self.new.station.now.rows → R.kept self.old.station.now.rows }
-        ensures drove { DroveBehind Anyhow result R.Rows R.Settles.is_settled N.passed S.Sink self.old self.new group.old group.new }
+        ensures { DroveBehind (IsDeed chance.moment) result R.Rows R.Settles.is_settled N.passed S.Sink self.old self.new group.old group.new }
     {
         match self.sink.deed(chance, log) {
             Some(todo) => self.do_todo(&todo, chance.moment, group, log),
@@ -189,10 +180,7 @@ impl<'a, R: Settles, N: Wire, S: Desk> Driver<'a, R, N, S> {
         log: &mut Log<'_, E>,
     ) -> Result<bool, Fault<'static>>
         requires alone { goes_alone work ≡ true → group.old.steps.items ≡ [] }
-        ensures station { self.new.station.ghost_name ≡ self.old.station.ghost_name }
-        ensures wire { self.new.wire.ghost_name ≡ self.old.wire.ghost_name }
-        ensures was_kept { R.kept self.new.station.now.rows → R.kept self.old.station.now.rows }
-        ensures drove { DroveBehind Anyhow result R.Rows R.Settles.is_settled N.passed S.Sink self.old self.new group.old group.new }
+        ensures { DroveBehind (IsWorkDone found.now) result R.Rows R.Settles.is_settled N.passed S.Sink self.old self.new group.old group.new }
     {
         let now = found.now;
         match work {
@@ -216,10 +204,7 @@ impl<'a, R: Settles, N: Wire, S: Desk> Driver<'a, R, N, S> {
         group: &mut Group,
         log: &mut Log<'_, E>,
     ) -> Result<bool, Fault<'static>>
-        ensures station { self.new.station.ghost_name ≡ self.old.station.ghost_name }
-        ensures wire { self.new.wire.ghost_name ≡ self.old.wire.ghost_name }
-        ensures was_kept { R.kept self.new.station.now.rows → R.kept self.old.station.now.rows }
-        ensures drove { DroveBehind Anyhow result R.Rows R.Settles.is_settled N.passed S.Sink self.old self.new group.old group.new }
+        ensures { DroveBehind (AtClock IsNextWork) result R.Rows R.Settles.is_settled N.passed S.Sink self.old self.new group.old group.new }
     {
         let now = self.wire.now();
         let waits = find(self.wire, now, log);
@@ -235,10 +220,7 @@ impl<'a, R: Settles, N: Wire, S: Desk> Driver<'a, R, N, S> {
         group: &mut Group,
         log: &mut Log<'_, E>,
     ) -> Result<(), Fault<'static>>
-        ensures station { self.new.station.ghost_name ≡ self.old.station.ghost_name }
-        ensures wire { self.new.wire.ghost_name ≡ self.old.wire.ghost_name }
-        ensures was_kept { R.kept self.new.station.now.rows → R.kept self.old.station.now.rows }
-        ensures drove { DroveBehind Anyhow result R.Rows R.Settles.is_settled N.passed S.Sink self.old self.new group.old group.new }
+        ensures { DroveBehind Anyhow result R.Rows R.Settles.is_settled N.passed S.Sink self.old self.new group.old group.new }
     {
         for _ in 0..u64::MAX {
             let is_over = self.step(group, log)?;
@@ -255,9 +237,6 @@ impl<'a, R: Settles, N: Wire, S: Desk> Driver<'a, R, N, S> {
         group: &mut Group,
         log: &mut Log<'_, E>,
     ) -> Result<(), Fault<'static>>
-        ensures station { self.new.station.ghost_name ≡ self.old.station.ghost_name }
-        ensures wire { self.new.wire.ghost_name ≡ self.old.wire.ghost_name }
-        ensures was_kept { R.kept self.new.station.now.rows → R.kept self.old.station.now.rows }
         ensures drove { DroveBehind Anyhow result R.Rows R.Settles.is_settled N.passed S.Sink self.old self.new group.old group.new }
         ensures all { OnOk result (group.new.steps.items ≡ []) }
     {

@@ -1,15 +1,14 @@
 //! A station under `serve`: each step by itself. What a step saved is stored, and then what it handed out is handed on.
 
-ghost use Rattle.std.specs.Prelude.{◌≡◌, ℕ, OnOk, false};
-ghost use Rattle.driver.specs.Calls.{call_of, IsAsked};
-ghost use Rattle.driver.specs.Driving.{DroveUpTo, HandedOn, IsTakingIn, IsSeeingToDue, IsTurn, AtClock};
+ghost use Rattle.driver.specs.Calls.{IsAsked};
+ghost use Rattle.driver.specs.Driving.{DroveUpTo, WentOn, HandedOn, IsTakingIn, IsSeeingToDue, IsTurn, AtClock};
 
 use crate::calls::{Call, ask};
 use crate::driver::Driver;
 use crate::log::Log;
 use crate::sink::{Outlet, TakenStep};
 use command_ends::Fault;
-use exchange::{send_answer, tell_strangers};
+use exchange::{send_all, tell_strangers};
 use row_groups::Settles;
 use saved_rows::Rows;
 use std::io::Write;
@@ -22,14 +21,15 @@ impl<'a, R: Settles, N: Wire, S: Outlet> Driver<'a, R, N, S> {
         step: &TakenStep,
         log: &mut Log<'_, E>,
     ) -> Result<(), Fault<'static>>
-        ensures station { self.new.station.ghost_name ≡ self.old.station.ghost_name }
-        ensures wire { self.new.wire.ghost_name ≡ self.old.wire.ghost_name }
-        ensures was_kept { R.kept self.new.station.now.rows → R.kept self.old.station.now.rows }
-        ensures hands { HandedOn R.Rows R.Settles.is_settled N.passed S.Sink self.old self.new step.now.answer result }
+        ensures { HandedOn R.Rows R.Settles.is_settled N.passed S.Sink self.old self.new step.now.answer result }
     {
-        self.store()?;
-        send_answer(&step.answer, self.wire, log.err);
-        self.sink.take(step, log)
+        match self.station.settle() {
+            Ok(()) => {
+                send_all(step.answer.out.as_slice(), self.wire, log.err);
+                self.sink.take(step, log)
+            }
+            Err(refusal) => Err(Fault::of_step(refusal)),
+        }
     }
 
     /// Takes in what comes at a moment in milliseconds, one datagram at most. One that the station refuses is passed over; where that is for
@@ -39,10 +39,7 @@ impl<'a, R: Settles, N: Wire, S: Outlet> Driver<'a, R, N, S> {
         now: u64,
         log: &mut Log<'_, E>,
     ) -> Result<(), Fault<'static>>
-        ensures station { self.new.station.ghost_name ≡ self.old.station.ghost_name }
-        ensures wire { self.new.wire.ghost_name ≡ self.old.wire.ghost_name }
-        ensures was_kept { R.kept self.new.station.now.rows → R.kept self.old.station.now.rows }
-        ensures drove { DroveUpTo (IsTakingIn now) result R.Rows R.Settles.is_settled N.passed S.Sink self.old self.new }
+        ensures { DroveUpTo (IsTakingIn now) result R.Rows R.Settles.is_settled N.passed S.Sink self.old self.new }
     {
         match self.take_up(now, log) {
             Ok(Some(step)) => self.hand_on(&step, log),
@@ -57,11 +54,7 @@ impl<'a, R: Settles, N: Wire, S: Outlet> Driver<'a, R, N, S> {
         now: u64,
         log: &mut Log<'_, E>,
     ) -> Result<(), Fault<'static>>
-        ensures station { self.new.station.ghost_name ≡ self.old.station.ghost_name }
-        ensures wire { self.new.wire.ghost_name ≡ self.old.wire.ghost_name }
-        ensures was_kept { R.kept self.new.station.now.rows → R.kept self.old.station.now.rows }
-        ensures drove { DroveUpTo (IsSeeingToDue now) result R.Rows R.Settles.is_settled N.passed S.Sink self.old self.new }
-        ensures goes_on { OnOk result (self.new.station.now.stopped ≡ false) }
+        ensures { WentOn (IsSeeingToDue now) result R.Rows R.Settles.is_settled N.passed S.Sink self.old self.new }
     {
         match self.fall_due(now) {
             Ok(Some(step)) => self.hand_on(&step, log),
@@ -77,11 +70,7 @@ impl<'a, R: Settles, N: Wire, S: Outlet> Driver<'a, R, N, S> {
         now: u64,
         log: &mut Log<'_, E>,
     ) -> Result<(), Fault<'static>>
-        ensures station { self.new.station.ghost_name ≡ self.old.station.ghost_name }
-        ensures wire { self.new.wire.ghost_name ≡ self.old.wire.ghost_name }
-        ensures was_kept { R.kept self.new.station.now.rows → R.kept self.old.station.now.rows }
-        ensures drove { DroveUpTo (IsTurn now) result R.Rows R.Settles.is_settled N.passed S.Sink self.old self.new }
-        ensures goes_on { OnOk result (self.new.station.now.stopped ≡ false) }
+        ensures { WentOn (IsTurn now) result R.Rows R.Settles.is_settled N.passed S.Sink self.old self.new }
     {
         self.take_in(now, log)?;
         tell_strangers(self.wire, now, log.err);
@@ -90,11 +79,7 @@ impl<'a, R: Settles, N: Wire, S: Outlet> Driver<'a, R, N, S> {
 
     /// The same, at the moment of the clock.
     pub fn turn<E: Write>(&mut self, log: &mut Log<'_, E>) -> Result<(), Fault<'static>>
-        ensures station { self.new.station.ghost_name ≡ self.old.station.ghost_name }
-        ensures wire { self.new.wire.ghost_name ≡ self.old.wire.ghost_name }
-        ensures was_kept { R.kept self.new.station.now.rows → R.kept self.old.station.now.rows }
-        ensures drove { DroveUpTo (AtClock IsTurn) result R.Rows R.Settles.is_settled N.passed S.Sink self.old self.new }
-        ensures goes_on { OnOk result (self.new.station.now.stopped ≡ false) }
+        ensures { WentOn (AtClock IsTurn) result R.Rows R.Settles.is_settled N.passed S.Sink self.old self.new }
     {
         let now = self.wire.now();
         self.turn_at(now, log)
@@ -106,11 +91,7 @@ impl<'a, R: Settles, N: Wire, S: Outlet> Driver<'a, R, N, S> {
         call: Call<'_>,
         log: &mut Log<'_, E>,
     ) -> Result<(), Fault<'static>>
-        requires may { (now : ℕ) → S.may self.old.sink (call_of call now) }
-        ensures station { self.new.station.ghost_name ≡ self.old.station.ghost_name }
-        ensures wire { self.new.wire.ghost_name ≡ self.old.wire.ghost_name }
-        ensures was_kept { R.kept self.new.station.now.rows → R.kept self.old.station.now.rows }
-        ensures drove { DroveUpTo (AtClock (IsAsked call.entry)) result R.Rows R.Settles.is_settled N.passed S.Sink self.old self.new }
+        ensures { DroveUpTo (AtClock (IsAsked call.entry)) result R.Rows R.Settles.is_settled N.passed S.Sink self.old self.new }
     {
         let now = self.wire.now();
         match ask(self.station, call, now) {

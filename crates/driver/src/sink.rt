@@ -76,4 +76,7 @@ pub trait Outlet: Sink {
         ensures ok { OnOk result (ByStored Self.lived Self.may self.old self.new step.now.answer) }
         ensures err { OnErr result (ByStored Self.front Self.may self.old self.new step.now.answer) }
         ensures fault { IfErr result IsOfWriting };
+
+    // The station may be called in whatever way, whatever became of it.
+    ghost free: { (outlet : Self) (call : Call) → Self.Sink.may outlet call };
 }

@@ -1,5 +1,5 @@
 -- Stretches of what happened to a station on a wire, one after the other, and why one came to an end.
-use Rattle.std.proofs.Common.{◌≡◌, List, [], ◌∷◌, ◌++◌, Bool, ◌||◌, true, Ok, Err, inl, inr, refl, sym, ap, ◌∙◌, subst, append_assoc}
+use Rattle.std.proofs.Common.{◌≡◌, List, [], ◌∷◌, ◌++◌, Bool, ◌||◌, true, Result, Ok, Err, inl, inr, refl, sym, ap, ◌∙◌, subst, append_assoc}
 use Rattle.protocol.specs.Refusals.{Call}
 use Rattle.saved_rows.specs.declared.fault.RowsFault.TheVariants as row_faults
 use Rattle.saved_rows.specs.declared.rows.Rows.{Ghosts}
@@ -22,6 +22,32 @@ takes_then g i a b c (asked m ∷ xs) ys p q = takes_then g i a b c xs ys p q
 takes_then g i a b c (aside what ∷ xs) ys p q = takes_then g i a b c xs ys p q
 takes_then g i a b c (took call answer ∷ xs) ys p q = (p.0, p.1, takes_then g i p.0 b c xs ys p.2 q)
 takes_then g i a b c (stored answer ∷ xs) ys p q = (p.0, p.1, takes_then g i p.0 b c xs ys p.2 q)
+
+-- rows that are kept once what was saved is stored, or could not be, were kept before
+pub settling_kept : {R : Type 0} (g : Ghosts R) (i : R → Type 0) (old new : Station R) (r : Result (Unit {0}) StepRefusal) → Settling g i old new r → g.kept new.rows → g.kept old.rows
+settling_kept g i old new (Ok done) it = it.reads.was_kept
+settling_kept g i old new (Err (steps.Store fault)) it = it.was_kept
+settling_kept {R = R} g i old new (Err steps.Stopped) it = λ kept. subst (λ (s : Station R). g.kept s.rows) it.1 kept
+settling_kept g i old new (Err (steps.BadDatagram fault)) it = absurd it
+settling_kept g i old new (Err steps.WrongCircuit) it = absurd it
+settling_kept g i old new (Err steps.NotForMe) it = absurd it
+settling_kept g i old new (Err steps.Stranger) it = absurd it
+settling_kept g i old new (Err steps.BadNumber) it = absurd it
+settling_kept g i old new (Err steps.NoSuchMember) it = absurd it
+settling_kept g i old new (Err steps.AlreadyReleased) it = absurd it
+settling_kept g i old new (Err steps.AlreadyOpen) it = absurd it
+settling_kept g i old new (Err steps.WireTooOld) it = absurd it
+settling_kept g i old new (Err (steps.TapeFaulty fault)) it = absurd it
+settling_kept g i old new (Err steps.RoundsSpent) it = absurd it
+settling_kept g i old new (Err steps.OutOfMemory) it = absurd it
+
+-- rows that are kept behind what happened were kept before it
+pub takes_kept : {R : Type 0} (g : Ghosts R) (i : R → Type 0) (old new : Station R) (log : List Event) → Takes g i old new log → g.kept new.rows → g.kept old.rows
+takes_kept {R = R} g i old new [] it kept = subst (λ (s : Station R). g.kept s.rows) it kept
+takes_kept g i old new (asked moment ∷ rest) it kept = takes_kept g i old new rest it kept
+takes_kept g i old new (aside what ∷ rest) it kept = takes_kept g i old new rest it kept
+takes_kept g i old new (took call answer ∷ rest) it kept = it.1.was_kept (takes_kept g i it.0 new rest it.2 kept)
+takes_kept g i old new (stored answer ∷ rest) it kept = settling_kept g i old it.0 answer it.1 (takes_kept g i it.0 new rest it.2 kept)
 
 -- what passes while the one happens, and then the other
 pub passing_then : (waits : List Passed) (xs ys : List Event) → passing_behind waits (xs ++ ys) ≡ passing_behind waits xs ++ passing_behind (waiting_behind waits xs) ys

@@ -11,6 +11,6 @@ mod strangers;
 pub use layouts::NewerLayouts;
 pub use room::Intake;
 pub use said::Said;
-pub use sending::send_bytes;
-pub use station_steps::{Received, pass_over, send_answer, take_datagram};
+pub use sending::{send_all, send_bytes};
+pub use station_steps::{Received, pass_over, take_datagram};
 pub use strangers::{tell_lost, tell_strangers};

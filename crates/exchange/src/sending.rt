@@ -19,18 +19,11 @@ pub fn send_bytes<N: Wire, E: Write>(to: Member, bytes: &[u8], wire: &mut N, err
     }
 }
 
-/// Sends a datagram to its addressee.
-fn send<N: Wire, E: Write>(datagram: &Datagram, wire: &mut N, err: &mut E)
-    ensures { Passes (N.passed wire.old) (N.passed wire.new) (sent datagram.now.to datagram.now.bytes ∷ []) }
-{
-    send_bytes(datagram.to(), datagram.bytes(), wire, err);
-}
-
-/// Sends datagrams, each once, in order.
-pub(crate) fn send_all<N: Wire, E: Write>(out: &[Datagram], wire: &mut N, err: &mut E)
+/// Sends datagrams, each once, in order. `err` has those that the wire does not take.
+pub fn send_all<N: Wire, E: Write>(out: &[Datagram], wire: &mut N, err: &mut E)
     ensures { Passes (N.passed wire.old) (N.passed wire.new) (sending out.now) }
 {
     for datagram in out {
-        send(datagram, wire, err);
+        send_bytes(datagram.to(), datagram.bytes(), wire, err);
     }
 }

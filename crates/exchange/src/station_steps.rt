@@ -2,20 +2,17 @@
 
 ghost use Rattle.std.specs.Prelude.{◌≡◌, true, false, OnOk, IfErr};
 ghost use Rattle.station.specs.Steps.{tears};
-ghost use Rattle.wire.specs.Passing.{Passes};
 ghost use Rattle.exchange.specs.Driving.{IsPacketTaken, IsTakenIn};
-ghost use Rattle.exchange.specs.Events.{sending, HasMark};
+ghost use Rattle.exchange.specs.Events.{HasMark};
 ghost use Rattle.command_ends.specs.Ends.{end_of, end_of_step};
 
 use crate::layouts::newer_in;
 use crate::said::{Said, said_in};
-use crate::sending::send_all;
 use ballots::Member;
 use command_ends::Fault;
 use rolls::{Aside, hear};
 use saved_rows::Rows;
 use station::{Answer, Station, StepRefusal};
-use std::io::Write;
 use wire::{Arrival, Wire};
 
 /// What came of waiting for a datagram.
@@ -70,8 +67,7 @@ pub fn take_datagram<R: Rows, N: Wire>(
     now: u64,
     buffer: &mut [u8],
 ) -> Received
-    ensures was_kept { R.kept station.new.rows → R.kept station.old.rows }
-    ensures takes { IsTakenIn R.Rows N.passed now station.old station.new wire.old wire.new result }
+    ensures { IsTakenIn R.Rows N.passed now station.old station.new wire.old wire.new result }
 {
     let length = match wire.receive(buffer) {
         Arrival::Nothing => return Received::Nothing,
@@ -83,13 +79,6 @@ pub fn take_datagram<R: Rows, N: Wire>(
         return Received::Heard(hear(bytes));
     }
     take_packet(station, bytes, now)
-}
-
-/// Sends what a step of the station hands out, each datagram once, in order. `err` has those that the wire does not take.
-pub fn send_answer<N: Wire, E: Write>(answer: &Answer, wire: &mut N, err: &mut E)
-    ensures { Passes (N.passed wire.old) (N.passed wire.new) (sending answer.now.out.items) }
-{
-    send_all(answer.out.as_slice(), wire, err);
 }
 
 /// Passes over a refusal after which the station goes on as it was; any other is the fault that it has stopped for.

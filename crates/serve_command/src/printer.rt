@@ -92,4 +92,6 @@ impl<W: Write> Outlet for Printer<'_, W> {
             Err(fault) => Err(Fault::of_writing(fault)),
         }
     }
+
+    ghost free = { λ _ _. tt };
 }

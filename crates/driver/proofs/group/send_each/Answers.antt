@@ -18,5 +18,6 @@ one_more passed was mid is steps i d low at before p =
 
 pub loop-step-preserved : goal.loop-step-preserved
 loop-step-preserved g c =
-    one_more g.N.Wire.passed c.args.wire.now c.loop-step.wire c.send_answer.new.wire c.args.steps.now c.loop-step.step-index c.step-item.result
-    c.loop-step-test.true c.step-item.is c.loop-step.invariant c.send_answer.ensures
+    let sent = rw c.as_slice.ensures.value at c.send_all.ensures in
+    one_more g.N.Wire.passed c.args.wire.now c.loop-step.wire c.send_all.new.wire c.args.steps.now c.loop-step.step-index c.step-item.result
+    c.loop-step-test.true c.step-item.is c.loop-step.invariant sent

@@ -1,5 +1,5 @@
 -- One more is sent, behind those before it.
-use Rattle.std.proofs.Common.{◌≡◌, ◌<◌, ◌+◌, ℕ, List, [], ◌∷◌, ◌++◌, length, take, get_or, map, sym, subst, ap, ◌∙◌}
+use Rattle.std.proofs.Common.{rules, ◌≡◌, ◌<◌, ◌+◌, ℕ, List, [], ◌∷◌, ◌++◌, length, take, get_or, map, sym, subst, ap, ◌∙◌}
 use Rattle.std.proofs.lemmas.List.{map_more}
 use Rattle.protocol.specs.Circuit.{Datagram}
 use Rattle.wire.specs.Passing.{Passed, Passes, Trace, sent}
@@ -19,5 +19,8 @@ one_more passed was mid is out i d low at before p =
 
 pub loop-datagram-preserved : goal.loop-datagram-preserved
 loop-datagram-preserved g c =
-    one_more g.N.Wire.passed c.args.wire.now c.loop-datagram.wire c.send.new.wire c.args.out.now c.loop-datagram.datagram-index c.datagram-item.result
-    c.loop-datagram-test.true c.datagram-item.is c.loop-datagram.invariant c.send.ensures
+    let d = c.datagram-item.result in
+    let same : sent c.to.result c.bytes.result.now ≡ sent_as d = search rules in
+    one_more g.N.Wire.passed c.args.wire.now c.loop-datagram.wire c.send_bytes.new.wire c.args.out.now c.loop-datagram.datagram-index d
+    c.loop-datagram-test.true c.datagram-item.is c.loop-datagram.invariant
+    (subst (λ (x : Passed). Passes (g.N.Wire.passed c.loop-datagram.wire) (g.N.Wire.passed c.send_bytes.new.wire) (x ∷ [])) same c.send_bytes.ensures)

@@ -31,12 +31,12 @@ heard_so passed now s was is bytes found m p e = (
   subst (λ (l : List ℕ). found ≡ aside_in l) m.1 e,
 )
 
-pub returns-clause-takes : goal.returns-clause-takes
-returns-clause-takes g c =
+pub returns : goal.returns
+returns g c =
     taken g.R.Rows g.N.Wire.passed c.args.now c.args.station.now c.take_packet.new.station c.args.wire.now c.receive.new.self _ c.take_packet.result
     c.in-Datagram.ensures.passes (c.has_mark.ensures.none c.if-has_mark.false) c.take_packet.ensures
 
-pub returns-then-has_mark-clause-takes : goal.returns-then-has_mark-clause-takes
-returns-then-has_mark-clause-takes g c =
+pub returns-then-has_mark : goal.returns-then-has_mark
+returns-then-has_mark g c =
     heard_so g.N.Wire.passed c.args.now c.args.station.now c.args.wire.now c.receive.new.self _ c.hear.result (c.has_mark.ensures.some c.if-has_mark.true)
     c.in-Datagram.ensures.passes c.hear.ensures

@@ -9,19 +9,25 @@ use Rattle.driver.specs.Todos.{IsHailing}
 use Rattle.driver.proofs.Driven.{answered, hailed_behind, of_form}
 use Rattle.driver.proofs.driver.Driver.hail.Goals as goal
 
-pub returns-in_err-settle_group-clause-drove : goal.returns-in_err-settle_group-clause-drove
-returns-in_err-settle_group-clause-drove g c =
+pub returns-in_err-settle_group : goal.returns-in_err-settle_group
+returns-in_err-settle_group g c =
     let k = known g.R.Rows g.R.Settles.is_settled g.N.Wire.passed (fate_of g.S.Sink) in
     let old = post_behind c.args.self.now (sends_of c.args.group.now) in
     let new = post_behind c.settle_group.new.self (sends_of c.settle_group.new.group) in
     let fault = c.in_err-settle_group.field-0.0 in
     let same : ended c.from_residual.result ≡ end_of fault = search rules in
-    of_form k old new (ended c.from_residual.result) IsStoring (IsHailing c.args.to c.args.bytes.now) (λ log done form. absurd (ends_badly fault (sym same ∙ done)))
-    (answered k old new (end_of fault) (ended c.from_residual.result) IsStoring same c.in_err-settle_group.ensures.drove)
+    record {
+      hands = c.in_err-settle_group.ensures.drove.hands;
+      done = of_form k old new (ended c.from_residual.result) IsStoring (IsHailing c.args.hail.to c.args.hail.bytes.now) (λ log done form. absurd (ends_badly fault (sym same ∙ done)))
+          (answered k old new (end_of fault) (ended c.from_residual.result) IsStoring same c.in_err-settle_group.ensures.drove.done);
+    }
 
-pub returns-clause-drove : goal.returns-clause-drove
-returns-clause-drove g c =
+pub returns : goal.returns
+returns g c =
     let old = c.args.self.now in
     let new = c.settle_group.new.self in
-    hailed_behind (known g.R.Rows g.R.Settles.is_settled g.N.Wire.passed (fate_of g.S.Sink)) g.S.Sink.may g.met.S.Sink.fates c.args.to c.args.bytes.now old.station.now new.station.now old.wire.now new.wire.now c.send_bytes.new.wire old.sink new.sink (sends_of c.args.group.now)
-    (sends_of c.settle_group.new.group) (ap sends c.in_ok-settle_group.ensures.all) c.requires.spelled c.in_ok-settle_group.ensures.drove c.send_bytes.ensures
+    record {
+      hands = c.in_ok-settle_group.ensures.drove.hands;
+      done = hailed_behind (known g.R.Rows g.R.Settles.is_settled g.N.Wire.passed (fate_of g.S.Sink)) g.S.Sink.may g.met.S.Sink.fates c.args.hail.to c.args.hail.bytes.now old.station.now new.station.now old.wire.now new.wire.now c.send_bytes.new.wire old.sink new.sink (sends_of c.args.group.now)
+          (sends_of c.settle_group.new.group) (ap sends c.in_ok-settle_group.ensures.ended.none) c.requires.spelled c.in_ok-settle_group.ensures.drove.done c.send_bytes.ensures;
+    }

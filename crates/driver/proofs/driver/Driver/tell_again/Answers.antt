@@ -5,30 +5,33 @@ use Rattle.exchange.specs.Events.{took, ended}
 use Rattle.wire.proofs.Passing.{Passes-nil}
 use Rattle.driver.specs.Driving.{known, fate_of, post_behind, sends_of}
 use Rattle.driver.specs.Todos.{IsTellingAgain}
-use Rattle.driver.proofs.Driven.{always, left_with, noted, refused}
+use Rattle.driver.proofs.Driven.{always, noted, refused}
 use Rattle.driver.proofs.driver.Driver.tell_again.Goals as goal
 
-pub returns-in-Ok-clause-drove : goal.returns-in-Ok-clause-drove
-returns-in-Ok-clause-drove g c =
+pub returns-in-Ok : goal.returns-in-Ok
+returns-in-Ok g c =
     let call : Call = Recalling c.get.result c.get-2.result in
     let same : call ≡ Recalling c.args.again.number c.args.again.to = search rules in
     let wire = c.args.self.now.wire.now in
     let sink = c.args.self.now.sink in
     let k = known g.R.Rows g.R.Settles.is_settled g.N.Wire.passed (fate_of g.S.Sink) in
-    let new = c.hold.new.self in
-    left_with k (post_behind c.args.self.now (sends_of c.args.group.now)) c.recall.new.self new.station.now wire new.wire.now new.sink new.sink (sends_of c.hold.new.group) (ended c.hold.result) (IsTellingAgain c.args.again.number c.args.again.to)
-    c.hold.ensures.stays c.hold.ensures.wire_stays refl
-    (noted k g.S.Sink.may g.met.S.Sink.fates call c.in-Ok.answer c.args.self.now.station.now c.recall.new.self wire wire sink sink c.hold.new.self.sink
-    (sends_of c.args.group.now) (sends_of c.hold.new.group) c.hold.result (IsTellingAgain c.args.again.number c.args.again.to)
-    (g.met.S.Sink.fates.rests sink) (g.met.S.Sink.fates.free sink call tt) (λ kept. c.in-Ok.ensures) (Passes-nil (g.N.Wire.passed wire)) c.hold.ensures.holds c.in-Ok.ensures.stops
-    (_, ap (λ (x : Call). took x (Ok c.in-Ok.answer) ∷ []) same))
+    record {
+      hands = (refl, refl);
+      done = noted k g.S.Sink.may g.met.S.Sink.fates call c.in-Ok.answer c.args.self.now.station.now c.recall.new.self wire wire sink sink c.hold.new.desk
+          (sends_of c.args.group.now) (sends_of c.hold.new.self) c.hold.result (IsTellingAgain c.args.again.number c.args.again.to)
+          (g.met.S.Sink.fates.rests sink) (g.met.S.Sink.fates.free sink call tt) (λ kept. c.in-Ok.ensures) (Passes-nil (g.N.Wire.passed wire)) c.hold.ensures.holds c.in-Ok.ensures.stops
+          (_, ap (λ (x : Call). took x (Ok c.in-Ok.answer) ∷ []) same);
+    }
 
-pub returns-in-Err-clause-drove : goal.returns-in-Err-clause-drove
-returns-in-Err-clause-drove g c =
+pub returns-in-Err : goal.returns-in-Err
+returns-in-Err g c =
     let call : Call = Recalling c.get.result c.get-2.result in
     let same : call ≡ Recalling c.args.again.number c.args.again.to = search rules in
     let wire = c.args.self.now.wire.now in
-    refused (known g.R.Rows g.R.Settles.is_settled g.N.Wire.passed (fate_of g.S.Sink)) g.S.Sink.may g.met.S.Sink.fates call c.in-Err.refusal c.args.self.now.station.now c.recall.new.self wire wire c.args.self.now.sink c.args.self.now.sink (sends_of c.args.group.now)
-    c.pass_over.result (IsTellingAgain c.args.again.number c.args.again.to) (g.met.S.Sink.fates.free c.args.self.now.sink call tt)
-    (g.met.S.Sink.fates.rests c.args.self.now.sink) (λ kept. c.in-Err.ensures) (Passes-nil (g.N.Wire.passed wire)) c.in-Err.ensures.stops
-    c.pass_over.ensures.goes_on c.pass_over.ensures.ends (always c.pass_over.result _ (_, ap (λ (x : Call). took x (Err c.in-Err.refusal) ∷ []) same))
+    record {
+      hands = (refl, refl);
+      done = refused (known g.R.Rows g.R.Settles.is_settled g.N.Wire.passed (fate_of g.S.Sink)) g.S.Sink.may g.met.S.Sink.fates call c.in-Err.refusal c.args.self.now.station.now c.recall.new.self wire wire c.args.self.now.sink c.args.self.now.sink (sends_of c.args.group.now)
+          c.pass_over.result (IsTellingAgain c.args.again.number c.args.again.to) (g.met.S.Sink.fates.free c.args.self.now.sink call tt)
+          (g.met.S.Sink.fates.rests c.args.self.now.sink) (λ kept. c.in-Err.ensures) (Passes-nil (g.N.Wire.passed wire)) c.in-Err.ensures.stops
+          c.pass_over.ensures.goes_on c.pass_over.ensures.ends (always c.pass_over.result _ (_, ap (λ (x : Call). took x (Err c.in-Err.refusal) ∷ []) same));
+    }
