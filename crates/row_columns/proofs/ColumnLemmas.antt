@@ -1,12 +1,13 @@
 -- A row comes back out of its columns.
-use Rattle.std.proofs.Common.{◌≡◌, ◌<◌, ◌≤◌, ◌^◌, ◌==◌, ◌+◌, ℕ, pos, true, false, cond, List, [], ◌∷◌, length, Some, None, nat_lt, nat_le, refl, ap, arith, inl, inr}
+use Rattle.std.proofs.Common.{◌≡◌, ◌<◌, ◌≤◌, ◌^◌, ◌==◌, ◌+◌, ℕ, pos, true, false, cond, List, [], ◌∷◌, length, Some, None, nat_lt, nat_le, refl, ap, sym, subst, true≢false, arith, inl, inr}
 use Rattle.std.specs.List.{AllByRecursion, position_from}
 use Rattle.std.proofs.lemmas.Bool.Decides.{Decides-ltb, Decides-eqb}
 use Rattle.std.proofs.lemmas.Bool.{le-leb, cases_Bool, and_parts}
 use Rattle.tape_frames.specs.Frames.{most_frames, IsTape, tape_fault}
+use Rattle.tape_frames.specs.Entries.{IsEntry, entry_frames}
 use Rattle.row_table.specs.Tables.Layout.{First}
 use Rattle.protocol.specs.Ballots.{Ballot, IsBallot}
-use Rattle.protocol.specs.Entries.{Taped}
+use Rattle.protocol.specs.Entries.{Entry, Void, Taped}
 use Rattle.protocol.specs.Rows.{vote_for, may_stand}
 use Rattle.protocol.specs.Versions.{One}
 use Rattle.protocol.specs.Fitting.{Fits}
@@ -47,3 +48,8 @@ few_frames tape fits = (and_parts (nat_le 1 (length tape)) (nat_le (length tape)
 pub back_with : (p b : Ballot) (tape : List ℕ) → IsBallot p → IsBallot b → IsTape tape → Fits One (Taped tape) → may_stand (Some p) (Some (vote_for b (Taped tape))) ≡ true
     → row_in First 0 (columns_with First (Some p) (Some (vote_for b (Taped tape)))) ≡ Some (row_of p (Some (vote_for b (Taped tape))))
 back_with p b tape promise ballot is_tape fits stands = rw (a_ballot p promise, a_ballot b ballot, few_frames tape fits, no_fault tape is_tape, stands) refl
+
+-- the frames of an entry that layout 1 has a row for are a tape, and it is the entry
+pub plain_tape : (e : Entry) (frames : List ℕ) → Fits One e → IsEntry e → frames ≡ entry_frames e → (e ≡ Taped frames) × IsTape frames
+plain_tape Void frames fits is same = absurd (true≢false (sym fits))
+plain_tape (Taped tape) frames fits is same = (ap Taped (sym same), subst IsTape (sym same) is)

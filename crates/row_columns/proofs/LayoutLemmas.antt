@@ -6,7 +6,7 @@ use Rattle.sqlite_schema.specs.declared.schema.Schema.{Schema}
 use Rattle.row_table.specs.Tables.{Layout as Tables, layout_schema}
 use Rattle.row_table.specs.Tables.Layout.{First, Second}
 use Rattle.row_table.specs.Tables.Origin.{Created, Upgraded}
-use Rattle.row_columns.specs.declared.layout.Layout.{Layout}
+use Rattle.row_table.specs.declared.layout.Layout.{Layout}
 use Rattle.row_columns.specs.Layouts.{layout_of, layout_in}
 
 -- it is that layout

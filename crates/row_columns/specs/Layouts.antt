@@ -1,4 +1,4 @@
--- What the code's layouts are, in the words of the tables; and the layout that a schema tells.
+-- The layout of rows now, and the layout that a schema tells.
 use Rattle.std.specs.Prelude.{ℕ, Bool, true, false, List, Option, Some, None, ◌&&◌, codes, is_some}
 use Rattle.std.specs.List.{position_from}
 use Rattle.sqlite_schema.specs.Names.{same_name, column_named}
@@ -7,14 +7,7 @@ use Rattle.row_table.specs.Tables.{Layout as Tables}
 use Rattle.row_table.specs.Tables.Layout.{First, Second}
 use Rattle.row_table.specs.Tables.Origin.{Created, Upgraded}
 use Rattle.protocol.specs.Versions.{Version, One, Two}
-use Rattle.row_columns.specs.declared.layout.Layout.{Layout}
-use Rattle.row_columns.specs.declared.layout.Layout.TheVariants as coded
-
--- the layout of a database
-abbrev pub layout_of : Layout → Tables
-layout_of coded.First = First
-layout_of coded.Created = Second Created
-layout_of coded.Upgraded = Second Upgraded
+pub use Rattle.row_table.specs.Layouts.{layout_of}
 
 -- the layout now: that which was found or made, until it is upgraded
 abbrev pub layout_now : Tables → Bool → Tables

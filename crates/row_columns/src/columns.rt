@@ -11,17 +11,17 @@ ghost use Rattle.protocol.specs.Fitting.{Fits};
 ghost use Rattle.tape_frames.specs.Frames.{IsTape};
 ghost use Rattle.tape_frames.specs.Entries.{lent_entry};
 ghost use Rattle.row_table.specs.Tables.Layout.{First};
-ghost use Rattle.row_table.specs.Rows.{columns_of};
+ghost use Rattle.row_table.specs.Puts.{columns_of_row};
 ghost use Rattle.row_columns.specs.Columns.{version_in, whole_in, ballot_from, stored_tape, tape_in, is_null, entry_at, no_entry_at, vote_at, row_of, row_in, damage_of, damage_in, item_in, columns_for, ComesBack};
 ghost use Rattle.row_columns.specs.Layouts.{layout_of};
 ghost use Rattle.saved_rows.specs.Saved.{HasPromise, RowFits, AreFitting};
 
 use crate::entry_columns::entry_in;
-use crate::layout::Layout;
 use ballots::{Ballot, Member, Number, Row, Vote, VoteRef};
+use row_table::{Layout, RowColumns};
 use sqlite::types::ValueRef;
 use std::alloc::{AllocError, Global};
-use tape_frames::{Entry, EntryRef, MAX_FRAMES_ONE, Tape, TapeRef};
+use tape_frames::{EntryRef, MAX_FRAMES_ONE, TapeRef};
 
 /// What stands in a column; null where there is no such column.
 pub(crate) fn value_at(columns: &sqlite::Row, at: usize) -> ValueRef<'_>
@@ -254,56 +254,29 @@ pub fn items_in(
     Ok(items)
 }
 
-/// The columns of a row in layout 1.
-#[derive(Drop)]
-pub struct RowColumns {
-    /// The round of the ballot that is promised.
-    pub promised_round: u32,
-    /// The member that owns that ballot.
-    pub promised_owner: u32,
-    /// The round of the ballot that the vote was cast in; `None` where there is no vote.
-    pub vote_round: Option<u32>,
-    /// The member that owns that ballot; `None` where there is no vote.
-    pub vote_owner: Option<u32>,
-    tape: Option<Tape>,
-}
-
-impl RowColumns {
-    /// The frames of the tape that was voted for, one a byte; `None` where there is no vote.
-    pub fn frames(&self) -> Option<&[u8]>
-        ensures { option_map (λ b. b.now) result ≡ self.now.tape }
-    {
-        match &self.tape {
-            None => None,
-            Some(tape) => Some(tape.frames()),
-        }
-    }
-}
-
-/// The tape that was voted for, where layout 1 has a row for the entry.
-fn voted_tape(alloc: Global, vote: &Vote) -> Result<Tape, AllocError>
+/// The frames of the tape that was voted for, one a byte, where layout 1 has a row for the entry.
+fn voted_frames(alloc: Global, vote: &Vote) -> Result<Vec<u8>, AllocError>
     requires { Fits One vote.now.entry }
-    ensures tape { IfOk result (λ tape. vote.now.entry ≡ Taped tape) }
-    ensures is_tape { IfOk result IsTape }
+    ensures tape { IfOk result (λ frames. vote.now.entry ≡ Taped frames.items) }
+    ensures is_tape { IfOk result (λ frames. IsTape frames.items) }
 {
-    // An entry may be lent packed, and a row has a byte for each frame.
-    match vote.entry().copy(alloc)? {
-        Entry::Void => unreachable!(),
-        Entry::Tape(tape) => {
-            // What a tape is, is known once it is read.
-            let _frames = tape.frames();
-            Ok(tape)
-        }
-    }
+    let entry = vote.entry();
+    // What an entry is, is known once its length is read.
+    let _length = entry.len();
+    let mut frames = Vec::new(alloc);
+    entry.put_plain(&mut frames)?;
+    Ok(frames)
 }
 
 /// The columns, in layout 1, of a row that has a promise, and a vote for a tape where it has one; they are the row again.
-pub fn columns_for(alloc: Global, row: &Row) -> Result<RowColumns, AllocError>
+pub fn columns_for(alloc: Global, number: Number, row: &Row) -> Result<RowColumns, AllocError>
     requires promise { HasPromise row.now }
     requires fits { RowFits One row.now }
-    ensures columns { IfOk result (λ c. columns_of c.promised_round c.promised_owner c.vote_round c.vote_owner c.tape ≡ columns_for First row.now) }
+    ensures number { IfOk result (λ c. c.number ≡ number) }
+    ensures columns { IfOk result (λ c. columns_of_row c ≡ columns_for First row.now) }
     ensures back { OnOk result (ComesBack First row.now) }
 {
+    let number = number.get();
     let Some(promise) = row.promised() else {
         unreachable!()
     };
@@ -311,6 +284,7 @@ pub fn columns_for(alloc: Global, row: &Row) -> Result<RowColumns, AllocError>
     let promised_owner = u32::from(promise.owner().get());
     let Some(vote) = row.vote() else {
         return Ok(RowColumns {
+            number,
             promised_round,
             promised_owner,
             vote_round: None,
@@ -319,12 +293,13 @@ pub fn columns_for(alloc: Global, row: &Row) -> Result<RowColumns, AllocError>
         });
     };
     let ballot = vote.ballot();
-    let tape = voted_tape(alloc, vote)?;
+    let frames = voted_frames(alloc, vote)?;
     Ok(RowColumns {
+        number,
         promised_round,
         promised_owner,
         vote_round: Some(ballot.round()),
         vote_owner: Some(u32::from(ballot.owner().get())),
-        tape: Some(tape),
+        tape: Some(frames),
     })
 }

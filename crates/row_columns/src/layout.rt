@@ -6,19 +6,9 @@ ghost use Rattle.row_table.specs.Tables.{Layout as Tables, layout_number, layout
 ghost use Rattle.row_columns.specs.Columns.{version_in};
 ghost use Rattle.row_columns.specs.Layouts.{layout_of, layout_now, made_in, layout_by, layout_in, table_with};
 
+use row_table::Layout;
 use sqlite_schema::schema::Schema;
 use tape_frames::Version;
-
-/// Which tables a database keeps its rows in, and how it came to them.
-#[derive(Clone, Copy, PartialEq, Eq)]
-pub enum Layout {
-    /// Layout 1: the table of rows.
-    First,
-    /// Layout 2, made so: the table of entries.
-    Created,
-    /// Layout 2, upgraded from layout 1: the table of entries, beside the table of rows.
-    Upgraded,
-}
 
 /// The version of the rows that a layout keeps.
 pub fn version_in(layout: Layout) -> Version

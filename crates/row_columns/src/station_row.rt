@@ -7,8 +7,9 @@ ghost use Rattle.row_columns.specs.Layouts.{layout_of};
 ghost use Rattle.row_columns.specs.StationRow.{station_of, station_in, Agrees, RefusesStation};
 
 use crate::columns::{value_at, whole_in};
-use crate::layout::{Layout, layout_number};
+use crate::layout::layout_number;
 use ballots::Member;
+use row_table::Layout;
 use saved_rows::{Identity, RowsFault};
 
 /// The layout's number and the identity that the columns of a station are; `None` where the key is not 1, the layout is not 1 or 2,
