@@ -11,17 +11,21 @@ use Rattle.sqlite.specs.Held.{Held, state}
 use Rattle.row_table.specs.Tables.{Layout, layout_tree}
 use Rattle.row_table.specs.Rows.{AreRows, Serves, IsAtRest, WasKept}
 use Rattle.row_table.specs.Staging.{IsStaging}
+use Rattle.sqlite.specs.declared.transaction.Transaction.{Transaction}
+use Rattle.row_table.specs.Tables.{Origin}
+use Rattle.row_table.specs.Tables.Layout.{Second}
 use Rattle.row_table.specs.Keeping.{WasOpenWhereRefused, RolledBackWhereRefused}
 use Rattle.row_table.proofs.AddingLemmas.{survives_both, kept_then}
 use Rattle.protocol.specs.Rows.{Row}
 use Rattle.saved_rows.specs.Saved.{Saved, with_row}
 use Rattle.saved_rows.specs.declared.identity.Identity.{Identity}
+use Rattle.saved_rows.specs.declared.fault.RowsFault.{RowsFault}
 use Rattle.row_groups.specs.Groups.{WithAll, WithSome, IsAllOrNone}
 use Rattle.row_groups.proofs.GroupLemmas.{same_all}
 use Rattle.row_columns.specs.Columns.{saved_in}
 use Rattle.row_columns.proofs.SaveLemmas.{saves_row}
 use Rattle.acceptor_store.specs.Sqlite.{IsOfStation, Stands}
-use Rattle.acceptor_store.specs.Grouping.{PutsBack, PutsEach, HasLayout, WereSaved, CommitsEach, CrashesWithAllOrNone, WasOpenWhereDone}
+use Rattle.acceptor_store.specs.Grouping.{PutsBack, PutsEach, StagesBack, StagesRows, StagesSecond, HasLayout, WereSaved, CommitsEach, CrashesWithAllOrNone, WasOpenWhereDone}
 use Rattle.acceptor_store.proofs.StandLemmas.{IsSettled, saved_station, was_clean}
 
 -- from a place on a list has what stands there and then the rest
@@ -75,6 +79,24 @@ pub all_staged : (layout : Layout) (items : List (ℕ × Row)) (i : ℕ) (old ne
 all_staged layout items i old new past h clean is =
     let was = h.staged clean is in
     (was.0, was.1 new.now.trees (subst (λ l. PutsEach layout l new.now.trees new.now.trees) (sym (drop_all i items past)) refl))
+
+on_ok : {A E : Type 0} {P Q : Type 0} → (P → Q) → (r : Result A E) → OnOk r P → OnOk r Q
+on_ok f (Ok a) h = f h
+on_ok f (Err e) h = tt
+
+-- a row that is put into the table of entries is put into that of a database that came to it so
+pub second_at : {S A : Type 0} (g : Ghosts S) (origin : Origin) (number : ℕ) (row : Row) (r : Result A RowsFault) (old new : Transaction S)
+    → StagesRows g (StagesSecond number row) r old new → StagesRows g (StagesBack (Second origin) number row) r old new
+second_at g origin number row r old new it = record {
+  acts = record {
+    same_reference = it.acts.same_reference;
+    done = λ clean. on_ok (λ h. h origin) r (it.acts.done clean);
+    inside = it.acts.inside;
+    kept = it.acts.kept;
+    survives = it.acts.survives;
+  };
+  refusal = it.refusal;
+}
 
 -- ---- what rows that were put make of a database
 

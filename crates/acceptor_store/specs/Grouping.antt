@@ -1,18 +1,22 @@
 -- Rows that are saved together, in one transaction: `old` is the state of the connection before a call, `new` after it.
 -- All of it is said where the disk returned what was written.
-use Rattle.std.specs.Prelude.{◌≡◌, ◌⊎◌, ◌≤◌, ℕ, List, [], ◌∷◌, Result, OnOk, IsTrue, false}
+use Rattle.std.specs.Prelude.{◌≡◌, ◌⊎◌, ◌≤◌, ℕ, List, [], ◌∷◌, Result, IfErr, OnOk, IsTrue, false}
 use Rattle.sqlite_trees.specs.declared.store.Store.{Ghosts}
 use Rattle.sqlite_trees.specs.Tree.{Trees}
 use Rattle.sqlite.specs.State.{State, HasCleanDisk}
-use Rattle.row_table.specs.Tables.{Layout, layout_schema, layout_tree}
+use Rattle.sqlite.specs.declared.transaction.Transaction.{Transaction}
+use Rattle.row_table.specs.Tables.{Layout, Origin, layout_schema, layout_tree}
+use Rattle.row_table.specs.Tables.Layout.{Second}
 use Rattle.row_table.specs.Rows.{AreRows, SavesIn, Serves}
 use Rattle.row_table.specs.Staging.{IsStaging}
+use Rattle.row_table.specs.Within.{ActsWithin}
 use Rattle.protocol.specs.Limits.{last_number}
 use Rattle.protocol.specs.Rows.{Row}
 use Rattle.saved_rows.specs.Saved.{Saved, HasPromise}
 use Rattle.row_groups.specs.Groups.{WithAll, IsAllOrNone}
 use Rattle.row_columns.specs.Columns.{columns_for, ComesBack}
-use Rattle.acceptor_store.specs.Sqlite.{SqliteOf, IsOpen, MayLeave, saved_of}
+use Rattle.saved_rows.specs.declared.fault.RowsFault.{RowsFault}
+use Rattle.acceptor_store.specs.Sqlite.{SqliteOf, IsOpen, IsRefusal, MayLeave, saved_of}
 
 -- under a circuit number this row was put in the place of the one before, in columns out of which it comes back, and nothing else was changed
 pub record PutsBack (layout : Layout) (number : ℕ) (row : Row) (old new : Trees) : Type 0 where
@@ -29,15 +33,22 @@ PutsEach layout (p ∷ ps) old new = (mid : Trees) × PutsBack layout p.0 p.1 ol
 
 -- ---- in a transaction, which stays open
 
--- an Ok has put this row
-abbrev pub StagesBack : {A E : Type 0} → Layout → ℕ → Row → Result A E → State → State → Type 0
-StagesBack layout number row result old new =
-    HasCleanDisk new → IsStaging layout old → OnOk result (IsStaging layout new × PutsBack layout number row old.now.trees new.now.trees)
+-- it puts this row
+abbrev pub StagesBack : Layout → ℕ → Row → State → State → Type 0
+StagesBack layout number row old new = IsStaging layout old → IsStaging layout new × PutsBack layout number row old.now.trees new.now.trees
 
--- an Ok has put each of these
-abbrev pub StagesEach : {A E : Type 0} → Layout → List (ℕ × Row) → Result A E → State → State → Type 0
-StagesEach layout items result old new =
-    HasCleanDisk new → IsStaging layout old → OnOk result (IsStaging layout new × PutsEach layout items old.now.trees new.now.trees)
+-- it puts this row into the table of entries, however the database came to it
+abbrev pub StagesSecond : ℕ → Row → State → State → Type 0
+StagesSecond number row old new = (origin : Origin) → StagesBack (Second origin) number row old new
+
+-- it puts each of these
+abbrev pub StagesEach : Layout → List (ℕ × Row) → State → State → Type 0
+StagesEach layout items old new = IsStaging layout old → IsStaging layout new × PutsEach layout items old.now.trees new.now.trees
+
+-- an act on saved rows in a transaction, of which a refusal speaks of no row
+pub record StagesRows {S A : Type 0} (g : Ghosts S) (Does : State → State → Type 0) (result : Result A RowsFault) (old new : Transaction S) : Type 0 where
+  pub acts : ActsWithin g Does result old new
+  pub refusal : IfErr result IsRefusal
 
 -- ---- in a transaction of its own
 

@@ -1,43 +1,16 @@
 -- What the statements on the table of a layout give, and what a crash in one leaves: `old` is the state of the connection before the call, `new` after it.
 -- All of it is said where the disk returned what was written.
-use Rattle.std.specs.Prelude.{◌≡◌, ◌⊎◌, ℕ, Bool, List, Result, IfOk, IsTrue, option_to_list}
+use Rattle.std.specs.Prelude.{◌≡◌, ◌⊎◌, ℕ, Result, IfOk, IsTrue}
 use Rattle.std.specs.declared.vec.Vec.{Vec}
 use Rattle.std.specs.Global.{Global}
-use Rattle.sqlite_value.specs.Order.{Row as Columns}
 use Rattle.sqlite_trees.specs.Tree.{Trees}
 use Rattle.sqlite.specs.State.{State, HasCleanDisk}
-use Rattle.row_table.specs.Tables.{Layout, layout_schema, layout_tree}
-use Rattle.row_table.specs.Rows.{columns_at, Serves, SavesIn, IsListing}
-use Rattle.row_table.specs.Cursor.{ListsFirst}
+use Rattle.row_table.specs.Tables.{Layout}
+use Rattle.row_table.specs.Rows.{Serves, SavesIn}
 use Rattle.row_table.specs.Keeping.{SavesRow}
 use Rattle.protocol.specs.Rows.{Row}
 use Rattle.saved_rows.specs.Saved.{IsListOf}
 use Rattle.row_columns.specs.Columns.{columns_for, saved_in, ComesBack}
-use Rattle.acceptor_store.specs.Sqlite.{Lists}
-
--- ---- the columns of a row
-
--- of a connection that serves, an Ok gives the columns that are saved under this number, if any are
-abbrev pub FindsColumns : {E : Type 0} → Layout → ℕ → Result (Vec Columns Global) E → State → State → Type 0
-FindsColumns layout number result old new =
-    Serves layout old → HasCleanDisk new
-    → IfOk result (λ rows. rows.items ≡ option_to_list (columns_at layout (old.now.trees (layout_tree layout)) number))
-
--- of a connection on such tables, whether it serves or not, an Ok gives the listing of the rows
-abbrev pub GivesListing : {E : Type 0} → Layout → Result (Vec Columns Global) E → State → State → Type 0
-GivesListing layout result old new =
-    HasCleanDisk new → old.now.schema ≡ layout_schema layout → IfOk result (λ rows. IsListing layout (old.now.trees (layout_tree layout)) rows.items)
-
--- or, where the Ok says that these were all of them, the taker took the listing
-abbrev pub HandsListing : {E : Type 0} → Layout → (List Columns → Type 0) → Result Bool E → State → State → Type 0
-HandsListing layout took result old new =
-    HasCleanDisk new → old.now.schema ≡ layout_schema layout → IfOk result (λ all. IsTrue all → Lists layout old.now.trees took)
-
--- of a connection on such tables, or one that was shut, the taker is as it was, or took the first rows of the listing
-abbrev pub HandsFront : {T : Type 0} → Layout → (T → T → List Columns → Type 0) → T → T → State → State → Type 0
-HandsFront layout took before after old new =
-    HasCleanDisk new → (IsTrue old.is_open → old.now.schema ≡ layout_schema layout)
-    → (after ≡ before) ⊎ ((rows : List Columns) × ListsFirst layout old rows × took before after rows)
 
 -- ---- a row, of a connection that serves
 

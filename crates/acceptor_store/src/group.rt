@@ -2,19 +2,17 @@
 
 ghost use Rattle.std.specs.Prelude.{◌≡◌, ◌≤◌, false, IfErr};
 ghost use Rattle.sqlite_trees.specs.View.{doubt};
-ghost use Rattle.sqlite.specs.State.{Survives};
 ghost use Rattle.sqlite.specs.Held.{state};
-ghost use Rattle.row_table.specs.Tables.{Origin};
-ghost use Rattle.row_table.specs.Tables.Layout.{First, Second};
+ghost use Rattle.row_table.specs.Tables.Layout.{First};
 ghost use Rattle.row_table.specs.Rows.{Serves};
-ghost use Rattle.row_table.specs.Keeping.{CommitsNothing, KeptWhereRefused, RolledBackWhereRefused, StaysInside, WasOpenWhereRefused};
+ghost use Rattle.row_table.specs.Keeping.{KeptWhereRefused, RolledBackWhereRefused, WasOpenWhereRefused};
 ghost use Rattle.protocol.specs.Versions.{One};
 ghost use Rattle.saved_rows.specs.Saved.{HasPromise, RowFits, AreFitting};
 ghost use Rattle.row_groups.specs.Groups.{ArePromised};
 ghost use Rattle.row_columns.specs.Columns.{version_in};
 ghost use Rattle.row_columns.specs.Layouts.{layout_of};
 ghost use Rattle.acceptor_store.specs.Sqlite.{IsRefusal};
-ghost use Rattle.acceptor_store.specs.Grouping.{CommitsEach, CrashesWithAllOrNone, CrashesWithEach, SavesEach, StagesBack, StagesEach, WasOpenWhereDone};
+ghost use Rattle.acceptor_store.specs.Grouping.{CommitsEach, CrashesWithAllOrNone, CrashesWithEach, SavesEach, StagesBack, StagesEach, StagesRows, StagesSecond, WasOpenWhereDone};
 
 use crate::statements::fault_of;
 use ballots::{Number, Row};
@@ -33,27 +31,14 @@ fn put_first<S: Alter>(
 ) -> Result<(), RowsFault>
     requires promise { HasPromise row.now }
     requires fits { RowFits One row.now }
-    ensures same_reference { tx.new.conn.ghost_name ≡ tx.old.conn.ghost_name }
-    ensures staged { StagesBack First number row.now result (state S.Store tx.old.conn.now) (state S.Store tx.new.conn.now) }
-    ensures inside { StaysInside result (state S.Store tx.old.conn.now) (state S.Store tx.new.conn.now) }
-    ensures kept { CommitsNothing (state S.Store tx.old.conn.now) (state S.Store tx.new.conn.now) }
-    ensures survives { Survives (state S.Store tx.old.conn.now) (state S.Store tx.new.conn.now) (λ _. ⊥) }
-    ensures refusal { IfErr result IsRefusal }
+    ensures { StagesRows S.Store (StagesBack First number row.now) result tx.old tx.new }
 {
-    let key = number.get();
-    let Ok(columns) = columns_for(alloc, row) else {
+    // Which numbers there are is known once it is read.
+    let _key = number.get();
+    let Ok(columns) = columns_for(alloc, number, row) else {
         return Err(RowsFault::OutOfMemory);
     };
-    let ran = stage_row(
-        tx,
-        key,
-        columns.promised_round,
-        columns.promised_owner,
-        columns.vote_round,
-        columns.vote_owner,
-        columns.frames(),
-    );
-    match ran {
+    match stage_row(tx, &columns) {
         Ok(()) => Ok(()),
         Err(error) => Err(fault_of(&error)),
     }
@@ -67,12 +52,7 @@ fn put_second<S: Alter>(
     row: &Row,
 ) -> Result<(), RowsFault>
     requires promise { HasPromise row.now }
-    ensures same_reference { tx.new.conn.ghost_name ≡ tx.old.conn.ghost_name }
-    ensures staged { (origin : Origin) → StagesBack (Second origin) number row.now result (state S.Store tx.old.conn.now) (state S.Store tx.new.conn.now) }
-    ensures inside { StaysInside result (state S.Store tx.old.conn.now) (state S.Store tx.new.conn.now) }
-    ensures kept { CommitsNothing (state S.Store tx.old.conn.now) (state S.Store tx.new.conn.now) }
-    ensures survives { Survives (state S.Store tx.old.conn.now) (state S.Store tx.new.conn.now) (λ _. ⊥) }
-    ensures refusal { IfErr result IsRefusal }
+    ensures { StagesRows S.Store (StagesSecond number row.now) result tx.old tx.new }
 {
     let Ok(entry) = entry_columns_for(alloc, number, row) else {
         return Err(RowsFault::OutOfMemory);
@@ -88,22 +68,16 @@ fn put_in<S: Alter>(
     alloc: Global,
     tx: &mut Transaction<'_, S>,
     layout: Layout,
-    number: Number,
-    row: &Row,
+    item: &(Number, Row),
 ) -> Result<(), RowsFault>
-    requires promise { HasPromise row.now }
-    requires fits { RowFits (version_in (layout_of layout)) row.now }
-    ensures same_reference { tx.new.conn.ghost_name ≡ tx.old.conn.ghost_name }
-    ensures staged { StagesBack (layout_of layout) number row.now result (state S.Store tx.old.conn.now) (state S.Store tx.new.conn.now) }
-    ensures inside { StaysInside result (state S.Store tx.old.conn.now) (state S.Store tx.new.conn.now) }
-    ensures kept { CommitsNothing (state S.Store tx.old.conn.now) (state S.Store tx.new.conn.now) }
-    ensures survives { Survives (state S.Store tx.old.conn.now) (state S.Store tx.new.conn.now) (λ _. ⊥) }
-    ensures refusal { IfErr result IsRefusal }
+    requires promise { HasPromise item.now.1 }
+    requires fits { RowFits (version_in (layout_of layout)) item.now.1 }
+    ensures { StagesRows S.Store (StagesBack (layout_of layout) item.now.0 item.now.1) result tx.old tx.new }
 {
     match layout {
-        Layout::First => put_first(alloc, tx, number, row),
-        Layout::Created => put_second(alloc, tx, number, row),
-        Layout::Upgraded => put_second(alloc, tx, number, row),
+        Layout::First => put_first(alloc, tx, item.0, &item.1),
+        Layout::Created => put_second(alloc, tx, item.0, &item.1),
+        Layout::Upgraded => put_second(alloc, tx, item.0, &item.1),
     }
 }
 
@@ -116,15 +90,10 @@ fn put_each<S: Alter>(
 ) -> Result<(), RowsFault>
     requires promised { ArePromised items.now }
     requires fits { AreFitting (version_in (layout_of layout)) items.now }
-    ensures same_reference { tx.new.conn.ghost_name ≡ tx.old.conn.ghost_name }
-    ensures staged { StagesEach (layout_of layout) items.now result (state S.Store tx.old.conn.now) (state S.Store tx.new.conn.now) }
-    ensures inside { StaysInside result (state S.Store tx.old.conn.now) (state S.Store tx.new.conn.now) }
-    ensures kept { CommitsNothing (state S.Store tx.old.conn.now) (state S.Store tx.new.conn.now) }
-    ensures survives { Survives (state S.Store tx.old.conn.now) (state S.Store tx.new.conn.now) (λ _. ⊥) }
-    ensures refusal { IfErr result IsRefusal }
+    ensures { StagesRows S.Store (StagesEach (layout_of layout) items.now) result tx.old tx.new }
 {
     for item in items {
-        put_in(alloc, tx, layout, item.0, &item.1)?;
+        put_in(alloc, tx, layout, item)?;
     }
     Ok(())
 }

@@ -9,7 +9,6 @@ mod host_file;
 pub mod laws;
 mod make_tables;
 mod opening;
-mod queries;
 mod reading;
 mod row_test;
 mod rows_at_path;

@@ -8,7 +8,7 @@ ghost use Rattle.row_table.specs.Keeping.{RolledBackWhereRefused, WasOpenWhereRe
 ghost use Rattle.row_columns.specs.Layouts.{made_in};
 ghost use Rattle.acceptor_store.specs.Opening.{LastsOnceMade, MakesAllOrNothing, MakesTables, ServesOnceMade};
 
-use row_table::{create_entry_tables, create_tables};
+use row_table::{StationColumns, create_entry_tables, create_tables};
 use saved_rows::Identity;
 use sqlite::{Alter, Connection, Error};
 use tape_frames::Version;
@@ -28,11 +28,13 @@ pub(crate) fn make_tables<S: Alter>(
     ensures crash { MakesAllOrNothing (made_in (version_of version)) identity (state S.Store conn.old) (state S.Store conn.new) }
     ensures clean { doubt (state S.Store conn.old).is_clean ≤ doubt (state S.Store conn.new).is_clean }
 {
-    let circuit = u32::from(identity.circuit);
-    let member = u32::from(identity.member);
-    let members = u32::from(identity.members);
+    let station = StationColumns {
+        circuit: u32::from(identity.circuit),
+        member: u32::from(identity.member),
+        members: u32::from(identity.members),
+    };
     match version {
-        Version::One => create_tables(conn, circuit, member, members),
-        Version::Two => create_entry_tables(conn, circuit, member, members),
+        Version::One => create_tables(conn, &station),
+        Version::Two => create_entry_tables(conn, &station),
     }
 }

@@ -11,11 +11,10 @@ ghost use Rattle.acceptor_store.specs.Opening.{FindsItsRows, FindsRowsSound, Kee
 ghost use Rattle.acceptor_store.specs.Opening.{RefusesForReason, RefusesRowsForReason, RefusesStationForReason, ServesOnceOpened, ServesOnceTested};
 ghost use Rattle.acceptor_store.specs.Opening.{TakesStoredStation, TellsNoStation, TellsStation};
 
-use crate::queries::visit_all;
 use crate::row_test::RowTest;
 use crate::statements::fault_of;
 use row_columns::{Layout, agrees, layout_in, station_in, wanted_station};
-use row_table::get_station;
+use row_table::{get_station, visit_rows};
 use saved_rows::{Identity, RowsFault};
 use sqlite::{Alter, Connection};
 use sqlite_schema::schema::Schema;
@@ -86,7 +85,7 @@ fn test_rows<S: Alter>(conn: &mut Connection<S>, layout: Layout) -> Result<(), R
     ensures clean { doubt (state S.Store conn.old).is_clean ≤ doubt (state S.Store conn.new).is_clean }
 {
     let mut test = RowTest::new(layout);
-    match visit_all(conn, layout, &mut test) {
+    match visit_rows(conn, layout, &mut test) {
         // The test wants every row, so these were all of them.
         Ok(_) => test.verdict(),
         Err(error) => Err(fault_of(&error)),

@@ -12,11 +12,10 @@ ghost use Rattle.row_columns.specs.Columns.{row_in, damage_of, item_in};
 ghost use Rattle.acceptor_store.specs.Sqlite.{IsRefusal};
 ghost use Rattle.acceptor_store.specs.Reading.{BlamesNoRow, HasSeen, ShowsAll, ShowsFront};
 
-use crate::queries::visit_all;
 use crate::statements::fault_of;
 use ballots::{Number, Row};
 use row_columns::{Layout, damage_of, item_in};
-use row_table::{Taker, number_above, rising_is_listed, rows_rise};
+use row_table::{Taker, number_above, rising_is_listed, rows_rise, visit_rows};
 use saved_rows::RowsFault;
 use sqlite::{Alter, Connection};
 use std::alloc::Global;
@@ -155,7 +154,7 @@ pub(crate) fn show_all<S: Alter, V: RowVisitor>(
         last: None,
         fault: None,
     };
-    match visit_all(conn, layout, &mut reader) {
+    match visit_rows(conn, layout, &mut reader) {
         Ok(all) => outcome(reader.fault, all),
         Err(error) => Err(fault_of(&error)),
     }

@@ -17,10 +17,9 @@ ghost use Rattle.acceptor_store.specs.Sqlite.{IsRefusal};
 ghost use Rattle.acceptor_store.specs.Reading.{BlamesNoRow};
 ghost use Rattle.acceptor_store.specs.Statements.{CrashesWithRow, ListsRows, ReadsRow, SavesColumnsOf};
 
-use crate::queries::{find, find_all};
 use ballots::{Number, Row};
 use row_columns::{Layout, columns_for, damage_in, entry_columns_for, items_in, row_in};
-use row_table::{are_rising, put_entry, put_row};
+use row_table::{all_rows, are_rising, get_row, put_entry, put_row};
 use saved_rows::RowsFault;
 use sqlite::{Alter, Connection, Error, ErrorCode};
 use std::alloc::Global;
@@ -54,20 +53,11 @@ fn save_row<S: Alter>(
     // The columns are the row again.
     ensures back { OnOk result (ComesBack First row.now) }
 {
-    let Ok(columns) = columns_for(alloc, row) else {
+    let Ok(columns) = columns_for(alloc, number, row) else {
         return Err(RowsFault::OutOfMemory);
     };
-    let ran = put_row(
-        conn,
-        number.get(),
-        columns.promised_round,
-        columns.promised_owner,
-        columns.vote_round,
-        columns.vote_owner,
-        columns.frames(),
-    );
-    match ran {
-        Ok(()) => Ok(()),
+    match put_row(conn, &columns) {
+        Ok(_) => Ok(()),
         Err(error) => Err(fault_of(&error)),
     }
 }
@@ -94,7 +84,7 @@ fn save_entry<S: Alter>(
         return Err(RowsFault::OutOfMemory);
     };
     match put_entry(conn, &entry) {
-        Ok(()) => Ok(()),
+        Ok(_) => Ok(()),
         Err(error) => Err(fault_of(&error)),
     }
 }
@@ -148,7 +138,7 @@ pub(crate) fn read<S: Alter>(
     // Sound rows are not damaged.
     ensures refusal { BlamesNoRow (layout_of layout) result (state S.Store conn.old) (state S.Store conn.new) }
 {
-    let mut rows = match find(conn, layout, number.get()) {
+    let mut rows = match get_row(conn, layout, number.get()) {
         Ok(rows) => rows,
         Err(error) => return Err(fault_of(&error)),
     };
@@ -182,7 +172,7 @@ pub(crate) fn list<S: Alter>(
     // Sound rows are not damaged.
     ensures refusal { BlamesNoRow (layout_of layout) result (state S.Store conn.old) (state S.Store conn.new) }
 {
-    let rows = match find_all(conn, layout) {
+    let rows = match all_rows(conn, layout) {
         Ok(rows) => rows,
         Err(error) => return Err(fault_of(&error)),
     };

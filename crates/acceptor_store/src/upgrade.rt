@@ -11,10 +11,9 @@ ghost use Rattle.row_columns.specs.Layouts.{layout_of};
 ghost use Rattle.acceptor_store.specs.Sqlite.{Stands, IsRefusal};
 ghost use Rattle.acceptor_store.specs.Upgrading.{CrashesWithMapOf, CrashesWithSameMap, GoesOver, GoesOverWith, KeepsAllWhereRefused, StaysOver};
 
-use crate::queries::find;
 use crate::statements::{fault_of, list};
 use row_columns::{Layout, entries_for};
-use row_table::{EntryColumns, upgrade_tables};
+use row_table::{EntryColumns, get_row, upgrade_tables};
 use saved_rows::RowsFault;
 use sqlite::{Alter, Connection};
 use std::alloc::Global;
@@ -62,7 +61,7 @@ fn test_open<S: Alter>(conn: &mut Connection<S>, layout: Layout) -> Result<(), R
     ensures clean { doubt (state S.Store conn.old).is_clean ≤ doubt (state S.Store conn.new).is_clean }
     ensures refusal { IfErr result IsRefusal }
 {
-    match find(conn, layout, 1) {
+    match get_row(conn, layout, 1) {
         Ok(_) => Ok(()),
         Err(error) => Err(fault_of(&error)),
     }

@@ -1,6 +1,6 @@
-//! Entries as the columns of their table.
+//! Rows as the columns of their tables.
 
-use row_table::EntryColumns;
+use row_table::{EntryColumns, RowColumns};
 use std::alloc::Global;
 
 /// A promise of 1.1 alone.
@@ -28,4 +28,16 @@ pub fn vote(alloc: Global, number: u32) -> Option<EntryColumns> {
         length: Some(3),
         packed: Some(packed),
     })
+}
+
+/// A promise of 1.1 alone, in layout 1.
+pub fn promise_in_layout_one(number: u32) -> RowColumns {
+    RowColumns {
+        number,
+        promised_round: 1,
+        promised_owner: 1,
+        vote_round: None,
+        vote_owner: None,
+        tape: None,
+    }
 }

@@ -3,11 +3,12 @@
 use crate::rows::databases::BOTH;
 use crate::rows::memory::PUT_TWO;
 use crate::rows::sessions::{MADE, Session, are_played};
-use crate::tables::columns::promise;
+use crate::tables::columns::{promise, promise_in_layout_one};
 use acceptor_store::{RowVisitor, SqliteRows};
 use ballots::Number;
 use row_table::{
-    Taker, create_entry_tables, create_tables, put_entry, put_row, visit_entries, visit_rows,
+    Layout, StationColumns, Taker, create_entry_tables, create_tables, put_entry, put_row,
+    visit_rows,
 };
 use sqlite::{Alter, Connection, Row};
 use std::alloc::Global;
@@ -55,53 +56,51 @@ type Taken = (bool, usize, i64);
 /// What is taken of the rows 3 and 12 where so many are wanted at most.
 const TAKEN: &[(usize, Taken)] = &[(1, (false, 1, 3)), (2, (false, 2, 12)), (3, (true, 2, 12))];
 
-/// Which table the rows are in.
-#[derive(Clone, Copy)]
-enum Table {
-    Rows,
-    Entries,
-}
+/// The station whose tables are made.
+const STATION: StationColumns = StationColumns {
+    circuit: 7,
+    member: 2,
+    members: 3,
+};
 
 /// What is taken of the rows of a table where so many are wanted at most.
-fn taken<S: Alter>(conn: &mut Connection<S>, table: Table, most: usize) -> Option<Taken> {
+fn taken<S: Alter>(conn: &mut Connection<S>, layout: Layout, most: usize) -> Option<Taken> {
     let mut count = Count {
         most,
         taken: 0,
         last: 0,
     };
-    let all = match table {
-        Table::Rows => visit_rows(conn, &mut count),
-        Table::Entries => visit_entries(conn, &mut count),
-    };
+    let all = visit_rows(conn, layout, &mut count);
     Some((all.ok()?, count.taken, count.last))
 }
 
 /// Makes the table in an empty database, with promises under 12 and 3.
-fn fill<S: Alter>(conn: &mut Connection<S>, table: Table) -> Option<()> {
+fn fill<S: Alter>(conn: &mut Connection<S>, layout: Layout) -> Option<()> {
     if !conn.is_autocommit() {
         return None;
     }
-    match table {
-        Table::Rows => {
-            create_tables(conn, 7, 2, 3).ok()?;
-            put_row(conn, 12, 1, 1, None, None, None).ok()?;
-            put_row(conn, 3, 1, 1, None, None, None).ok()
+    match layout {
+        Layout::First => {
+            create_tables(conn, &STATION).ok()?;
+            put_row(conn, &promise_in_layout_one(12)).ok()?;
+            put_row(conn, &promise_in_layout_one(3)).ok()?;
         }
-        Table::Entries => {
-            create_entry_tables(conn, 7, 2, 3).ok()?;
+        Layout::Created | Layout::Upgraded => {
+            create_entry_tables(conn, &STATION).ok()?;
             put_entry(conn, &promise(12)).ok()?;
-            put_entry(conn, &promise(3)).ok()
+            put_entry(conn, &promise(3)).ok()?;
         }
     }
+    Some(())
 }
 
 /// Whether the rows of this table of an empty database are taken until it is enough, once they are there.
-fn takes<S: Alter>(conn: &mut Connection<S>, table: Table) -> bool {
-    if fill(conn, table).is_none() {
+fn takes<S: Alter>(conn: &mut Connection<S>, layout: Layout) -> bool {
+    if fill(conn, layout).is_none() {
         return false;
     }
     for (most, wanted) in TAKEN {
-        if taken(conn, table, *most) != Some(*wanted) {
+        if taken(conn, layout, *most) != Some(*wanted) {
             return false;
         }
     }
@@ -109,9 +108,9 @@ fn takes<S: Alter>(conn: &mut Connection<S>, table: Table) -> bool {
 }
 
 /// The same of a new database.
-fn are_taken(alloc: Global, table: Table) -> bool {
+fn are_taken(alloc: Global, layout: Layout) -> bool {
     match Connection::open_in_memory(alloc) {
-        Ok(mut conn) => takes(&mut conn, table),
+        Ok(mut conn) => takes(&mut conn, layout),
         Err(_) => false,
     }
 }
@@ -139,8 +138,8 @@ pub fn are_shown<S: Alter + Drop>(rows: &mut SqliteRows<S>) -> bool {
 
 #[test]
 fn rows_are_taken_until_it_is_enough(rt: HostRuntime) {
-    assert!(rt; are_taken(rt.alloc(), Table::Rows));
-    assert!(rt; are_taken(rt.alloc(), Table::Entries));
+    assert!(rt; are_taken(rt.alloc(), Layout::First));
+    assert!(rt; are_taken(rt.alloc(), Layout::Created));
 }
 
 /// Two rows are saved, and shown, at version 1 and at version 2.

@@ -19,7 +19,7 @@ returns-in-Ok-None-clause-refusal g c serves clean sound =
     let found = rw c.get.ensures.value at c.in-Ok.ensures.found serves clean in
     let here : columns_at layout ((g.S.Store.view c.args.conn.now.store).trees (layout_tree layout)) c.args.number ≡ Some c.in-Some.columns =
     popped _ c.pop.new.self.items c.in-Some.columns (sym found ∙ c.in-Some.ensures.items) in
-    let was = (c.find.ensures.same serves clean (c.in-Ok.ensures.open serves clean)).was_open in
+    let was = (c.get_row.ensures.serving.same serves clean (c.in-Ok.ensures.serving.opened serves clean)).was_open in
     let none : row_in layout 0 c.in-Some.columns ≡ None = sym c.in-Ok-None.ensures.row ∙ c.in-Ok-None.field-0-is in
     absurd (true≢false (sym (sound was c.args.number c.in-Some.columns here).row ∙ ap is_some none))
 

@@ -8,4 +8,7 @@ use Rattle.acceptor_store.proofs.statements.save_entry.Goals as goal
 pub returns-in-Ok-put_entry-clause-saved : goal.returns-in-Ok-put_entry-clause-saved
 returns-in-Ok-put_entry-clause-saved g c origin serves clean =
     subst₂ (λ (n : ℕ) (columns : Columns). WasSaved (Second origin) n columns (state g.S.Store c.args.conn.now) (state g.S.Store c.put_entry.new.conn)) c.in-Ok.ensures.number (c.in-Ok.ensures.columns origin)
-    (c.in-Ok-put_entry.ensures.saved origin serves clean)
+    ((c.in-Ok-put_entry.ensures origin).saved serves clean)
+
+pub returns-in-Ok-put_entry-clause-serves : goal.returns-in-Ok-put_entry-clause-serves
+returns-in-Ok-put_entry-clause-serves g c origin = (c.put_entry.ensures origin).serves

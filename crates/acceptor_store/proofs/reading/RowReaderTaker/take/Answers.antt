@@ -1,7 +1,7 @@
 use Rattle.std.proofs.Common.{rules, ◌≡◌, ◌⊎◌, ◌++◌, ◌∷◌, [], Option, None, sym, subst}
 use Rattle.std.specs.Prelude.{IsSome}
 use Rattle.sqlite_value.specs.Order.{column}
-use Rattle.row_columns.specs.declared.layout.Layout.{Layout}
+use Rattle.row_table.specs.declared.layout.Layout.{Layout}
 use Rattle.row_columns.specs.Layouts.{layout_of}
 use Rattle.row_columns.specs.Columns.{row_in, damage_of}
 use Rattle.saved_rows.specs.declared.fault.RowsFault.{RowsFault}
