@@ -7,5 +7,5 @@ mod release_files;
 mod texts;
 
 pub use asking::{call_for, is_of_offer};
-pub use release_files::keep_any;
+pub use release_files::keep_files;
 pub use texts::{MAX_TEXT, tape_of_text};

@@ -4,7 +4,7 @@ use Rattle.std.specs.Prelude.{flat_map, OnErr}
 use Rattle.std.proofs.lemmas.Grind.{flat_map-append}
 use Rattle.protocol.specs.Refusals.{Call}
 use Rattle.station.specs.declared.answer.Answer.{Answer}
-use Rattle.folders.specs.Doings.{Doing, wrote_file, Does}
+use Rattle.folders.specs.Doings.{Doing, wrote_file, Does, WritesSome}
 use Rattle.folders.specs.Written.{File}
 use Rattle.folders.proofs.Doings.{does_nothing, does_then}
 use Rattle.saved_rows.specs.declared.rows.Rows.{Ghosts}
@@ -24,12 +24,13 @@ use Rattle.offers.specs.Book.{IsFresh}
 use Rattle.offers.specs.Rules.{Standing}
 use Rattle.run_command.specs.Filing.{filing}
 use Rattle.run_command.specs.Minding.{WasRead, Holds, onto}
-use Rattle.run_command.specs.Living.{Kept, kept, Lived, LivedFront, MayAsk}
+use Rattle.run_command.specs.Living.{Kept, kept, HandsOut, Lived, LivedFront, MayAsk}
 use Rattle.run_command.specs.Running.{Tells, tells}
 use Rattle.run_command.specs.Story.{Happened, stepped, did, event_in, events_of, doing_in, doings_of, file_in, files_of_story, MayBeCalled}
-use Rattle.run_command.specs.Working.{Follows, DealsBy, Deals, WritesAndDeals, Always, Writes, Noted}
+use Rattle.run_command.specs.Working.{Follows, Keeps, Looked, Releases, Writes}
 use Rattle.run_command.specs.Lives.{joined_front}
 use Rattle.run_command.proofs.Story.{onto_then, events_none, doings_all, files_all, files_written, in_order_then, in_order_wrote}
+use Rattle.run_command.proofs.Looking.{Deals, deals_follows, deals_looked, deals_out}
 use Rattle.run_command.proofs.Minds.{holds_first, holds_follows, holds_noted, holds_out, out_released, deals_in_order, holds_deals}
 
 -- what is asked for a file that was read may be asked
@@ -38,35 +39,34 @@ may_be_called t past r now (Offered entry) w =
     record { kind = r.kind; name = _; bytes = w.bytes; named = refl; lay_there = w.lay_there; stands = w.stands }
 may_be_called t past r now Sought w = tt
 
+-- of the files that waited the first were written, and then something was done with files among the offers
+record WritesAndDeals (t : Texts) (old new : Option (List Doing)) (had waits : List File) (was is : Standing) : Type 0 where
+  mid : Option (List Doing)
+  writes : WritesSome old mid had waits
+  deals : Deals t mid new waits was is
+
 module _ {F : Type 0} (t : Texts) (doings : F → Option (List Doing)) where
-  -- no file was read, and no number released
-  pub beside : (f g : F) (q r : List File) (m n : Standing) → g ≡ f → r ≡ q → Follows m n → Lived t doings (kept f q m) (kept g r n) []
-  beside f g q r m n same left fo =
-      subst (λ (h : F). Lived t doings (kept f q m) (kept h r n) []) (sym same)
-      (subst (λ (l : List File). Lived t doings (kept f q m) (kept f l n) []) (sym left) (record {
-        story = [];
-        events = refl;
-        does = does_nothing (doings f) (doings f) refl;
-        whole = append-nil q;
-        ordered = λ past st. tt;
-        stands = λ past st. holds_follows t past q m n fo st;
-      }))
-
   -- something was done with files among the offers
-  pub dealt : {T : Texts → Type 0} (f g : F) (q r : List File) (m n : Standing) → r ≡ q → T t → DealsBy T Always (doings f) (doings g) q m n → Lived t doings (kept f q m) (kept g r n) []
-  dealt f g q r m n left by d =
-      subst (λ (l : List File). Lived t doings (kept f q m) (kept g l n) []) (sym left) (record {
-        story = map did d.doings;
-        events = events_none d.doings;
-        does = subst (λ (l : List Doing). Does (doings f) (doings g) l) (sym (doings_all d.doings)) d.does;
-        whole = append-nil q ∙ ap (λ (l : List File). l ++ q) (sym (files_all d.doings ∙ d.silent));
-        ordered = λ past st. deals_in_order t Always past q (doings f) (doings g) m n d tt st;
-        stands = λ past st. holds_deals t Always past q (doings f) (doings g) m n d by tt st;
-      })
+  pub dealt : (f g : F) (q : List File) (m n : Standing) → Deals t (doings f) (doings g) q m n → Lived t doings (kept f q m) (kept g q n) []
+  dealt f g q m n d = record {
+    story = map did d.doings;
+    events = events_none d.doings;
+    does = subst (λ (l : List Doing). Does (doings f) (doings g) l) (sym (doings_all d.doings)) d.does;
+    whole = append-nil q ∙ ap (λ (l : List File). l ++ q) (sym (files_all d.doings ∙ d.silent));
+    ordered = λ past st. deals_in_order t past q (doings f) (doings g) m n d st;
+    stands = λ past st. holds_deals t past q (doings f) (doings g) m n d st;
+  }
 
-  -- a look: of what waits the first were written, and then something was done with files among the offers
-  pub looked_through : (f g : F) (q r : List File) (m n : Standing) → WritesAndDeals (doings f) (doings g) q r m n → Lived t doings (kept f q m) (kept g r n) []
-  looked_through f g q r m n l =
+  -- no file was read, and no number released
+  pub beside : (f : F) (q : List File) (m n : Standing) → Follows m n → Lived t doings (kept f q m) (kept f q n) []
+  beside f q m n fo = dealt f f q m n (deals_follows t (doings f) (doings f) q m n refl fo)
+
+  -- nothing but looks was done
+  pub looked_on : (f g : F) (q : List File) (m n : Standing) → Looked (doings f) (doings g) m n → Lived t doings (kept f q m) (kept g q n) []
+  looked_on f g q m n l = dealt f g q m n (deals_looked t (doings f) (doings g) q m n l)
+
+  wrote_first : (f g : F) (q r : List File) (m n : Standing) → WritesAndDeals t (doings f) (doings g) q r m n → Lived t doings (kept f q m) (kept g r n) []
+  wrote_first f g q r m n l =
       let fs = l.writes.files in
       let out = map did (map wrote_file fs) in
       let seen = map did l.deals.doings in
@@ -87,49 +87,44 @@ module _ {F : Type 0} (t : Texts) (doings : F → Option (List Doing)) where
         whole = append-nil q ∙ l.writes.rest ∙ ap (λ (x : List File). x ++ r) (sym files);
         ordered = λ past st.
             in_order_then t out seen past (in_order_wrote t fs past (out_released t past (doings f) l.mid q r m l.writes st))
-            (deals_in_order t Always (onto out past) r l.mid (doings g) m n l.deals tt (holds_out t past (doings f) l.mid q r m l.writes st));
+            (deals_in_order t (onto out past) r l.mid (doings g) m n l.deals (holds_out t past (doings f) l.mid q r m l.writes st));
         stands = λ past st.
             subst (λ (x : List Happened). Holds t x r n) (sym (onto_then out seen past))
-            (holds_deals t Always (onto out past) r l.mid (doings g) m n l.deals tt tt (holds_out t past (doings f) l.mid q r m l.writes st));
+            (holds_deals t (onto out past) r l.mid (doings g) m n l.deals (holds_out t past (doings f) l.mid q r m l.writes st));
       }
 
+  -- a look: of what waits the first were written, and then it was looked at the offers
+  pub looked_through : (f g : F) (mid last : Option (List Doing)) (q r : List File) (m n : Standing) → WritesSome (doings f) mid q r → Looked mid last m n → doings g ≡ last
+      → Lived t doings (kept f q m) (kept g r n) []
+  looked_through f g mid last q r m n w l same =
+      wrote_first f g q r m n (record { mid = mid; writes = w; deals = subst (λ (d : Option (List Doing)). Deals t mid d r m n) (sym same) (deals_looked t mid last r m n l) })
+
+  -- what steps released was handed out
+  pub handed_out : (f g : F) (q r : List File) (m n : Standing) → HandsOut doings (kept f q m) (kept g r n) → Lived t doings (kept f q m) (kept g r n) []
+  handed_out f g q r m n h = wrote_first f g q r m n (record { mid = h.mid; writes = h.writes; deals = deals_out t h.mid (doings g) r r m n refl h.none h.settles })
+
   -- a step was noted: nothing was done, and the files of its release wait
-  noted : (a : Answer) (f g : F) (q r : List File) (m n : Standing) → g ≡ f → Noted a.release q r m n → (call : Call) → MayAsk t (kept f q m) call
-      → Lived t doings (kept f q m) (kept g r n) (took call (Ok a) ∷ [])
-  noted a f g q r m n same it call may =
-      subst (λ (h : F). Lived t doings (kept f q m) (kept h r n) (took call (Ok a) ∷ [])) (sym same) (record {
-        story = stepped (took call (Ok a)) ∷ [];
-        events = refl;
-        does = does_nothing (doings f) (doings f) refl;
-        whole = ap (λ (l : List File). q ++ l) (append-nil (files_of a.release)) ∙ sym it.behind;
-        ordered = λ past st. (may past st, tt);
-        stands = λ past st. holds_noted t past call a q r m n it st;
-      })
+  pub noted : (a : Answer) (f : F) (q r : List File) (m n : Standing) → r ≡ q ++ files_of a.release → Keeps (Releases a.release) m n → (call : Call) → MayAsk t (kept f q m) call
+      → Lived t doings (kept f q m) (kept f r n) (took call (Ok a) ∷ [])
+  noted a f q r m n wait keeps call may = record {
+    story = stepped (took call (Ok a)) ∷ [];
+    events = refl;
+    does = does_nothing (doings f) (doings f) refl;
+    whole = ap (λ (l : List File). q ++ l) (append-nil (files_of a.release)) ∙ sym wait;
+    ordered = λ past st. (may past st, tt);
+    stands = λ past st. holds_noted t past call a q r m n wait keeps st;
+  }
 
   -- there was no memory for them
-  unnoted : (a : Answer) (f g : F) (q r : List File) (m n : Standing) → g ≡ f → (call : Call) → MayAsk t (kept f q m) call
-      → LivedFront t doings (kept f q m) (kept g r n) (took call (Ok a) ∷ [])
-  unnoted a f g q r m n same call may =
-      subst (λ (h : F). LivedFront t doings (kept f q m) (kept h r n) (took call (Ok a) ∷ [])) (sym same) (record {
-        story = stepped (took call (Ok a)) ∷ [];
-        events = refl;
-        does = does_nothing (doings f) (doings f) refl;
-        front = (q ++ flat_map filing (took call (Ok a) ∷ []), refl);
-        ordered = λ past st. (may past st, tt);
-      })
-
-  -- the same of whichever call the step may be of, where this holds besides
-  pub noted_whole :
-      {A E : Type 0} (X : Type 0) (a : Answer) (f g : F) (q r : List File) (m n : Standing) (result : Result A E) → X → g ≡ f → OnOk result (Noted a.release q r m n)
-      → OnOk result ((call : Call) → MayAsk t (kept f q m) call → X × Lived t doings (kept f q m) (kept g r n) (took call (Ok a) ∷ []))
-  noted_whole X a f g q r m n (Ok u) besides same it = λ call may. (besides, noted a f g q r m n same it call may)
-  noted_whole X a f g q r m n (Err e) besides same it = tt
-
-  pub noted_front :
-      {A E : Type 0} (X : Type 0) (a : Answer) (f g : F) (q r : List File) (m n : Standing) (result : Result A E) → X → g ≡ f
-      → OnErr result ((call : Call) → MayAsk t (kept f q m) call → X × LivedFront t doings (kept f q m) (kept g r n) (took call (Ok a) ∷ []))
-  noted_front X a f g q r m n (Ok u) besides same = tt
-  noted_front X a f g q r m n (Err e) besides same = λ call may. (besides, unnoted a f g q r m n same call may)
+  pub unnoted : (a : Answer) (f : F) (q r : List File) (m n : Standing) → (call : Call) → MayAsk t (kept f q m) call
+      → LivedFront t doings (kept f q m) (kept f r n) (took call (Ok a) ∷ [])
+  unnoted a f q r m n call may = record {
+    story = stepped (took call (Ok a)) ∷ [];
+    events = refl;
+    does = does_nothing (doings f) (doings f) refl;
+    front = (q ++ flat_map filing (took call (Ok a) ∷ []), refl);
+    ordered = λ past st. (may past st, tt);
+  }
 
   -- from the start on, where nothing waits and nothing is kept in mind
   pub tells_of : (f h : F) (q r : List File) (m n : Standing) (log : List Event) → q ≡ [] → IsFresh m → LivedFront t doings (kept f q m) (kept h r n) log → Tells t doings f h log
@@ -142,14 +137,14 @@ module _ {F : Type 0} (t : Texts) (doings : F → Option (List Doing)) where
   }
 
   -- before it something was done with files among the offers
-  pub tells_behind : (f g h : F) (q r : List File) (m n : Standing) (log : List Event) → q ≡ [] → IsFresh m → Deals Always (doings f) (doings g) q m m
+  pub tells_behind : (f g h : F) (q r : List File) (m n : Standing) (log : List Event) → q ≡ [] → IsFresh m → Looked (doings f) (doings g) m m
       → LivedFront t doings (kept g q m) (kept h r n) log → Tells t doings f h log
   tells_behind f g h q r m n log none fresh d p =
-      tells_of f h q r m n log none fresh (joined_front t doings (kept f q m) (kept g q m) (kept h r n) [] log (dealt f g q q m m refl tt d) p)
+      tells_of f h q r m n log none fresh (joined_front t doings (kept f q m) (kept g q m) (kept h r n) [] log (looked_on f g q m m d) p)
 
   -- the same, where what is kept at the start is that, and the table this one
   pub tells_start : (u : Texts) (f g h : F) (q r : List File) (m n : Standing) (log : List Event) (first : Kept F) → u ≡ t → q ≡ [] → IsFresh m
-      → Deals Always (doings f) (doings g) q m m → first ≡ kept g q m → LivedFront u doings first (kept h r n) log → Tells t doings f h log
+      → Looked (doings f) (doings g) m m → first ≡ kept g q m → LivedFront u doings first (kept h r n) log → Tells t doings f h log
   tells_start u f g h q r m n log first by none fresh d is p =
       tells_behind f g h q r m n log none fresh d
       (subst (λ (v : Texts). LivedFront v doings (kept g q m) (kept h r n) log) by (subst (λ (s : Kept F). LivedFront u doings s (kept h r n) log) is p))

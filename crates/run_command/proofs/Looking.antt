@@ -1,5 +1,5 @@
 -- Looks at the offers, files that leave them, and what follows of it.
-use Rattle.std.proofs.Common.{◌≡◌, ◌+◌, ◌++◌, ◌∙◌, ◌⊎◌, ℕ, zero, suc, drop, true, List, [], ◌∷◌, Option, Some, None, Result, Ok, Err, Vec, Global, inl, inr, refl, sym, ap, subst, append-nil, length, ◌==◌, arith}
+use Rattle.std.proofs.Common.{◌≡◌, ◌+◌, ◌++◌, ◌∙◌, ◌⊎◌, ℕ, Bool, zero, suc, drop, false, true, List, [], ◌∷◌, Option, Some, None, Result, Ok, Err, Vec, Global, inl, inr, refl, sym, ap, subst, append-nil, length, ◌==◌, arith}
 use Rattle.std.specs.Prelude.{flat_map, IfOk, IfSome, IfNone, IsErr, OnOk, OnErr}
 use Rattle.std.proofs.lemmas.Grind.{flat_map-append}
 use Rattle.std.proofs.lemmas.Bool.Decides.{nat_tests}
@@ -35,11 +35,11 @@ use Rattle.plant_files.specs.Standing.{Texts}
 use Rattle.run_command.specs.Departing.{departure_of, task_of, way_to, place_of, IsFree, IsFreeWay, IsFreeTask}
 use Rattle.run_command.specs.Minding.{name_of, WasRead, WereRead, HasRelease, HaveReleases, onto, IsOfRelease, AreLooks, IsLook, AreSettlings, IsSettling}
 use Rattle.run_command.specs.Story.{IsReleasedIn}
-use Rattle.run_command.specs.Working.{Follows, Looks, IfRead, IsTapeOrFault, BecameTape, By, DealsBy, Deals, Always, Keeps, Releases}
+use Rattle.run_command.specs.Working.{Follows, Looks, LooksOnly, Looked, Departs, IsOfKnown, Settles, IfRead, IsTapeOrFault, BecameTape, Keeps, Releases}
 use Rattle.run_command.specs.declared.departures.Departure.{Departure}
 use Rattle.run_command.specs.declared.departures.LeavingCause.{LeavingCause}
 use Rattle.run_command.specs.declared.departures.LeavingCause.TheVariants.{Released, NoOffer, Answered}
-use Rattle.run_command.proofs.Story.{onto_then, read_here, taken_more, looks_then, settlings_then, silent_looks, settlings_look}
+use Rattle.run_command.proofs.Story.{read_here, taken_more, looks_then, settlings_then, settlings_weaker, silent_looks, silent_settlings, settlings_look}
 use Rattle.run_command.proofs.Wishes.{landed_still, read_now, IfOffer}
 
 -- what a call may have done
@@ -190,40 +190,39 @@ follows_landed m n number l now same = record {
   released = ap (λ (b : Standing). b.released) same;
 }
 
--- what was done with files among the offers
-
-pub deals_follows :
-    {T : Texts → Type 0} (G : List Event → Type 0) (a b : Option (List Doing)) (w : List File) (m n : Standing) → b ≡ a → Follows m n → DealsBy T G a b w m n
-deals_follows G a b w m n same f = record {
-  doings = [];
-  does = does_nothing a b same;
-  silent = refl;
-  settles = λ log g known. tt;
-  none = λ full. tt;
-  taken = λ t by shown h. f.taken t shown h;
-  released = λ log g known number e is. known number e (ap (λ l. entry_in l number) (sym f.released) ∙ is);
-}
+-- what was done with files among the offers, texts being read by this table: nothing was written; files left for those that were sent or
+-- lost only under released numbers, and none did where a file waits to be written; and what is known then was read, or was released
+pub record Deals (t : Texts) (old new : Option (List Doing)) (waits : List File) (was is : Standing) : Type 0 where
+  pub doings : List Doing
+  pub does : Does old new doings
+  pub silent : flat_map writing doings ≡ []
+  pub settles : (log : List Event) → HaveReleases log was → AreSettlings (IsOfRelease log) doings
+  pub none : (waits ≡ [] → ⊥) → AreLooks doings
+  pub taken : (shown : List Doing) → WereRead t shown was.files → WereRead t (onto doings shown) is.files
+  pub released : is.released ≡ was.released
 
 pub deals_look :
-    {T : Texts → Type 0} (G : List Event → Type 0) (a b : Option (List Doing)) (w : List File) (P : List Doing → Type 0) (m n : Standing) (l : Looks a b P)
-    → ((t : Texts) → T t → (shown : List Doing) → WereRead t shown m.files → WereRead t (onto l.doings shown) n.files) → n.released ≡ m.released
-    → DealsBy T G a b w m n
-deals_look G a b w P m n l taken same = record {
+    (t : Texts) (a b : Option (List Doing)) (w : List File) (P : List Doing → Type 0) (m n : Standing) (l : Looks a b P)
+    → ((shown : List Doing) → WereRead t shown m.files → WereRead t (onto l.doings shown) n.files) → n.released ≡ m.released → Deals t a b w m n
+deals_look t a b w P m n l taken same = record {
   doings = l.doings;
   does = l.does;
   silent = silent_looks l.doings l.looks;
-  settles = λ log g known. settlings_look (IsOfRelease log) l.doings l.looks;
+  settles = λ log known. settlings_look (IsOfRelease log) l.doings l.looks;
   none = λ full. l.looks;
   taken = taken;
-  released = λ log g known number e is. known number e (ap (λ l. entry_in l number) (sym same) ∙ is);
+  released = same;
 }
 
 -- a look, and then a change that reads nothing
-pub deals_looked :
-    {T : Texts → Type 0} (G : List Event → Type 0) (a b : Option (List Doing)) (w : List File) (P : List Doing → Type 0) (m n : Standing)
-    → Looks a b P → Follows m n → DealsBy T G a b w m n
-deals_looked G a b w P m n l f =
-    deals_look G a b w P m n l (λ t by shown h. taken_more t l.doings shown n.files (f.taken t shown h)) f.released
+pub deals_looks : (t : Texts) (a b : Option (List Doing)) (w : List File) (P : List Doing → Type 0) (m n : Standing) → Looks a b P → Follows m n → Deals t a b w m n
+deals_looks t a b w P m n l f = deals_look t a b w P m n l (λ shown h. taken_more t l.doings shown n.files (f.taken t shown h)) f.released
+
+pub deals_looked : (t : Texts) (a b : Option (List Doing)) (w : List File) (m n : Standing) → Looked a b m n → Deals t a b w m n
+deals_looked t a b w m n l = deals_looks t a b w (λ doings. Unit {0}) m n l.looks l.follows
+
+pub deals_follows : (t : Texts) (a b : Option (List Doing)) (w : List File) (m n : Standing) → b ≡ a → Follows m n → Deals t a b w m n
+deals_follows t a b w m n same f = deals_looks t a b w (λ doings. Unit {0}) m n (looks_none a b (λ doings. Unit {0}) same tt) f
 
 -- a file was read, and what it asks for is told
 read_of : (t : Texts) (D : Type 0) (doings : List Doing) (r : FileRequest) (wish : Result Wish OfferFault) → IfRead {D = D} (Ok wish) (λ w. WasRead t doings r w) → IfOffer wish (WasRead t doings r)
@@ -235,71 +234,33 @@ read_onto t ds shown r (Ok wish) h = read_here t ds shown r wish h
 read_onto t ds shown r (Err why) h = tt
 
 read_by :
-    (own : Texts) (D : Type 0) (a b : Option (List Doing)) (r : FileRequest) (result : Result (Result Wish OfferFault) D) (wish : Result Wish OfferFault) (m n : Standing) → result ≡ Ok wish
-    → (l : Looks a b (λ doings. IfRead result (λ x. WasRead own doings r x))) → n.files ≡ changed (rank r) (after (news_of wish) 0) m.files
-    → (t : Texts) → own ≡ t → (shown : List Doing) → WereRead t shown m.files → WereRead t (onto l.doings shown) n.files
-read_by own D a b r result wish m n is l files t by shown h =
-    let read : IfRead {D = D} (Ok wish) (λ x. WasRead own l.doings r x) = subst (λ q. IfRead {D = D} q (λ x. WasRead own l.doings r x)) is l.finds in
-    let here : IfOffer wish (WasRead t (onto l.doings shown) r) =
-    subst (λ (u : Texts). IfOffer wish (WasRead u (onto l.doings shown) r)) by (read_onto own l.doings shown r wish (read_of own D l.doings r wish read)) in
+    (t : Texts) (D : Type 0) (a b : Option (List Doing)) (r : FileRequest) (result : Result (Result Wish OfferFault) D) (wish : Result Wish OfferFault) (m n : Standing) → result ≡ Ok wish
+    → (l : Looks a b (λ doings. IfRead result (λ x. WasRead t doings r x))) → n.files ≡ changed (rank r) (after (news_of wish) 0) m.files
+    → (shown : List Doing) → WereRead t shown m.files → WereRead t (onto l.doings shown) n.files
+read_by t D a b r result wish m n is l files shown h =
+    let read : IfRead {D = D} (Ok wish) (λ x. WasRead t l.doings r x) = subst (λ q. IfRead {D = D} q (λ x. WasRead t l.doings r x)) is l.finds in
+    let here : IfOffer wish (WasRead t (onto l.doings shown) r) = read_onto t l.doings shown r wish (read_of t D l.doings r wish read) in
     subst (λ (x : List Offer). WereRead t (onto l.doings shown) x) (sym files)
     (read_now t (onto l.doings shown) r wish 0 m.files here (taken_more t l.doings shown m.files h))
 
 pub deals_read :
-    (own : Texts) (D : Type 0) (a b : Option (List Doing)) (w : List File) (r : FileRequest) (result : Result (Result Wish OfferFault) D) (wish : Result Wish OfferFault) (m n : Standing) → result ≡ Ok wish
-    → Looks a b (λ doings. IfRead result (λ x. WasRead own doings r x)) → n.files ≡ changed (rank r) (after (news_of wish) 0) m.files → n.released ≡ m.released
-    → DealsBy (By own) Always a b w m n
-deals_read own D a b w r result wish m n is l files released =
-    deals_look Always a b w (λ doings. IfRead result (λ x. WasRead own doings r x)) m n l (read_by own D a b r result wish m n is l files) released
+    (t : Texts) (D : Type 0) (a b : Option (List Doing)) (w : List File) (r : FileRequest) (result : Result (Result Wish OfferFault) D) (wish : Result Wish OfferFault) (m n : Standing) → result ≡ Ok wish
+    → Looks a b (λ doings. IfRead result (λ x. WasRead t doings r x)) → n.files ≡ changed (rank r) (after (news_of wish) 0) m.files → n.released ≡ m.released
+    → Deals t a b w m n
+deals_read t D a b w r result wish m n is l files released =
+    deals_look t a b w (λ doings. IfRead result (λ x. WasRead t doings r x)) m n l (read_by t D a b r result wish m n is l files) released
 
--- one after the other
-pub deals_then :
-    {T : Texts → Type 0} (G : List Event → Type 0) (a b c : Option (List Doing)) (w : List File) (m n o : Standing)
-    → DealsBy T G a b w m n → DealsBy T Always b c w n o → DealsBy T G a c w m o
-deals_then G a b c w m n o d e = record {
-  doings = d.doings ++ e.doings;
-  does = does_then a b c d.doings e.doings d.does e.does;
-  silent = flat_map-append writing d.doings e.doings ∙ ap (λ l. l ++ flat_map writing e.doings) d.silent ∙ e.silent;
-  settles = λ log g known. settlings_then (IsOfRelease log) d.doings e.doings (d.settles log g known) (e.settles log tt (d.released log g known));
-  none = λ full. looks_then d.doings e.doings (d.none full) (e.none full);
-  taken = λ t by shown h.
-      subst (λ (l : List Doing). WereRead t l o.files) (sym (onto_then d.doings e.doings shown)) (e.taken t by (onto d.doings shown) (d.taken t by shown h));
-  released = λ log g known. e.released log tt (d.released log g known);
-}
-
--- the same waits
-pub deals_beside :
-    {T : Texts → Type 0} (G : List Event → Type 0) (a b : Option (List Doing)) (w v : List File) (m n : Standing) → v ≡ w → DealsBy T G a b v m n → DealsBy T G a b w m n
-deals_beside {T} G a b w v m n same d = subst (λ (l : List File). DealsBy T G a b l m n) same d
-
--- where texts may be read by any table, they are by such a one
-pub deals_by : {T : Texts → Type 0} (G : List Event → Type 0) (a b : Option (List Doing)) (w : List File) (m n : Standing) → Deals G a b w m n → DealsBy T G a b w m n
-deals_by G a b w m n d = record {
+-- before it something was chosen
+pub deals_from : (t : Texts) (a b : Option (List Doing)) (w : List File) (m n o : Standing) → Follows m n → Deals t a b w n o → Deals t a b w m o
+deals_from t a b w m n o f d = record {
   doings = d.doings;
   does = d.does;
   silent = d.silent;
-  settles = d.settles;
+  settles = λ log known. d.settles log (λ number e is. known number e (ap (λ l. entry_in l number) (sym f.released) ∙ is));
   none = d.none;
-  taken = λ t by shown h. d.taken t tt shown h;
-  released = d.released;
+  taken = λ shown h. d.taken shown (f.taken t shown h);
+  released = d.released ∙ f.released;
 }
-
--- the same folders and the same book before
-pub deals_from :
-    {T : Texts → Type 0} (G : List Event → Type 0) (a x b : Option (List Doing)) (w v : List File) (m n o : Standing) → x ≡ a → v ≡ w → Follows m n
-    → DealsBy T G x b v n o → DealsBy T G a b w m o
-deals_from {T} G a x b w v m n o same waits f d =
-    let e : DealsBy T G a b v n o = subst (λ (y : Option (List Doing)). DealsBy T G y b v n o) same d in
-    let g : DealsBy T G a b w n o = deals_beside G a b w v n o waits e in
-    record {
-      doings = g.doings;
-      does = g.does;
-      silent = g.silent;
-      settles = λ log given known. g.settles log given (λ number e is. known number e (ap (λ l. entry_in l number) (sym f.released) ∙ is));
-      none = g.none;
-      taken = λ t by shown h. g.taken t by shown (f.taken t shown h);
-      released = λ log given known. g.released log given (λ number e is. known number e (ap (λ l. entry_in l number) (sym f.released) ∙ is));
-    }
 
 -- a file leaves the offers
 
@@ -309,48 +270,102 @@ settling_place P name places.Lost p = p
 settling_place P name places.Refused p = tt
 settling_place P name places.Done p = tt
 
-way_settles :
-    (b : Standing) (waits : List File) (r : FileRequest) (way : LeavingCause) (log : List Event) → IsFreeWay b waits r.number way → HaveReleases log b
-    → IsSettling (IsOfRelease log) (moved_file (name_of r) (place_of way))
-way_settles b waits r (Released to) log free known =
-    let it : HasRelease log r.number = known r.number free.0.0 free.0.1 in
-    settling_place (IsOfRelease log) (name_of r) to (record {
-      release = it.release;
-      kind = r.kind;
-      released = it.released;
-      named = subst (λ (n : ℕ). IsNameOf (name_of r) n r.kind) (sym it.number) refl;
-    })
-way_settles b waits r (NoOffer why) log free known = tt
-way_settles b waits r Answered log free known = tt
+way_settles : (b : Standing) (written : Bool) (r : FileRequest) (way : LeavingCause) → IsFreeWay b written r.number way → IsSettling (IsOfKnown b) (moved_file (name_of r) (place_of way))
+way_settles b written r (Released to) free = settling_place (IsOfKnown b) (name_of r) to (record { number = r.number; kind = r.kind; known = free.0; named = refl })
+way_settles b written r (NoOffer why) free = tt
+way_settles b written r Answered free = tt
 
-way_looks : (b : Standing) (waits : List File) (r : FileRequest) (way : LeavingCause) → IsFreeWay b waits r.number way → (waits ≡ [] → ⊥) → IsLook (moved_file (name_of r) (place_of way))
-way_looks b waits r (Released to) free full = absurd (full free.1)
-way_looks b waits r (NoOffer why) free full = tt
-way_looks b waits r Answered free full = tt
+way_looks : (b : Standing) (r : FileRequest) (way : LeavingCause) → IsFreeWay b false r.number way → IsLook (moved_file (name_of r) (place_of way))
+way_looks b r (Released to) free = let never : false ≡ true = free.1 in absurd cc
+way_looks b r (NoOffer why) free = tt
+way_looks b r Answered free = tt
 
-pub deals_left :
-    (a b : Option (List Doing)) (w : List File) (d : Departure) (m n : Standing) → MayDo a b (moved_file (name_of d.found.request) (place_of d.way))
-    → IsFree m w d → Follows m n → Deals Always a b w m n
-deals_left a b w d m n may free f =
-    let did = did_of a b (moved_file (name_of d.found.request) (place_of d.way)) may in
+-- it may, where all that was released is written
+pub settles_departs : (a b : Option (List Doing)) (written : Bool) (d : Departure) (m n : Standing) → Departs d a b m n → IsFree m written d → Settles a b m n
+settles_departs a b written d m n p free =
+    let did = did_of a b (moved_file (name_of d.found.request) (place_of d.way)) p.departs in
     record {
       doings = did.doings;
       does = did.does;
-      silent = elim did.either [
-        | inl none ↦ ap (λ (l : List Doing). flat_map writing l) none
-        | inr one ↦ ap (λ (l : List Doing). flat_map writing l) one
+      settles = elim did.either [
+        | inl none ↦ subst (λ (l : List Doing). AreSettlings (IsOfKnown m) l) (sym none) tt
+        | inr one ↦ subst (λ (l : List Doing). AreSettlings (IsOfKnown m) l) (sym one) (way_settles m written d.found.request d.way free, tt)
       ];
-      settles = λ log g known. elim did.either [
-        | inl none ↦ subst (λ (l : List Doing). AreSettlings (IsOfRelease log) l) (sym none) tt
-        | inr one ↦ subst (λ (l : List Doing). AreSettlings (IsOfRelease log) l) (sym one) (way_settles m w d.found.request d.way log free known, tt)
-      ];
-      none = λ full. elim did.either [
-        | inl none ↦ subst (λ (l : List Doing). AreLooks l) (sym none) tt
-        | inr one ↦ subst (λ (l : List Doing). AreLooks l) (sym one) (way_looks m w d.found.request d.way free full, tt)
-      ];
-      taken = λ t by shown h. taken_more t did.doings shown n.files (f.taken t shown h);
-      released = λ log g known number e is. known number e (ap (λ l. entry_in l number) (sym f.released) ∙ is);
+      follows = p.follows;
     }
+
+-- and else only where it was none, or was answered
+looked_departs : (a b : Option (List Doing)) (d : Departure) (m n : Standing) → Departs d a b m n → IsFree m false d → Looked a b m n
+looked_departs a b d m n p free =
+    record { looks = looks_may a b (moved_file (name_of d.found.request) (place_of d.way)) (way_looks m d.found.request d.way free) p.departs; follows = p.follows }
+
+-- a file of a number whose entry is known is of one that was released
+known_released : (b : Standing) (log : List Event) (name : List ℕ) → HaveReleases log b → IsOfKnown b name → IsOfRelease log name
+known_released b log name all k =
+    let it : HasRelease log k.number = all k.number k.known.0 k.known.1 in
+    record {
+      release = it.release;
+      kind = k.kind;
+      released = it.released;
+      named = subst (λ (n : ℕ). IsNameOf name n k.kind) (sym it.number) k.named;
+    }
+
+-- where nothing waits files leave so
+pub deals_settled : (t : Texts) (a b : Option (List Doing)) (w : List File) (m n : Standing) → w ≡ [] → Settles a b m n → Deals t a b w m n
+deals_settled t a b w m n none d = record {
+  doings = d.doings;
+  does = d.does;
+  silent = silent_settlings (IsOfKnown m) d.doings d.settles;
+  settles = λ log known. settlings_weaker (IsOfKnown m) (IsOfRelease log) d.doings (λ name k. known_released m log name known k) d.settles;
+  none = λ full. absurd (full none);
+  taken = λ shown h. taken_more t d.doings shown n.files (d.follows.taken t shown h);
+  released = d.follows.released;
+}
+
+-- a file leaves the offers where it may
+pub deals_left : (t : Texts) (a b : Option (List Doing)) (w : List File) (written : Bool) (d : Departure) (m n : Standing) → (written ≡ true → w ≡ [])
+    → Departs d a b m n → IsFree m written d → Deals t a b w m n
+deals_left t a b w true d m n empty p free = deals_settled t a b w m n (empty refl) (settles_departs a b true d m n p free)
+deals_left t a b w false d m n empty p free = deals_looked t a b w m n (looked_departs a b d m n p free)
+
+-- a list that has a first is not empty
+not_none : {A : Type 0} (w : List A) (x : A) (xs : List A) → w ≡ x ∷ xs → w ≡ [] → ⊥
+not_none w x xs e none = cc
+
+-- none did where a file waits
+pub deals_out : (t : Texts) (a b : Option (List Doing)) (w v : List File) (m n : Standing) → w ≡ v → ((w ≡ [] → ⊥) → b ≡ a) → Settles a b m n → Deals t a b w m n
+deals_out t a b w [] m n is stay d = deals_settled t a b w m n is d
+deals_out t a b w (x ∷ xs) m n is stay d = deals_follows t a b w m n (stay (not_none w x xs is)) d.follows
+
+-- one file after the other
+pub settles_none : (a b : Option (List Doing)) (m n : Standing) → b ≡ a → Follows m n → Settles a b m n
+settles_none a b m n same f = record { doings = []; does = does_nothing a b same; settles = tt; follows = f }
+
+known_still : (m n : Standing) (name : List ℕ) → n.released ≡ m.released → IsOfKnown n name → IsOfKnown m name
+known_still m n name same k = record { number = k.number; kind = k.kind; known = (k.known.0, ap (λ l. entry_in l k.number) (sym same) ∙ k.known.1); named = k.named }
+
+pub settles_then : (a b c : Option (List Doing)) (m n o : Standing) → Settles a b m n → Settles b c n o → Settles a c m o
+settles_then a b c m n o d e = record {
+  doings = d.doings ++ e.doings;
+  does = does_then a b c d.doings e.doings d.does e.does;
+  settles =
+      settlings_then (IsOfKnown m) d.doings e.doings d.settles
+      (settlings_weaker (IsOfKnown n) (IsOfKnown m) e.doings (λ name k. known_still m n name d.follows.released k) e.settles);
+  follows = follows_then m n o d.follows e.follows;
+}
+
+-- one look after the other
+pub looks_both : (a b c : Option (List Doing)) → LooksOnly a b → LooksOnly b c → LooksOnly a c
+looks_both a b c d e = record {
+  doings = d.doings ++ e.doings;
+  does = does_then a b c d.doings e.doings d.does e.does;
+  looks = looks_then d.doings e.doings d.looks e.looks;
+  finds = tt;
+}
+
+-- nothing was done with files
+pub looked_none : (a b : Option (List Doing)) (m n : Standing) → b ≡ a → Follows m n → Looked a b m n
+looked_none a b m n same f = record { looks = looks_none a b (λ doings. Unit {0}) same tt; follows = f }
 
 -- a file that is not done leaves by its entry, so that is known
 leaves_known : (entry : Option Entry) (looked : ℕ) (s : Stage) (to : Place) → (to ≡ places.Done → ⊥) → Leaves entry looked s to → (e : Entry) × (entry ≡ Some e)
@@ -362,33 +377,33 @@ leaves_known entry looked (stages.Refused reason at pause) to other h = absurd h
 leaves_known entry looked (stages.Answered at pause) to other h = absurd (other h.1)
 leaves_known entry looked stages.Gone to other h = absurd h
 
--- so it may leave where nothing waits
+-- so it may leave where all that was released is written
 way_free :
-    (b c : Standing) (w : List File) (n : ℕ) (s : Stage) (to : Place) → c.released ≡ b.released → w ≡ [] → Leaves (entry_of b n) b.looked s to
-    → IsFreeWay c w n (way_to to)
-way_free b c w n s places.Sent same empty h =
+    (b c : Standing) (written : Bool) (n : ℕ) (s : Stage) (to : Place) → c.released ≡ b.released → written ≡ true → Leaves (entry_of b n) b.looked s to
+    → IsFreeWay c written n (way_to to)
+way_free b c written n s places.Sent same is h =
     let known = leaves_known (entry_of b n) b.looked s places.Sent (λ e. cc) h in
-    ((known.0, ap (λ l. entry_in l n) same ∙ known.1), empty)
-way_free b c w n s places.Lost same empty h =
+    ((known.0, ap (λ l. entry_in l n) same ∙ known.1), is)
+way_free b c written n s places.Lost same is h =
     let known = leaves_known (entry_of b n) b.looked s places.Lost (λ e. cc) h in
-    ((known.0, ap (λ l. entry_in l n) same ∙ known.1), empty)
-way_free b c w n s places.Refused same empty h =
+    ((known.0, ap (λ l. entry_in l n) same ∙ known.1), is)
+way_free b c written n s places.Refused same is h =
     let known = leaves_known (entry_of b n) b.looked s places.Refused (λ e. cc) h in
-    ((known.0, ap (λ l. entry_in l n) same ∙ known.1), empty)
-way_free b c w n s places.Done same empty h = tt
+    ((known.0, ap (λ l. entry_in l n) same ∙ known.1), is)
+way_free b c written n s places.Done same is h = tt
 
--- where files that were released may leave only if nothing waits, what may be done is free
-pub task_free : (b c : Standing) (w : List File) (allowed : Allowed) (d : Deed) → c.released ≡ b.released → (allowed.moves ≡ true → w ≡ []) → MayDoDeed b d → IsInTurn b allowed (Some d) → IfSome (task_of d) (IsFreeTask c w)
-task_free b c w allowed (deeds.Move r found to) same empty may turn = way_free b c w r.number may.1.stage to same (empty turn) may.4.leaves
-task_free b c w allowed (deeds.Ask r) same empty may turn = tt
-task_free b c w allowed (deeds.Read r found replaced) same empty may turn = tt
-task_free b c w allowed (deeds.Refuse r found why) same empty may turn = tt
+-- where files that were released may leave only if all of that is written, what may be done is free
+pub task_free : (b c : Standing) (allowed : Allowed) (d : Deed) → c.released ≡ b.released → MayDoDeed b d → IsInTurn b allowed (Some d) → IfSome (task_of d) (IsFreeTask c allowed.moves)
+task_free b c allowed (deeds.Move r found to) same may turn = way_free b c allowed.moves r.number may.1.stage to same turn may.4.leaves
+task_free b c allowed (deeds.Ask r) same may turn = tt
+task_free b c allowed (deeds.Read r found replaced) same may turn = tt
+task_free b c allowed (deeds.Refuse r found why) same may turn = tt
 
-pub departure_free : (b : Standing) (w : List File) (d : Deed) → w ≡ [] → MayDoDeed b d → IfSome (departure_of d) (IsFree b w)
-departure_free b w (deeds.Move r found to) empty may = way_free b b w r.number may.1.stage to refl empty may.4.leaves
-departure_free b w (deeds.Ask r) empty may = tt
-departure_free b w (deeds.Read r found replaced) empty may = tt
-departure_free b w (deeds.Refuse r found why) empty may = tt
+pub departure_free : (b : Standing) (d : Deed) → MayDoDeed b d → IfSome (departure_of d) (IsFree b true)
+departure_free b (deeds.Move r found to) may = way_free b b true r.number may.1.stage to refl refl may.4.leaves
+departure_free b (deeds.Ask r) may = tt
+departure_free b (deeds.Read r found replaced) may = tt
+departure_free b (deeds.Refuse r found why) may = tt
 
 -- a release is kept in mind
 

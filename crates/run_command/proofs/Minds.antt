@@ -16,7 +16,8 @@ use Rattle.exchange.specs.Events.{Event, took}
 use Rattle.run_command.specs.Filing.{filing}
 use Rattle.run_command.specs.Minding.{IsReadOffer, WereRead, HaveReleases, Holds, onto}
 use Rattle.run_command.specs.Story.{Happened, stepped, did, events_of, doings_of, files_of_story, IsInOrder}
-use Rattle.run_command.specs.Working.{Follows, DealsBy, Noted}
+use Rattle.run_command.specs.Working.{Follows, Keeps, Releases}
+use Rattle.run_command.proofs.Looking.{Deals}
 use Rattle.run_command.proofs.Story.{among_front, among_behind, among_either, events_did, doings_did, files_did, files_wrote, taken_more, releases_more, releases_here, in_order_looks, in_order_settled}
 
 module _ (t : Texts) where
@@ -35,16 +36,16 @@ module _ (t : Texts) where
     ];
   }
 
-  -- a step was noted: the files of its release wait behind the others
+  -- a step was noted: the files of its release wait behind the others, and what it released is kept in mind
   pub holds_noted :
-      (past : List Happened) (call : Call) (a : Answer) (waited waits : List File) (was is : Standing) → Noted a.release waited waits was is
+      (past : List Happened) (call : Call) (a : Answer) (waited waits : List File) (was is : Standing) → waits ≡ waited ++ files_of a.release → Keeps (Releases a.release) was is
       → Holds t past waited was → Holds t (stepped (took call (Ok a)) ∷ past) waits is
-  holds_noted past call a waited waits was is n h =
+  holds_noted past call a waited waits was is wait keeps h =
       let e = took call (Ok a) in
       let behind : Holds t (stepped e ∷ past) (waited ++ files_of a.release) was = holds_event past waited was e h in
-      subst (λ (l : List File). Holds t (stepped e ∷ past) l is) (sym n.behind) (record {
-        taken = n.keeps.taken t (doings_of past) behind.taken;
-        known = n.keeps.released (e ∷ events_of past) (releases_here call a (events_of past) a.release refl) behind.known;
+      subst (λ (l : List File). Holds t (stepped e ∷ past) l is) (sym wait) (record {
+        taken = keeps.taken t (doings_of past) behind.taken;
+        known = keeps.released (e ∷ events_of past) (releases_here call a (events_of past) a.release refl) behind.known;
         filed = behind.filed;
         waiting = behind.waiting;
       })
@@ -123,21 +124,21 @@ module _ (t : Texts) where
   not_empty w x xs e none = cc
 
   deals_by :
-      {T : Texts → Type 0} (Given : List Event → Type 0) (past : List Happened) (waits : List File) (a b : Option (List Doing)) (was is : Standing) (d : DealsBy T Given a b waits was is)
-      (w : List File) → waits ≡ w → Given (events_of past) → Holds t past waits was → IsInOrder t past (map did d.doings)
-  deals_by Given past waits a b was is d (x ∷ xs) e given h = in_order_looks t d.doings past (d.none (λ none. not_empty waits x xs e none))
-  deals_by Given past waits a b was is d [] e given h =
+      (past : List Happened) (waits : List File) (a b : Option (List Doing)) (was is : Standing) (d : Deals t a b waits was is)
+      (w : List File) → waits ≡ w → Holds t past waits was → IsInOrder t past (map did d.doings)
+  deals_by past waits a b was is d (x ∷ xs) e h = in_order_looks t d.doings past (d.none (λ none. not_empty waits x xs e none))
+  deals_by past waits a b was is d [] e h =
       in_order_settled t d.doings past
       (λ f i. elim (h.filed f i) [ inl w ↦ w | inr w ↦ absurd (subst (λ (l : List File). IsAmong l f) e w) ])
-      (d.settles (events_of past) given h.known)
+      (d.settles (events_of past) h.known)
 
   pub deals_in_order :
-      {T : Texts → Type 0} (Given : List Event → Type 0) (past : List Happened) (waits : List File) (a b : Option (List Doing)) (was is : Standing) (d : DealsBy T Given a b waits was is)
-      → Given (events_of past) → Holds t past waits was → IsInOrder t past (map did d.doings)
-  deals_in_order Given past waits a b was is d given h = deals_by Given past waits a b was is d waits refl given h
+      (past : List Happened) (waits : List File) (a b : Option (List Doing)) (was is : Standing) (d : Deals t a b waits was is)
+      → Holds t past waits was → IsInOrder t past (map did d.doings)
+  deals_in_order past waits a b was is d h = deals_by past waits a b was is d waits refl h
 
   pub holds_deals :
-      {T : Texts → Type 0} (Given : List Event → Type 0) (past : List Happened) (waits : List File) (a b : Option (List Doing)) (was is : Standing) (d : DealsBy T Given a b waits was is)
-      → T t → Given (events_of past) → Holds t past waits was → Holds t (onto (map did d.doings) past) waits is
-  holds_deals Given past waits a b was is d by given h =
-      holds_did d.doings past waits was is (d.taken t by (doings_of past) h.taken) (d.released (events_of past) given h.known) h
+      (past : List Happened) (waits : List File) (a b : Option (List Doing)) (was is : Standing) (d : Deals t a b waits was is)
+      → Holds t past waits was → Holds t (onto (map did d.doings) past) waits is
+  holds_deals past waits a b was is d h =
+      holds_did d.doings past waits was is (d.taken (doings_of past) h.taken) (λ n e found. h.known n e (ap (λ l. entry_in l n) (sym d.released) ∙ found)) h

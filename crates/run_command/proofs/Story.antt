@@ -254,3 +254,15 @@ settling_weaker P Q (removed_file name) w p = p
 pub settlings_weaker : (P Q : List ℕ → Type 0) (ds : List Doing) → ((name : List ℕ) → P name → Q name) → AreSettlings P ds → AreSettlings Q ds
 settlings_weaker P Q [] w p = tt
 settlings_weaker P Q (d ∷ ds) w p = (settling_weaker P Q d w p.0, settlings_weaker P Q ds w p.1)
+
+silent_settling : (P : List ℕ → Type 0) (d : Doing) → IsSettling P d → writing d ≡ []
+silent_settling P (saw_file name) p = refl
+silent_settling P (read_file file) p = refl
+silent_settling P (wrote_file file) p = absurd p
+silent_settling P (moved_file name to) p = refl
+silent_settling P (removed_file name) p = refl
+
+-- nor does what is done where numbers are settled
+pub silent_settlings : (P : List ℕ → Type 0) (ds : List Doing) → AreSettlings P ds → flat_map writing ds ≡ []
+silent_settlings P [] p = refl
+silent_settlings P (d ∷ ds) p = ap (λ (l : List File). l ++ flat_map writing ds) (silent_settling P d p.0) ∙ silent_settlings P ds p.1

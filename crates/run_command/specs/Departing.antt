@@ -3,7 +3,6 @@ use Rattle.std.specs.Prelude.{◌≡◌, ◌++◌, ℕ, Bool, true, List, [], Op
 use Rattle.std.specs.Global.{Global}
 use Rattle.command_ends.specs.EntryText.{entry_text}
 use Rattle.command_ends.specs.ReleaseText.{plain_line}
-use Rattle.folders.specs.Written.{File}
 use Rattle.folders.specs.declared.names.FileRequest.{FileRequest}
 use Rattle.folders.specs.declared.leaving.Place.{Place}
 use Rattle.folders.specs.declared.leaving.Place.TheVariants.{Sent, Lost, Refused, Done}
@@ -54,24 +53,24 @@ task_of (deeds.Ask r) = Some (Ask r)
 task_of (deeds.Read r found replaced) = Some (Read (record { request = r; stamp = found }) replaced)
 task_of (deeds.Refuse r found why) = Some (Leave (record { found = record { request = r; stamp = found }; way = NoOffer why }))
 
--- the entry of a number is known, and nothing waits to be written among the releases
-abbrev pub IsKnownAndWritten : Standing → List File → ℕ → Type 0
-IsKnownAndWritten b waits n = ((e : Entry) × (entry_of b n ≡ Some e)) × (waits ≡ [])
+-- the entry of a number is known
+abbrev pub IsKnown : Standing → ℕ → Type 0
+IsKnown b n = (e : Entry) × (entry_of b n ≡ Some e)
 
--- a file of this number leaves the offers for what was released only there
-abbrev pub IsFreeWay : Standing → List File → ℕ → LeavingCause → Type 0
-IsFreeWay b waits n (Released to) = IsKnownAndWritten b waits n
-IsFreeWay b waits n (NoOffer reason) = Unit {0}
-IsFreeWay b waits n Answered = Unit {0}
+-- a file of this number leaves the offers for what was released only where the entry is known, and all that was released is written
+abbrev pub IsFreeWay : Standing → Bool → ℕ → LeavingCause → Type 0
+IsFreeWay b written n (Released to) = IsKnown b n × (written ≡ true)
+IsFreeWay b written n (NoOffer reason) = Unit {0}
+IsFreeWay b written n Answered = Unit {0}
 
-abbrev pub IsFree : Standing → List File → Departure → Type 0
-IsFree b waits d = IsFreeWay b waits d.found.request.number d.way
+abbrev pub IsFree : Standing → Bool → Departure → Type 0
+IsFree b written d = IsFreeWay b written d.found.request.number d.way
 
 -- the same of what is to be done
-abbrev pub IsFreeTask : Standing → List File → Task → Type 0
-IsFreeTask b waits (Leave d) = IsFree b waits d
-IsFreeTask b waits (Read found replaced) = Unit {0}
-IsFreeTask b waits (Ask r) = Unit {0}
+abbrev pub IsFreeTask : Standing → Bool → Task → Type 0
+IsFreeTask b written (Leave d) = IsFree b written d
+IsFreeTask b written (Read found replaced) = Unit {0}
+IsFreeTask b written (Ask r) = Unit {0}
 
 -- what befell the number of a file that has left the offers
 abbrev pub event_by : ℕ → LeavingCause → Option LogEvent

@@ -1,7 +1,7 @@
 -- What a plant lives through while its station takes steps.
-use Rattle.std.specs.Prelude.{◌≡◌, ◌++◌, List, flat_map, Option}
+use Rattle.std.specs.Prelude.{◌≡◌, ◌++◌, List, [], flat_map, Option}
 use Rattle.protocol.specs.Refusals.{Call}
-use Rattle.folders.specs.Doings.{Doing, Does}
+use Rattle.folders.specs.Doings.{Doing, Does, WritesSome}
 use Rattle.folders.specs.Written.{File}
 use Rattle.offers.specs.Rules.{Standing}
 use Rattle.exchange.specs.Events.{Event}
@@ -9,9 +9,8 @@ use Rattle.run_command.specs.Filing.{filing}
 use Rattle.run_command.specs.Minding.{Holds, onto}
 use Rattle.run_command.specs.Story.{Happened, events_of, doings_of, MayBeCalled, IsInOrder}
 use Rattle.plant_files.specs.Standing.{Texts}
-use Rattle.run_command.specs.Working.{Writes}
+use Rattle.run_command.specs.Working.{Writes, Settles}
 use Rattle.run_command.specs.declared.desk.PlantDesk.{PlantDesk}
-use Rattle.run_command.specs.declared.plant.Plant.{Plant}
 
 -- the folders of a plant, the files that wait to be written among the releases, and what is kept in mind
 pub record Kept (F : Type 0) : Type 0 where
@@ -24,8 +23,8 @@ abbrev pub kept : {F : Type 0} → F → List File → Standing → Kept F
 kept folders waits book = record { folders = folders; waits = waits; book = book }
 
 -- of a plant, as it is now
-abbrev pub kept_of : {F : Type 0} → Plant F → Kept F
-kept_of p = kept p.folders.now p.papers.now.waits.items p.papers.now.book
+abbrev pub kept_of : {F S : Type 0} → PlantDesk F S → Kept F
+kept_of desk = kept desk.folders.now desk.plant.now.waits.items desk.plant.now.papers.book
 
 -- what a plant did while exactly these events happened: there is a story of them in which this was done with the folders, and nothing else;
 -- of what waited and of the files of what was released the first were written, and the rest waits; and behind whatever happened before of
@@ -52,15 +51,22 @@ MayAsk texts old call = (past : List Happened) → Holds texts past old.waits ol
 
 -- the table by which texts are read at a desk
 abbrev pub texts_of : {F S : Type 0} → PlantDesk F S → Texts
-texts_of desk = desk.plant.papers.now.texts
+texts_of desk = desk.plant.now.texts
 
 -- it is the desk of a plant that has the folders that it had, and texts are read by the same table
 abbrev pub IsSameDesk : {F S : Type 0} → PlantDesk F S → PlantDesk F S → Type 0
-IsSameDesk old new = (new.plant.folders.ghost_name ≡ old.plant.folders.ghost_name) × (texts_of new ≡ texts_of old)
+IsSameDesk old new = (new.folders.ghost_name ≡ old.folders.ghost_name) × (texts_of new ≡ texts_of old)
 
 -- the same, and its plant lived through these events; it came some way with them
 abbrev pub LivedOn : {F S : Type 0} → (F → Option (List Doing)) → PlantDesk F S → PlantDesk F S → List Event → Type 0
-LivedOn doings old new log = IsSameDesk old new × Lived (texts_of old) doings (kept_of old.plant) (kept_of new.plant) log
+LivedOn doings old new log = IsSameDesk old new × Lived (texts_of old) doings (kept_of old) (kept_of new) log
 
 abbrev pub CameOn : {F S : Type 0} → (F → Option (List Doing)) → PlantDesk F S → PlantDesk F S → List Event → Type 0
-CameOn doings old new log = IsSameDesk old new × LivedFront (texts_of old) doings (kept_of old.plant) (kept_of new.plant) log
+CameOn doings old new log = IsSameDesk old new × LivedFront (texts_of old) doings (kept_of old) (kept_of new) log
+
+-- what steps released was handed out: what waited was written, or the first of it; and then files left the offers, where nothing waits
+pub record HandsOut {F : Type 0} (doings : F → Option (List Doing)) (old new : Kept F) : Type 0 where
+  pub mid : Option (List Doing)
+  pub writes : WritesSome (doings old.folders) mid old.waits new.waits
+  pub settles : Settles mid (doings new.folders) old.book new.book
+  pub none : (new.waits ≡ [] → ⊥) → doings new.folders ≡ mid

@@ -1,22 +1,25 @@
 -- What the parts of a run promise one another: what each did with the folders, and what is kept in mind then.
-use Rattle.std.specs.Prelude.{◌≡◌, ◌++◌, ℕ, List, [], flat_map, Option, Some, None, Result, Ok, Err}
+use Rattle.std.specs.Prelude.{◌≡◌, ◌++◌, ℕ, List, [], Option, Some, None, Result, Ok, Err}
 use Rattle.protocol.specs.Lists.{IsAmong}
 use Rattle.code_table.specs.Tables.{Places, mean}
 use Rattle.tape_frames.specs.Frames.{most_frames}
 use Rattle.text_tape.specs.Punching.{IsPunched, IsError}
 use Rattle.station.specs.declared.answer.Release.{Release}
-use Rattle.folders.specs.Doings.{Doing, read_file, Does, writing, WritesSome}
+use Rattle.folders.specs.Doings.{Doing, read_file, moved_file, Does, MayDo}
+use Rattle.folders.specs.Offers.{IsNameOf}
 use Rattle.folders.specs.Written.{File}
+use Rattle.folders.specs.declared.names.OfferKind.{OfferKind}
 use Rattle.folders.specs.declared.names.OfferKind.TheVariants as kinds
 use Rattle.folders.specs.declared.names.FileRequest.{FileRequest}
 use Rattle.folders.specs.declared.wishes.Wish.{Wish}
 use Rattle.offers.specs.Rules.{Standing}
 use Rattle.offers.specs.declared.stage.OfferFault.{OfferFault}
 use Rattle.offers.specs.declared.stage.OfferFault.TheVariants as reasons
-use Rattle.plant_files.specs.Filing.{files_of}
 use Rattle.plant_files.specs.Standing.{Texts, StandsFor, wished, LayThere}
 use Rattle.exchange.specs.Events.{Event}
-use Rattle.run_command.specs.Minding.{WereRead, HaveReleases, onto, IsOfRelease, AreLooks, AreSettlings}
+use Rattle.run_command.specs.Departing.{IsKnown, place_of}
+use Rattle.run_command.specs.Minding.{name_of, WereRead, HaveReleases, AreLooks, AreSettlings}
+use Rattle.run_command.specs.declared.departures.Departure.{Departure}
 use Rattle.run_command.specs.Story.{Happened, files_of_story, IsReleasedIn}
 
 -- no file was read, and no number released
@@ -43,17 +46,14 @@ pub record LaySo (texts : Texts) (doings : List Doing) (r : FileRequest) (name :
   pub lay_there : LayThere doings r.kind name bytes
   pub stands : StandsFor texts r.kind bytes (wished wish)
 
--- texts are read by any table, or by this one
-abbrev pub ByAny : Texts → Type 0
-ByAny texts = Unit {0}
-
-abbrev pub By : Texts → Texts → Type 0
-By own texts = own ≡ texts
+-- a file of this name that holds this was read
+abbrev pub HasRead : List Doing → List ℕ → List ℕ → Type 0
+HasRead doings name bytes = IsAmong doings (read_file (record { name = name; bytes = bytes }))
 
 -- a text of this name lay among the offers, and this holds of it
 pub record TextLay (doings : List Doing) (name : List ℕ) (P : List ℕ → Type 0) : Type 0 where
   pub text : List ℕ
-  pub lay_there : IsAmong doings (read_file (record { name = name; bytes = text }))
+  pub lay_there : HasRead doings name text
   pub holds : P text
 
 -- this is the tape of a text by a table, or its first fault
@@ -75,32 +75,37 @@ BecameTape table doings name (Err d) = Unit {0}
 abbrev pub IsWishOfText : Texts → List Doing → List ℕ → Wish → Type 0
 IsWishOfText texts doings name wish = TextLay doings name (λ text. StandsFor texts kinds.Text text (wished wish))
 
--- what was done with files among the offers, texts being read by such a table, where this is given of the events: nothing was written; files
--- left for those that were sent or lost only under released numbers, and none did where a file waits to be written; and what is known then was
--- read, or was released
-pub record DealsBy (Table : Texts → Type 0) (Given : List Event → Type 0) (old new : Option (List Doing)) (waits : List File) (was is : Standing)
-    : Type 0 where
+-- files were found and read, or left the offers where they are none or were answered; nothing else was done
+abbrev pub LooksOnly : Option (List Doing) → Option (List Doing) → Type 0
+LooksOnly old new = Looks old new (λ doings. Unit {0})
+
+-- a look at the offers, or a part of one: nothing more was done, no file was read that is asked for, and no number released
+pub record Looked (old new : Option (List Doing)) (was is : Standing) : Type 0 where
+  pub looks : LooksOnly old new
+  pub follows : Follows was is
+
+-- this file was moved to where it goes, or not
+abbrev pub MayDepart : Departure → Option (List Doing) → Option (List Doing) → Type 0
+MayDepart d old new = MayDo old new (moved_file (name_of d.found.request) (place_of d.way))
+
+-- the same, and what is kept in mind of it then was not read anew
+pub record Departs (d : Departure) (old new : Option (List Doing)) (was is : Standing) : Type 0 where
+  pub departs : MayDepart d old new
+  pub follows : Follows was is
+
+-- a file of this name is of a number whose entry is known
+pub record IsOfKnown (b : Standing) (name : List ℕ) : Type 0 where
+  pub number : ℕ
+  pub kind : OfferKind
+  pub known : IsKnown b number
+  pub named : IsNameOf name number kind
+
+-- files left the offers, for those that were sent or lost only under numbers whose entry is known; nothing was read, and no number released
+pub record Settles (old new : Option (List Doing)) (was is : Standing) : Type 0 where
   pub doings : List Doing
   pub does : Does old new doings
-  pub silent : flat_map writing doings ≡ []
-  pub settles : (log : List Event) → Given log → HaveReleases log was → AreSettlings (IsOfRelease log) doings
-  pub none : (waits ≡ [] → ⊥) → AreLooks doings
-  pub taken : (texts : Texts) → Table texts → (shown : List Doing) → WereRead texts shown was.files → WereRead texts (onto doings shown) is.files
-  pub released : (log : List Event) → Given log → HaveReleases log was → HaveReleases log is
-
--- the same where no text is read
-abbrev pub Deals : (List Event → Type 0) → Option (List Doing) → Option (List Doing) → List File → Standing → Standing → Type 0
-Deals Given old new waits was is = DealsBy ByAny Given old new waits was is
-
--- nothing need hold of the events
-abbrev pub Always : List Event → Type 0
-Always log = Unit {0}
-
--- of the files that waited the first were written, and then something was done with files among the offers
-pub record WritesAndDeals (old new : Option (List Doing)) (had waits : List File) (was is : Standing) : Type 0 where
-  pub mid : Option (List Doing)
-  pub writes : WritesSome old mid had waits
-  pub deals : Deals Always mid new waits was is
+  pub settles : AreSettlings (IsOfKnown was) doings
+  pub follows : Follows was is
 
 -- what was released, if anything was, was so in these events
 abbrev pub Releases : Option Release → List Event → Type 0
@@ -115,8 +120,3 @@ Writes files story rest = files ≡ files_of_story story ++ rest
 pub record Keeps (Given : List Event → Type 0) (was is : Standing) : Type 0 where
   pub taken : (texts : Texts) (shown : List Doing) → WereRead texts shown was.files → WereRead texts shown is.files
   pub released : (log : List Event) → Given log → HaveReleases log was → HaveReleases log is
-
--- a step that released this, if anything, is kept in mind: the files of its release wait behind the others
-pub record Noted (release : Option Release) (waited waits : List File) (was is : Standing) : Type 0 where
-  pub behind : waits ≡ waited ++ files_of release
-  pub keeps : Keeps (Releases release) was is

@@ -5,16 +5,16 @@ ghost use Rattle.std.specs.Prelude.{◌≡◌, [], IfOk, codes, string_bytes};
 ghost use Rattle.tape_frames.specs.Entries.{lent_entry};
 ghost use Rattle.command_ends.specs.EntryText.{entry_text};
 ghost use Rattle.command_ends.specs.ReleaseText.{plain_line};
-ghost use Rattle.folders.specs.Doings.{moved_file, MayDo};
 ghost use Rattle.run_command.specs.Departing.{IsBeside, IsReason, TellsDeparture, left_event, place_of};
-ghost use Rattle.run_command.specs.Minding.{name_of};
+ghost use Rattle.run_command.specs.Working.{Departs, MayDepart};
 
-use crate::plant::Plant;
+use crate::plant::Papers;
+use crate::status::note_left;
 use command_ends::entry_text;
 use driver::Log;
 use folders::{FolderFault, Folders, Leaving, Place, name_of};
 use offers::{FoundOffer, OfferFault};
-use plant_log::{LogEvent, ReasonText, Told};
+use plant_log::{LogEvent, ReasonText, Told, Trouble};
 use std::alloc::{AllocError, Global};
 use std::io::Write;
 use tape_frames::EntryRef;
@@ -71,24 +71,6 @@ fn answer_text(alloc: Global) -> Result<String, AllocError>
     String::from_str(alloc, "nothing\n")
 }
 
-/// Moves a file, with this text beside it.
-fn set_aside<F: Folders>(
-    alloc: Global,
-    folders: &mut F,
-    departure: &Departure,
-    beside: Option<&str>,
-) -> Result<(), FolderFault>
-    ensures { MayDo (F.doings folders.old) (F.doings folders.new) (moved_file (name_of departure.now.found.request) (place_of departure.now.way)) }
-{
-    let name = name_of(alloc, departure.found.request)?;
-    let leaving = Leaving {
-        name: name.as_str(),
-        stamp: departure.found.stamp,
-        to: place_of(departure.way),
-    };
-    folders.set_aside(alloc, leaving, beside)
-}
-
 /// What befell the number of a file that has left the offers; nothing where it was no offer.
 fn event_of(departure: &Departure) -> Option<LogEvent>
     ensures { result ≡ left_event departure.now }
@@ -103,12 +85,7 @@ fn event_of(departure: &Departure) -> Option<LogEvent>
 }
 
 /// Tells at a moment that a file has left the offers.
-pub(crate) fn tell_departure<E: Write>(
-    told: &mut Told,
-    departure: &Departure,
-    now: u64,
-    log: &mut Log<'_, E>,
-)
+fn tell_departure<E: Write>(told: &mut Told, departure: &Departure, now: u64, log: &mut Log<'_, E>)
     ensures tells { TellsDeparture departure.now now told.old told.new (E.contents log.old.err.now) (E.contents log.new.err.now) }
 {
     match event_of(departure) {
@@ -121,42 +98,74 @@ pub(crate) fn tell_departure<E: Write>(
     }
 }
 
-impl<'f, 'p, F: Folders> Plant<'f, 'p, F> {
+impl Papers {
     /// What is to lie beside a file: nothing where it was sent.
     fn text_beside(&self, departure: &Departure) -> Result<Option<String>, FolderFault>
-        ensures { IfOk result (IsBeside self.now.papers.now.book departure.now) }
+        ensures { IfOk result (IsBeside self.now.book departure.now) }
     {
+        let alloc = self.journal.alloc;
         match departure.way {
             LeavingCause::Released(Place::Lost) => {
                 let number = departure.found.request.number;
-                let Some(entry) = self.papers.book.entry(number) else {
+                let Some(entry) = self.book.entry(number) else {
                     return Err(FolderFault::Missing);
                 };
-                let text = standing_text(self.alloc, number.get(), &entry.lend())?;
+                let text = standing_text(alloc, number.get(), &entry.lend())?;
                 Ok(Some(text))
             }
             LeavingCause::Released(_) => Ok(None),
             LeavingCause::NoOffer(reason) => {
-                let text = reason_text(self.alloc, reason)?;
+                let text = reason_text(alloc, reason)?;
                 Ok(Some(text))
             }
             LeavingCause::Answered => {
-                let text = answer_text(self.alloc)?;
+                let text = answer_text(alloc)?;
                 Ok(Some(text))
             }
         }
     }
 
     /// Moves a file, with the text beside it that is to lie there.
-    pub(crate) fn depart(&mut self, departure: &Departure) -> Result<(), FolderFault>
-        ensures folders { self.new.folders.ghost_name ≡ self.old.folders.ghost_name }
-        ensures waits { self.new.papers.now.waits ≡ self.old.papers.now.waits }
-        ensures texts { self.new.papers.now.texts ≡ self.old.papers.now.texts }
-        ensures book { self.new.papers.now.book ≡ self.old.papers.now.book }
-        ensures departs { MayDo (F.doings self.old.folders.now) (F.doings self.new.folders.now) (moved_file (name_of departure.now.found.request) (place_of departure.now.way)) }
+    fn depart<F: Folders>(&self, folders: &mut F, departure: &Departure) -> Result<(), FolderFault>
+        ensures { MayDepart departure.now (F.doings folders.old) (F.doings folders.new) }
     {
         let text = self.text_beside(departure)?;
+        let name = name_of(self.journal.alloc, departure.found.request)?;
+        let leaving = Leaving {
+            name: name.as_str(),
+            stamp: departure.found.stamp,
+            to: place_of(departure.way),
+        };
         let beside = text.as_ref().map(|text| text.as_str());
-        set_aside(self.alloc, self.folders, departure, beside)
+        folders.set_aside(self.journal.alloc, leaving, beside)
+    }
+
+    /// Lets a file leave the offers. One that can't be moved is put off, which is told.
+    pub(crate) fn leave<F: Folders, E: Write>(
+        &mut self,
+        folders: &mut F,
+        departure: &Departure,
+        now: u64,
+        log: &mut Log<'_, E>,
+    )
+        ensures { Departs departure.now (F.doings folders.old) (F.doings folders.new) self.old.book self.new.book }
+    {
+        let request = &departure.found.request;
+        match self.depart(folders, departure) {
+            Ok(()) => {
+                self.book.moved(*request);
+                self.journal.told.is_done(request);
+                note_left(&mut self.journal.keeper, departure);
+                tell_departure(&mut self.journal.told, departure, now, log);
+            }
+            Err(fault) => {
+                let trouble = Trouble {
+                    request: *request,
+                    fault,
+                };
+                self.journal.told.cannot_move(&trouble, now, log.err);
+                self.book.could_not(*request, now);
+            }
+        }
     }
 }

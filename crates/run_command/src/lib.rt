@@ -6,6 +6,7 @@ mod closing;
 mod deeds;
 mod departures;
 mod desk;
+mod journal;
 mod look;
 mod plant;
 mod reading;

@@ -1,33 +1,30 @@
-//! The plant of a station that stays up: its folders, and what is known of what lies in them.
+//! What is known at a plant of what lies in its folders.
 
-ghost use Rattle.std.specs.Prelude.{◌≡◌, [], IfOk, if◌then◌else◌};
+ghost use Rattle.std.specs.Prelude.{◌≡◌};
 ghost use Rattle.folders.specs.Doings.{WritesSome};
 ghost use Rattle.offers.specs.Book.{IsFresh, still_for};
 ghost use Rattle.looks.specs.Strays.{none_known, still_for as strays_still};
-ghost use Rattle.run_command.specs.Working.{Follows};
+ghost use Rattle.run_command.specs.Minding.{WasRead};
+ghost use Rattle.run_command.specs.Working.{IfRead, Looks};
 
-use crate::status::note_heard;
+use crate::journal::Journal;
+use crate::reading::read;
 use crate::unseen::Unseen;
 use code_table::CodeTable;
-use driver::{Declined, Denied, HeardDatagram, Log, Tasks};
-use folders::{Folders, NamedFile, write_waiting};
+use driver::Log;
+use folders::{FolderFault, Folders, NamedFile, Wish};
 use log_terms::Loudness;
 use looks::{Looking, Strays};
-use offers::{Book, OfferFault};
-use pace::Deeds;
+use offers::{Book, FoundOffer, OfferFault};
 use plant_care::Care;
-use plant_files::is_of_offer;
 use plant_log::Told;
 use plant_status::{Keeper, StationId};
-use station::StepRefusal;
-use std::alloc::{AllocError, Global};
+use std::alloc::Global;
 use std::io::Write;
 
-/// What is known of what lies in the folders of a plant.
+/// What is known of what lies among the offers, and what is told and noted at a plant.
 #[derive(Drop)]
 pub(crate) struct Papers {
-    /// The files that wait to be written among the releases.
-    pub(crate) waits: Vec<NamedFile>,
     /// The files among the offers, and what was released.
     pub(crate) book: Book,
     /// The files among the offers whose names ask for nothing.
@@ -35,19 +32,22 @@ pub(crate) struct Papers {
     /// What is left to be taken in of what the last look found.
     pub(crate) unseen: Option<Unseen>,
     pub(crate) looking: Looking,
-    pub(crate) told: Told,
-    pub(crate) care: Box<Care>,
+    pub(crate) journal: Journal,
+}
+
+/// What a plant has besides its folders.
+#[derive(Drop)]
+pub(crate) struct Plant {
+    /// The files that wait to be written among the releases.
+    pub(crate) waits: Vec<NamedFile>,
     /// By which code table texts among the offers become tapes; by none where no text may be offered.
     pub(crate) texts: Option<CodeTable>,
-    /// What is kept in mind for the status file, where there is one.
-    pub(crate) keeper: Option<Keeper>,
+    pub(crate) papers: Papers,
 }
 
 /// How a plant is run.
 #[derive(Drop)]
 pub(crate) struct Manner {
-    /// By which code table texts among the offers become tapes; by none where no text may be offered.
-    pub(crate) texts: Option<CodeTable>,
     /// Whether files come into the offers only by being renamed.
     pub(crate) renamed: bool,
     /// How much is told.
@@ -61,172 +61,70 @@ fn keeper_of(alloc: Global, status: Option<StationId>) -> Option<Keeper> {
     Keeper::new(alloc, status?).ok()
 }
 
-/// The folders of a plant, and what is known of what lies in them. Moments are in milliseconds.
-#[derive(Drop)]
-pub(crate) struct Plant<'f, 'p, F: Folders> {
-    pub(crate) alloc: Global,
-    pub(crate) folders: &'f mut F,
-    pub(crate) papers: &'p mut Papers,
-}
-
-/// What there is to do with files, where there is something besides what the book knows, or there is not.
-fn deeds_of(deeds: Deeds, has_more: bool) -> Deeds
-    ensures { result ≡ (if has_more then Deeds.Others else deeds) }
-{
-    if has_more { Deeds::Others } else { deeds }
-}
-
 impl Papers {
-    /// Nothing waits, and nothing is known yet of the offers.
+    /// Nothing is known yet of the offers.
     pub(crate) fn new(alloc: Global, manner: Manner, care: Box<Care>) -> Papers
-        ensures waits { result.waits.items ≡ [] }
         ensures book { IsFresh result.book }
         ensures still { result.book.still ≡ still_for manner.renamed }
         ensures strays { result.strays ≡ none_known (strays_still manner.renamed) }
-        ensures loudness { result.told.loudness ≡ manner.loudness }
-        ensures texts { result.texts ≡ manner.texts }
-        ensures care { result.care ≡ care }
+        ensures loudness { result.journal.told.loudness ≡ manner.loudness }
+        ensures care { result.journal.care ≡ care }
     {
         let Manner {
-            texts,
             renamed,
             loudness,
             status,
         } = manner;
+        let journal = Journal {
+            alloc,
+            told: Told::new(alloc, loudness),
+            care,
+            keeper: keeper_of(alloc, status),
+        };
         Papers {
-            waits: Vec::new(alloc),
             book: Book::over(alloc, renamed),
             strays: Strays::over(alloc, renamed),
             unseen: None,
             looking: Looking::new(alloc),
-            told: Told::new(alloc, loudness),
-            care,
-            texts,
-            keeper: keeper_of(alloc, status),
+            journal,
         }
     }
 
-    /// The same, in a place of their own.
-    pub(crate) fn boxed(
-        alloc: Global,
-        manner: Manner,
-        care: Box<Care>,
-    ) -> Result<Box<Papers>, AllocError>
-        ensures waits { IfOk result (λ papers. papers.value.waits.items ≡ []) }
-        ensures book { IfOk result (λ papers. IsFresh papers.value.book) }
-        ensures texts { IfOk result (λ papers. papers.value.texts ≡ manner.texts) }
+    /// Whether there is something to do besides what the book knows: with a file whose name asks for nothing, with a look that goes on or what
+    /// one found that is left to be taken in, or an errand.
+    pub(crate) fn has_more(&mut self) -> bool
+        ensures { self.new ≡ record self.old { strays = self.new.strays } }
     {
-        Ok(Box::new(alloc, Papers::new(alloc, manner, care))?)
+        self.unseen.is_some()
+            || self.strays.find()
+            || self.looking.goes_on()
+            || self.journal.care.has_errand()
     }
 }
 
-impl<'f, 'p, F: Folders> Plant<'f, 'p, F> {
-    /// Notes which numbers went out whose files were written, at a moment. That it can't be noted is told once, and again each hour.
-    fn note_gone<E: Write>(&mut self, now: u64, log: &mut Log<'_, E>)
-        ensures folders { self.new.folders.ghost_name ≡ self.old.folders.ghost_name }
-        ensures texts { self.new.papers.now.texts ≡ self.old.papers.now.texts }
-        ensures book { self.new.papers.now.book ≡ self.old.papers.now.book }
-        ensures waits { self.new.papers.now.waits ≡ self.old.papers.now.waits }
-        ensures does { F.doings self.new.folders.now ≡ F.doings self.old.folders.now }
+impl Plant {
+    /// Writes the files that wait, at a moment, and notes which numbers went out.
+    pub(crate) fn write<F: Folders, E: Write>(
+        &mut self,
+        folders: &mut F,
+        now: u64,
+        log: &mut Log<'_, E>,
+    )
+        ensures writes { WritesSome (F.doings folders.old) (F.doings folders.new) self.old.waits.items self.new.waits.items }
+        ensures rest { self.new ≡ record self.old { waits = self.new.waits; papers = record self.old.papers { journal = self.new.papers.journal } } }
     {
-        self.papers.care.note_gone(self.folders, now, log);
+        let journal = &mut self.papers.journal;
+        journal.write(folders, &mut self.waits, now, log);
     }
 
-    /// Sees to it that the disk has the names of all files that were written, and what went out, at a moment.
-    pub(crate) fn settle_notes<E: Write>(&mut self, now: u64, log: &mut Log<'_, E>)
-        ensures folders { self.new.folders.ghost_name ≡ self.old.folders.ghost_name }
-        ensures texts { self.new.papers.now.texts ≡ self.old.papers.now.texts }
-        ensures book { self.new.papers.now.book ≡ self.old.papers.now.book }
-        ensures waits { self.new.papers.now.waits ≡ self.old.papers.now.waits }
-        ensures does { F.doings self.new.folders.now ≡ F.doings self.old.folders.now }
+    /// What a file, as it was found, asks for, or why it is no offer.
+    pub(crate) fn read<F: Folders>(
+        &self,
+        folders: &mut F,
+        found: &FoundOffer,
+    ) -> Result<Result<Wish, OfferFault>, FolderFault>
+        ensures { Looks (F.doings folders.old) (F.doings folders.new) (λ doings. IfRead result (λ wish. WasRead self.now.texts doings found.now.request wish)) }
     {
-        self.papers.care.settle(self.folders, now, log);
-    }
-
-    /// Writes the files that wait, at a moment. That the folder of releases does not take them is told once, and again each hour.
-    pub(crate) fn write<E: Write>(&mut self, now: u64, log: &mut Log<'_, E>)
-        ensures folders { self.new.folders.ghost_name ≡ self.old.folders.ghost_name }
-        ensures texts { self.new.papers.now.texts ≡ self.old.papers.now.texts }
-        ensures book { self.new.papers.now.book ≡ self.old.papers.now.book }
-        ensures writes { WritesSome (F.doings self.old.folders.now) (F.doings self.new.folders.now) self.old.papers.now.waits.items self.new.papers.now.waits.items }
-    {
-        match write_waiting(self.alloc, self.folders, &mut self.papers.waits) {
-            Ok(()) => {
-                self.papers.told.written();
-                self.note_gone(now, log);
-            }
-            Err(fault) => self.papers.told.cannot_write(fault, now, log.err),
-        }
-    }
-
-    /// What there is to do with files: what the book knows, those whose names ask for nothing, a look that goes on, and what one found that is left to
-    /// be taken in.
-    pub(crate) fn tasks(&mut self) -> Tasks
-        ensures folders { self.new.folders.ghost_name ≡ self.old.folders.ghost_name }
-        ensures same { self.new.folders.now ≡ self.old.folders.now }
-        ensures waits { self.new.papers.now.waits ≡ self.old.papers.now.waits }
-        ensures texts { self.new.papers.now.texts ≡ self.old.papers.now.texts }
-        ensures book { self.new.papers.now.book ≡ self.old.papers.now.book }
-    {
-        let is_all_written = self.papers.waits.is_empty();
-        let deeds = self.papers.book.deeds(is_all_written);
-        let has_more = self.papers.unseen.is_some()
-            || self.papers.strays.find()
-            || self.papers.looking.goes_on()
-            || self.papers.care.has_errand();
-        let under_way = self.papers.book.under_way();
-        Tasks {
-            deeds: deeds_of(deeds, has_more),
-            under_way,
-        }
-    }
-
-    /// A datagram was taken in, at a moment.
-    pub(crate) fn hear<E: Write>(&mut self, heard: &HeardDatagram, now: u64, log: &mut Log<'_, E>)
-        ensures folders { self.new.folders.ghost_name ≡ self.old.folders.ghost_name }
-        ensures same { self.new.folders.now ≡ self.old.folders.now }
-        ensures waits { self.new.papers.now.waits ≡ self.old.papers.now.waits }
-        ensures texts { self.new.papers.now.texts ≡ self.old.papers.now.texts }
-        ensures book { self.new.papers.now.book ≡ self.old.papers.now.book }
-    {
-        if let HeardDatagram::Refused(refusal) = heard {
-            self.papers.told.hear_refusal(*refusal, now, log.err);
-        }
-        note_heard(&mut self.papers.keeper, heard, now);
-        self.papers.care.hear(heard, now, log);
-    }
-
-    /// The station took no search of catching up.
-    pub(crate) fn decline(&mut self, declined: Declined)
-        ensures folders { self.new.folders.ghost_name ≡ self.old.folders.ghost_name }
-        ensures same { self.new.folders.now ≡ self.old.folders.now }
-        ensures waits { self.new.papers.now.waits ≡ self.old.papers.now.waits }
-        ensures texts { self.new.papers.now.texts ≡ self.old.papers.now.texts }
-        ensures book { self.new.papers.now.book ≡ self.old.papers.now.book }
-    {
-        let released = self.released_tape(declined.number);
-        self.papers.care.decline(declined, released);
-    }
-
-    /// What becomes of a file for which the station did not take the step: another of its number is under way, it is no offer, or it waits.
-    pub(crate) fn deny(&mut self, denied: &Denied)
-        ensures folders { self.new.folders.ghost_name ≡ self.old.folders.ghost_name }
-        ensures same { self.new.folders.now ≡ self.old.folders.now }
-        ensures waits { self.new.papers.now.waits ≡ self.old.papers.now.waits }
-        ensures texts { self.new.papers.now.texts ≡ self.old.papers.now.texts }
-        ensures book { Follows self.old.papers.now.book self.new.papers.now.book }
-    {
-        let number = denied.request.number;
-        match denied.refusal {
-            StepRefusal::AlreadyOpen => {
-                self.papers.book.busy(number, denied.moment);
-            }
-            refusal if is_of_offer(refusal) => {
-                self.papers.book.barred(number, OfferFault::Step(refusal));
-            }
-            _ => {
-                self.papers.book.ended(number, denied.moment);
-            }
-        }
+        read(self.papers.journal.alloc, folders, found, &self.texts)
     }
 }

@@ -2,9 +2,9 @@
 
 ghost use Rattle.std.specs.Prelude.{OnOk};
 ghost use Rattle.protocol.specs.Lists.{IsAmong};
-ghost use Rattle.folders.specs.Doings.{read_file, saw_file};
+ghost use Rattle.folders.specs.Doings.{saw_file};
 ghost use Rattle.run_command.specs.Minding.{WasRead};
-ghost use Rattle.run_command.specs.Working.{BecameTape, IfRead, IsTapeOrFault, IsWishOfText, LaySo, Looks};
+ghost use Rattle.run_command.specs.Working.{BecameTape, HasRead, IfRead, IsTapeOrFault, IsWishOfText, LaySo, Looks};
 
 use code_table::CodeTable;
 use folders::{FolderFault, Folders, OfferKind, Wish, name_of};
@@ -27,7 +27,7 @@ fn read_tape<F: Folders>(
     folders: &mut F,
     file: &NamedFound<'_>,
 ) -> Result<Result<Tape, TapeFault>, FolderFault>
-    ensures { Looks (F.doings folders.old) (F.doings folders.new) (λ doings. IfRead result (λ tape. IsAmong doings (read_file (record { name = file.now.name.now; bytes = tape })))) }
+    ensures { Looks (F.doings folders.old) (F.doings folders.new) (λ doings. IfRead result (λ tape. HasRead doings file.now.name.now tape)) }
 {
     let stamp = file.found.stamp;
     match folders.read(alloc, file.name, stamp, MAX_FRAMES)? {

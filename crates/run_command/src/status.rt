@@ -3,10 +3,10 @@
 ghost use Rattle.std.specs.Prelude.{◌≡◌};
 
 use crate::departures::{Departure, LeavingCause};
-use crate::plant::{Papers, Plant};
+use crate::journal::Journal;
 use ballots::{Member, Number};
 use driver::{HeardDatagram, Log, TakenStep};
-use folders::{FileRequest, FolderFault, Folders, OfferKind, Place};
+use folders::{FileRequest, FolderFault, OfferKind, Place};
 use gone_out::Range;
 use node_core::Note;
 use plant_care::{Care, NumberSurvey};
@@ -187,11 +187,12 @@ fn write_due<S: StatusFile>(
     }
 }
 
-impl Papers {
-    /// Writes the status where it is time for that, at a moment. That it can't be written is told once, and again each hour.
-    fn tell_status<S: StatusFile, E: Write>(
+impl Journal {
+    /// Writes the status where it is time for that, at a moment, with so many files that wait to be written. That it can't be written is told
+    /// once, and again each hour.
+    pub(crate) fn tell_status<S: StatusFile, E: Write>(
         &mut self,
-        alloc: Global,
+        unwritten: usize,
         file: &mut S,
         now: u64,
         log: &mut Log<'_, E>,
@@ -201,27 +202,9 @@ impl Papers {
         let Some(keeper) = &mut self.keeper else {
             return;
         };
-        let papers = (&*self.care, self.waits.len());
-        if let Some(fault) = write_due(alloc, keeper, papers, (now, file)) {
-            tell_fault(alloc, "cannot write status", fault, log.err);
+        let papers = (&*self.care, unwritten);
+        if let Some(fault) = write_due(self.alloc, keeper, papers, (now, file)) {
+            tell_fault(self.alloc, "cannot write status", fault, log.err);
         }
-    }
-}
-
-impl<'f, 'p, F: Folders> Plant<'f, 'p, F> {
-    /// The same, of a plant.
-    pub(crate) fn tell_status<S: StatusFile, E: Write>(
-        &mut self,
-        file: &mut S,
-        now: u64,
-        log: &mut Log<'_, E>,
-    )
-        ensures folders { self.new.folders.ghost_name ≡ self.old.folders.ghost_name }
-        ensures same { self.new.folders.now ≡ self.old.folders.now }
-        ensures waits { self.new.papers.now.waits ≡ self.old.papers.now.waits }
-        ensures texts { self.new.papers.now.texts ≡ self.old.papers.now.texts }
-        ensures book { self.new.papers.now.book ≡ self.old.papers.now.book }
-    {
-        self.papers.tell_status(self.alloc, file, now, log);
     }
 }

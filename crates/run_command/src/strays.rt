@@ -5,9 +5,10 @@ ghost use Rattle.folders.specs.Doings.{moved_file, MayDo};
 ghost use Rattle.folders.specs.declared.leaving.Place.TheVariants.{Refused};
 ghost use Rattle.looks.specs.Strays.{ripe_at};
 ghost use Rattle.run_command.specs.Straying.{TellsMoved, TellsStray};
-ghost use Rattle.run_command.specs.Working.{Always, Deals};
+ghost use Rattle.run_command.specs.Working.{Looked};
 
-use crate::plant::{Papers, Plant};
+use crate::asking::ask_for_stray;
+use crate::plant::Papers;
 use crate::status::note_stray;
 use driver::Log;
 use folders::{FolderFault, Folders, Leaving, Place};
@@ -37,14 +38,14 @@ impl Papers {
         now: u64,
         log: &mut Log<'_, E>,
     )
-        ensures { TellsMoved self.now.told.loudness stray.now moved.now now (E.contents log.old.err.now) (E.contents log.new.err.now) }
+        ensures { TellsMoved self.now.journal.told.loudness stray.now moved.now now (E.contents log.old.err.now) (E.contents log.new.err.now) }
     {
         let name = stray.name.as_str();
         match moved {
-            Ok(()) => self.told.refused(name, NO_NUMBER, log.err),
+            Ok(()) => self.journal.told.refused(name, NO_NUMBER, log.err),
             Err(fault) => {
                 if stray.sighting.is_to_be_told(*fault, now) {
-                    self.told.stuck(name, *fault, log.err);
+                    self.journal.told.stuck(name, *fault, log.err);
                 }
             }
         }
@@ -52,45 +53,48 @@ impl Papers {
 
     /// The same of the next such file.
     fn tell_stray<E: Write>(&self, moved: &Result<(), FolderFault>, now: u64, log: &mut Log<'_, E>)
-        ensures { TellsStray self.now.told.loudness (ripe_at self.now.strays) moved.now now (E.contents log.old.err.now) (E.contents log.new.err.now) }
+        ensures { TellsStray self.now.journal.told.loudness (ripe_at self.now.strays) moved.now now (E.contents log.old.err.now) (E.contents log.new.err.now) }
     {
         if let Some(stray) = self.strays.first() {
             self.tell_moved(stray, moved, now, log);
         }
     }
-}
 
-impl<'f, 'p, F: Folders> Plant<'f, 'p, F> {
     /// Moves the next such file to those that are no offers, at a moment. One that can't be moved is put off, which is told.
-    fn refuse_stray<E: Write>(&mut self, now: u64, log: &mut Log<'_, E>)
-        ensures folders { self.new.folders.ghost_name ≡ self.old.folders.ghost_name }
-        ensures waits { self.new.papers.now.waits ≡ self.old.papers.now.waits }
-        ensures texts { self.new.papers.now.texts ≡ self.old.papers.now.texts }
-        ensures deals { Deals Always (F.doings self.old.folders.now) (F.doings self.new.folders.now) self.old.papers.now.waits.items self.old.papers.now.book self.new.papers.now.book }
+    fn refuse_stray<F: Folders, E: Write>(
+        &mut self,
+        folders: &mut F,
+        now: u64,
+        log: &mut Log<'_, E>,
+    )
+        ensures { Looked (F.doings folders.old) (F.doings folders.new) self.old.book self.new.book }
     {
-        let Some(stray) = self.papers.strays.first() else {
+        let Some(stray) = self.strays.first() else {
             return;
         };
-        let moved = set_aside(self.alloc, self.folders, stray);
-        self.papers.tell_stray(&moved, now, log);
+        let moved = set_aside(self.journal.alloc, folders, stray);
+        self.tell_stray(&moved, now, log);
         match moved {
             Ok(()) => {
-                note_stray(&mut self.papers.keeper);
-                self.papers.strays.moved();
+                note_stray(&mut self.journal.keeper);
+                self.strays.moved();
             }
-            Err(fault) => self.papers.strays.could_not(fault, now),
+            Err(fault) => self.strays.could_not(fault, now),
         }
     }
 
     /// Sees to the next such file, at a moment: the range that its name asks for is asked for, if it asks for one, or else it is no offer.
-    pub(crate) fn leave_stray<E: Write>(&mut self, now: u64, log: &mut Log<'_, E>)
-        ensures folders { self.new.folders.ghost_name ≡ self.old.folders.ghost_name }
-        ensures waits { self.new.papers.now.waits ≡ self.old.papers.now.waits }
-        ensures texts { self.new.papers.now.texts ≡ self.old.papers.now.texts }
-        ensures deals { Deals Always (F.doings self.old.folders.now) (F.doings self.new.folders.now) self.old.papers.now.waits.items self.old.papers.now.book self.new.papers.now.book }
+    pub(crate) fn leave_stray<F: Folders, E: Write>(
+        &mut self,
+        folders: &mut F,
+        now: u64,
+        log: &mut Log<'_, E>,
+    )
+        ensures { Looked (F.doings folders.old) (F.doings folders.new) self.old.book self.new.book }
     {
-        if !self.ask_for_stray(now) {
-            self.refuse_stray(now, log);
+        let journal = &mut self.journal;
+        if !ask_for_stray(journal.alloc, &mut self.strays, &mut journal.care, now) {
+            self.refuse_stray(folders, now, log);
         }
     }
 }

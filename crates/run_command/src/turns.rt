@@ -86,7 +86,6 @@ pub fn run_station<R: Settles, N: Wire, F: Folders, E: Write, S: StatusFile + Dr
         is_quiet,
     };
     let manner = Manner {
-        texts: terms.texts,
         renamed: terms.renamed,
         loudness,
         status: terms.status,
@@ -100,20 +99,16 @@ pub fn run_station<R: Settles, N: Wire, F: Folders, E: Write, S: StatusFile + Dr
     let Ok(care) = begin(start, folders, terms.err) else {
         return Fault::OutOfMemory.tell(terms.err);
     };
-    let Ok(mut papers) = Papers::boxed(alloc, manner, care) else {
-        return Fault::OutOfMemory.tell(terms.err);
-    };
     remove_stop(alloc, folders, terms.err);
     let mut file = terms.file;
-    let plant = Plant {
-        alloc,
-        folders,
-        papers: &mut *papers,
+    let waits = Vec::new(alloc);
+    let papers = Papers::new(alloc, manner, care);
+    let mut plant = Plant {
+        waits,
+        texts: terms.texts,
+        papers,
     };
-    let desk = PlantDesk {
-        plant,
-        status: &mut file,
-    };
+    let desk = PlantDesk::new(folders, &mut plant, &mut file);
     let mut driver = Driver::new(station, wire, desk, &mut intake);
     driver.run(alloc, terms.err, is_quiet)
 }

@@ -4,11 +4,12 @@ ghost use Rattle.std.specs.Prelude.{◌≡◌, ◌++◌, IfOk, drop, map};
 ghost use Rattle.run_command.specs.Looking.{passed_over, Sorts};
 ghost use Rattle.run_command.specs.Working.{Follows};
 
-use crate::plant::Plant;
+use crate::plant::Papers;
 use driver::Log;
-use folders::{FolderFault, Folders, PassedOver, Stamp};
-use looks::{EndedLook, MOST_NAMES, Merging, Stray, TakenIn};
-use offers::FoundOffer;
+use folders::{FolderFault, PassedOver, Stamp};
+use looks::{EndedLook, MOST_NAMES, Merging, Stray, Strays, TakenIn};
+use offers::{Book, FoundOffer};
+use plant_log::Told;
 use std::alloc::{AllocError, Global};
 use std::collections::BTreeMap;
 use std::io::Write;
@@ -89,23 +90,17 @@ fn first_of(
     Ok(first)
 }
 
-impl<'f, 'p, F: Folders> Plant<'f, 'p, F> {
+impl Sorted {
     /// Tells some of what a look could not read, at its moment; what is left then. The files are.
     fn tell_unread<E: Write>(
-        &mut self,
-        sorted: Sorted,
+        self,
+        alloc: Global,
+        told: &mut Told,
         looked: u64,
         log: &mut Log<'_, E>,
-    ) -> Result<UnseenPart, AllocError>
-        ensures folders { self.new.folders.ghost_name ≡ self.old.folders.ghost_name }
-        ensures same { self.new.folders.now ≡ self.old.folders.now }
-        ensures waits { self.new.papers.now.waits ≡ self.old.papers.now.waits }
-        ensures texts { self.new.papers.now.texts ≡ self.old.papers.now.texts }
-        ensures book { self.new.papers.now.book ≡ self.old.papers.now.book }
-    {
-        let mut sorted = sorted;
-        let told = &mut self.papers.told;
-        told.passed_over(first_of(self.alloc, &mut sorted.others)?, looked, log.err);
+    ) -> Result<UnseenPart, AllocError> {
+        let mut sorted = self;
+        told.passed_over(first_of(alloc, &mut sorted.others)?, looked, log.err);
         if !sorted.others.is_empty() {
             return Ok(UnseenPart::Unread(sorted));
         }
@@ -115,34 +110,26 @@ impl<'f, 'p, F: Folders> Plant<'f, 'p, F> {
             strays: sorted.strays,
         })
     }
+}
 
-    /// Takes in which files a look found whose names ask for something, in order, at its moment. Where there is no memory for it, what is known
-    /// stays as it was.
-    fn see_requests(&mut self, requests: &[FoundOffer], looked: u64) -> Result<(), AllocError>
-        ensures folders { self.new.folders.ghost_name ≡ self.old.folders.ghost_name }
-        ensures same { self.new.folders.now ≡ self.old.folders.now }
-        ensures waits { self.new.papers.now.waits ≡ self.old.papers.now.waits }
-        ensures texts { self.new.papers.now.texts ≡ self.old.papers.now.texts }
-        ensures book { Follows self.old.papers.now.book self.new.papers.now.book }
-    {
-        self.papers.book.see(requests, looked)?;
-        Ok(())
+/// Takes in which files a look found whose names ask for something, in order, at its moment. Where there is no memory for it, what is known
+/// stays as it was.
+fn see_requests(book: &mut Book, requests: &[FoundOffer], looked: u64) -> Result<(), AllocError>
+    ensures { Follows book.old book.new }
+{
+    book.see(requests, looked)?;
+    Ok(())
+}
+
+/// Goes on to take in the files whose names ask for nothing; what is left then.
+fn merge(strays: &mut Strays, merging: Merging) -> UnseenPart {
+    match strays.go_on(merging) {
+        TakenIn::Partly(merging) => UnseenPart::Merging(merging),
+        TakenIn::Wholly(gone) => UnseenPart::Gone(gone),
     }
+}
 
-    /// Goes on to take in the files whose names ask for nothing; what is left then.
-    fn merge(&mut self, merging: Merging) -> UnseenPart
-        ensures folders { self.new.folders.ghost_name ≡ self.old.folders.ghost_name }
-        ensures same { self.new.folders.now ≡ self.old.folders.now }
-        ensures waits { self.new.papers.now.waits ≡ self.old.papers.now.waits }
-        ensures texts { self.new.papers.now.texts ≡ self.old.papers.now.texts }
-        ensures book { self.new.papers.now.book ≡ self.old.papers.now.book }
-    {
-        match self.papers.strays.go_on(merging) {
-            TakenIn::Partly(merging) => UnseenPart::Merging(merging),
-            TakenIn::Wholly(gone) => UnseenPart::Gone(gone),
-        }
-    }
-
+impl Papers {
     /// Takes in a part of what a look found, at its moment; what is left then. Where there is no memory for it, what is known stays as it was.
     fn see_part<E: Write>(
         &mut self,
@@ -150,56 +137,48 @@ impl<'f, 'p, F: Folders> Plant<'f, 'p, F> {
         looked: u64,
         log: &mut Log<'_, E>,
     ) -> Result<Option<UnseenPart>, AllocError>
-        ensures folders { self.new.folders.ghost_name ≡ self.old.folders.ghost_name }
-        ensures same { self.new.folders.now ≡ self.old.folders.now }
-        ensures waits { self.new.papers.now.waits ≡ self.old.papers.now.waits }
-        ensures texts { self.new.papers.now.texts ≡ self.old.papers.now.texts }
-        ensures book { Follows self.old.papers.now.book self.new.papers.now.book }
+        ensures { Follows self.old.book self.new.book }
     {
         match part {
             UnseenPart::All(seen) => Ok(Some(UnseenPart::Unread(sort(seen)?))),
-            UnseenPart::Unread(sorted) => Ok(Some(self.tell_unread(sorted, looked, log)?)),
+            UnseenPart::Unread(sorted) => {
+                let journal = &mut self.journal;
+                let left = sorted.tell_unread(journal.alloc, &mut journal.told, looked, log)?;
+                Ok(Some(left))
+            }
             UnseenPart::Files { requests, strays } => {
-                self.see_requests(requests.as_slice(), looked)?;
+                see_requests(&mut self.book, requests.as_slice(), looked)?;
                 Ok(Some(UnseenPart::Strays(strays)))
             }
             UnseenPart::Strays(strays) => {
-                let merging = self.papers.strays.begin(strays, looked)?;
-                Ok(Some(self.merge(merging)))
+                let merging = self.strays.begin(strays, looked)?;
+                Ok(Some(merge(&mut self.strays, merging)))
             }
-            UnseenPart::Merging(merging) => Ok(Some(self.merge(merging))),
+            UnseenPart::Merging(merging) => Ok(Some(merge(&mut self.strays, merging))),
             UnseenPart::Gone(_) => Ok(None),
         }
     }
 
     /// Takes in the next part of what the last look found, if one is left, at a moment.
     pub(crate) fn see_next<E: Write>(&mut self, now: u64, log: &mut Log<'_, E>)
-        ensures folders { self.new.folders.ghost_name ≡ self.old.folders.ghost_name }
-        ensures same { self.new.folders.now ≡ self.old.folders.now }
-        ensures waits { self.new.papers.now.waits ≡ self.old.papers.now.waits }
-        ensures texts { self.new.papers.now.texts ≡ self.old.papers.now.texts }
-        ensures book { Follows self.old.papers.now.book self.new.papers.now.book }
+        ensures { Follows self.old.book self.new.book }
     {
-        let Some(Unseen { part, looked }) = self.papers.unseen.take() else {
+        let Some(Unseen { part, looked }) = self.unseen.take() else {
             return;
         };
         match self.see_part(part, looked, log) {
-            Ok(Some(part)) => self.papers.unseen = Some(Unseen { part, looked }),
+            Ok(Some(part)) => self.unseen = Some(Unseen { part, looked }),
             Ok(None) => {}
-            Err(_) => self
-                .papers
-                .told
-                .cannot_list(FolderFault::OutOfMemory, now, log.err),
+            Err(_) => {
+                let told = &mut self.journal.told;
+                told.cannot_list(FolderFault::OutOfMemory, now, log.err);
+            }
         }
     }
 
     /// Takes in all parts of what the last look found, at a moment.
     pub(crate) fn see_all<E: Write>(&mut self, now: u64, log: &mut Log<'_, E>)
-        ensures folders { self.new.folders.ghost_name ≡ self.old.folders.ghost_name }
-        ensures same { self.new.folders.now ≡ self.old.folders.now }
-        ensures waits { self.new.papers.now.waits ≡ self.old.papers.now.waits }
-        ensures texts { self.new.papers.now.texts ≡ self.old.papers.now.texts }
-        ensures book { Follows self.old.papers.now.book self.new.papers.now.book }
+        ensures { Follows self.old.book self.new.book }
     {
         self.see_next(now, log);
         self.see_next(now, log);

@@ -14,7 +14,8 @@ pub returns-in-Some : goal.returns-in-Some
 returns-in-Some g c = λ now past st.
     let request = c.args.request.now in
     let wish = c.in-Some.wish.now in
-    let known : wish_at (file_at c.args.self.now.plant.papers.now.book.files (rank request)) ≡ Some wish = search rules in
+    let files = c.args.self.now.plant.now.papers.book.files in
+    let known : wish_at (file_at files (rank request)) ≡ Some wish = search rules in
     subst (λ (x : Call). MayBeCalled (texts_of c.args.self.now) past x) (sym (c.call_for.ensures now))
     (subst (λ (n : ℕ). MayBeCalled (texts_of c.args.self.now) past (call_of wish n now)) (sym c.get.ensures.value)
-    (may_be_called (texts_of c.args.self.now) past request now wish (wish_read (texts_of c.args.self.now) (doings_of past) c.args.self.now.plant.papers.now.book.files request wish st.taken known)))
+    (may_be_called (texts_of c.args.self.now) past request now wish (wish_read (texts_of c.args.self.now) (doings_of past) files request wish st.taken known)))

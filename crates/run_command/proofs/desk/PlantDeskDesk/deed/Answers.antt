@@ -1,14 +1,20 @@
--- Something was done with files among the offers, or nothing.
-use Rattle.std.proofs.Common.{refl, ap, Vec, Global}
-use Rattle.folders.specs.Written.{File}
-use Rattle.run_command.specs.Living.{texts_of}
-use Rattle.run_command.proofs.Lives.{dealt}
+-- A look went on, or a part of what it found was taken in; or nothing was done with files.
+use Rattle.std.proofs.Common.{refl}
+use Rattle.run_command.proofs.Looking.{follows_same}
+use Rattle.run_command.proofs.Lives.{beside, looked_on}
 use Rattle.run_command.proofs.desk.PlantDeskDesk.deed.Goals as goal
 
-pub returns-clause-lived : goal.returns-clause-lived
-returns-clause-lived g c =
-    let old = c.args.self.now.plant in
-    let new = c.deed.new.self in (
-      (c.deed.ensures.folders, c.deed.ensures.texts),
-      dealt (texts_of c.args.self.now) g.F.Folders.doings old.folders.now new.folders.now old.papers.now.waits.items new.papers.now.waits.items old.papers.now.book new.papers.now.book (ap (λ (v : Vec File Global). v.items) c.deed.ensures.waits) refl c.deed.ensures.deals,
-    )
+pub returns-then-takes_turn-clause-lived : goal.returns-then-takes_turn-clause-lived
+returns-then-takes_turn-clause-lived g c =
+    let it = c.args.self.now in
+    ((refl, refl), looked_on it.plant.now.texts g.F.Folders.doings it.folders.now c.look_at_offers.new.folders it.plant.now.waits.items it.plant.now.papers.book c.look_at_offers.new.self.book c.look_at_offers.ensures)
+
+pub returns-then-is_some-clause-lived : goal.returns-then-is_some-clause-lived
+returns-then-is_some-clause-lived g c =
+    let it = c.args.self.now in
+    ((refl, refl), beside it.plant.now.texts g.F.Folders.doings it.folders.now it.plant.now.waits.items it.plant.now.papers.book c.see_next.new.self.book c.see_next.ensures)
+
+pub returns-in-Some-clause-lived : goal.returns-in-Some-clause-lived
+returns-in-Some-clause-lived g c =
+    let it = c.args.self.now in
+    ((refl, refl), beside it.plant.now.texts g.F.Folders.doings it.folders.now it.plant.now.waits.items it.plant.now.papers.book it.plant.now.papers.book (follows_same it.plant.now.papers.book it.plant.now.papers.book refl))

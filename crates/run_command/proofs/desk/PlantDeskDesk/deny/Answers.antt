@@ -1,15 +1,9 @@
 -- Nothing was done with folders.
-use Rattle.std.proofs.Common.{ap, Vec, Global}
-use Rattle.folders.specs.Written.{File}
-use Rattle.run_command.specs.Living.{texts_of}
+use Rattle.std.proofs.Common.{refl}
 use Rattle.run_command.proofs.Lives.{beside}
 use Rattle.run_command.proofs.desk.PlantDeskDesk.deny.Goals as goal
 
 pub returns : goal.returns
 returns g c =
-    let old = c.args.self.now.plant in
-    let new = c.deny.new.self in (
-      (c.deny.ensures.folders, c.deny.ensures.texts),
-      beside (texts_of c.args.self.now) g.F.Folders.doings old.folders.now new.folders.now old.papers.now.waits.items new.papers.now.waits.items old.papers.now.book new.papers.now.book c.deny.ensures.same
-          (ap (λ (v : Vec File Global). v.items) c.deny.ensures.waits) c.deny.ensures.book,
-    )
+    let it = c.args.self.now in
+    ((refl, refl), beside it.plant.now.texts g.F.Folders.doings it.folders.now it.plant.now.waits.items it.plant.now.papers.book c.deny.new.book c.deny.ensures)

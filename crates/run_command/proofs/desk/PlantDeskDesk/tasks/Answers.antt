@@ -1,16 +1,14 @@
 -- Nothing was done.
-use Rattle.std.proofs.Common.{ap, Vec, Global}
-use Rattle.folders.specs.Written.{File}
+use Rattle.std.proofs.Common.{ap, refl}
+use Rattle.run_command.specs.declared.plant.Papers.{Papers}
 use Rattle.run_command.proofs.Looking.{follows_same}
-use Rattle.run_command.specs.Living.{texts_of}
 use Rattle.run_command.proofs.Lives.{beside}
 use Rattle.run_command.proofs.desk.PlantDeskDesk.tasks.Goals as goal
 
 pub returns : goal.returns
 returns g c =
-    let old = c.args.self.now.plant in
-    let new = c.tasks.new.self in (
-      (c.tasks.ensures.folders, c.tasks.ensures.texts),
-      beside (texts_of c.args.self.now) g.F.Folders.doings old.folders.now new.folders.now old.papers.now.waits.items new.papers.now.waits.items old.papers.now.book new.papers.now.book c.tasks.ensures.same
-          (ap (λ (v : Vec File Global). v.items) c.tasks.ensures.waits) (follows_same old.papers.now.book new.papers.now.book c.tasks.ensures.book),
+    let it = c.args.self.now in
+    let new = c.has_more.new.self in (
+      (refl, refl),
+      beside it.plant.now.texts g.F.Folders.doings it.folders.now it.plant.now.waits.items it.plant.now.papers.book new.book (follows_same it.plant.now.papers.book new.book (ap (λ (p : Papers). p.book) c.has_more.ensures)),
     )

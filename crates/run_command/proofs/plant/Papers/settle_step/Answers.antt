@@ -1,0 +1,13 @@
+-- One file after the other; where nothing was released nothing was done.
+use Rattle.std.proofs.Common.{refl}
+use Rattle.run_command.proofs.Looking.{follows_same, settles_none, settles_then}
+use Rattle.run_command.proofs.plant.Papers.settle_step.Goals as goal
+
+pub returns-in_default : goal.returns-in_default
+returns-in_default g c = settles_none _ _ _ _ refl (follows_same _ _ refl)
+
+pub loop-init : goal.loop-init
+loop-init g c = record { settles = settles_none _ _ _ _ refl (follows_same _ _ refl) }
+
+pub loop-preserved : goal.loop-preserved
+loop-preserved g c = record { settles = settles_then _ _ _ _ _ _ c.loop.invariant.settles c.settle.ensures }

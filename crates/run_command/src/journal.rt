@@ -1,0 +1,141 @@
+//! What is told of a plant, what is noted of what went out, and the writing of its releases.
+
+ghost use Rattle.std.specs.Prelude.{◌≡◌};
+ghost use Rattle.folders.specs.Doings.{WritesSome};
+ghost use Rattle.run_command.specs.Working.{LooksOnly};
+
+use crate::status::note_heard;
+use driver::{HeardDatagram, Log, TakenStep};
+use folders::{FolderFault, Folders, NamedFile, write_waiting};
+use plant_care::Care;
+use plant_log::{LogEvent, Told};
+use plant_status::Keeper;
+use station::Release;
+use std::alloc::Global;
+use std::io::Write;
+
+/// What is kept in mind so that it is told, noted or caught up with. Moments are in milliseconds.
+#[derive(Drop)]
+pub(crate) struct Journal {
+    pub(crate) alloc: Global,
+    pub(crate) told: Told,
+    pub(crate) care: Box<Care>,
+    /// What is kept in mind for the status file, where there is one.
+    pub(crate) keeper: Option<Keeper>,
+}
+
+impl Journal {
+    /// A datagram was taken in, at a moment.
+    pub(crate) fn hear<E: Write>(&mut self, heard: &HeardDatagram, now: u64, log: &mut Log<'_, E>) {
+        if let HeardDatagram::Refused(refusal) = heard {
+            self.told.hear_refusal(*refusal, now, log.err);
+        }
+        note_heard(&mut self.keeper, heard, now);
+        self.care.hear(heard, now, log);
+    }
+
+    /// Writes the files that wait, at a moment, and notes which numbers went out. That the folder of releases does not take them, or that it
+    /// can't be noted, is told once, and again each hour.
+    pub(crate) fn write<F: Folders, E: Write>(
+        &mut self,
+        folders: &mut F,
+        waits: &mut Vec<NamedFile>,
+        now: u64,
+        log: &mut Log<'_, E>,
+    )
+        ensures { WritesSome (F.doings folders.old) (F.doings folders.new) waits.old.items waits.new.items }
+    {
+        match write_waiting(self.alloc, folders, waits) {
+            Ok(()) => {
+                self.told.written();
+                self.care.note_gone(folders, now, log);
+            }
+            Err(fault) => self.told.cannot_write(fault, now, log.err),
+        }
+    }
+
+    /// Tells a release, at a moment.
+    pub(crate) fn tell_release<E: Write>(
+        &mut self,
+        release: &Release,
+        now: u64,
+        log: &mut Log<'_, E>,
+    ) {
+        let number = release.number.get();
+        self.told.tell(LogEvent::Released { number }, now, log.err);
+    }
+
+    /// Tells what these steps released, at a moment.
+    pub(crate) fn tell_releases<E: Write>(
+        &mut self,
+        steps: &[TakenStep],
+        now: u64,
+        log: &mut Log<'_, E>,
+    ) {
+        for step in steps {
+            if let Some(release) = &step.answer.release {
+                self.tell_release(release, now, log);
+            }
+        }
+    }
+
+    /// Tells how the file of a range was moved. It is asked for no longer; one that could not be moved is asked for anew later.
+    fn end_ask<E: Write>(&mut self, moved: &Result<(), FolderFault>, log: &mut Log<'_, E>) {
+        let Some(ask) = self.care.end_ask() else {
+            return;
+        };
+        match moved {
+            Ok(()) => self.care.tell_answers(&ask, log),
+            Err(fault) => {
+                if let Ok(name) = ask.name(self.alloc) {
+                    self.told.stuck(name.as_str(), *fault, log.err);
+                }
+            }
+        }
+    }
+
+    /// A look came to pass: where each number of the range that is asked for has an answer, its file leaves the offers, with what came of
+    /// them beside it.
+    fn answer_asked<F: Folders, E: Write>(&mut self, folders: &mut F, log: &mut Log<'_, E>)
+        ensures { LooksOnly (F.doings folders.old) (F.doings folders.new) }
+    {
+        let Some(ask) = self.care.asked() else {
+            return;
+        };
+        if ask.is_done() {
+            let moved = ask.set_aside(self.alloc, folders);
+            self.end_ask(&moved, log);
+        }
+    }
+
+    /// Sees at a look to what is missing here: what went out is read, where it could not be before; what is told, is told; and the file of a
+    /// range whose numbers have answers leaves the offers.
+    pub(crate) fn look<F: Folders, E: Write>(
+        &mut self,
+        folders: &mut F,
+        now: u64,
+        log: &mut Log<'_, E>,
+    )
+        ensures { LooksOnly (F.doings folders.old) (F.doings folders.new) }
+    {
+        self.care.look(folders, now, log);
+        self.answer_asked(folders, log);
+    }
+
+    /// Whether the file that ends the run lies among the offers, at a moment. Where it does, the disk has all that was written, and what went
+    /// out is noted.
+    pub(crate) fn is_over<F: Folders, E: Write>(
+        &mut self,
+        folders: &mut F,
+        now: u64,
+        log: &mut Log<'_, E>,
+    ) -> bool
+        ensures { F.doings folders.new ≡ F.doings folders.old }
+    {
+        let is_over = folders.has_stop(self.alloc);
+        if is_over {
+            self.care.settle(folders, now, log);
+        }
+        is_over
+    }
+}
