@@ -1,21 +1,23 @@
 -- What `serve` did: what its station was asked and which turns it took, and what was printed of that.
-use Rattle.std.specs.Prelude.{◌≡◌, ◌+◌, ℕ, List, [], ◌∷◌, ◌++◌, flat_map, Option, Some, None, Result, Ok, Err}
+use Rattle.std.specs.Prelude.{◌≡◌, ◌+◌, ℕ, List, [], ◌∷◌, ◌++◌, flat_map, false, Option, Some, None, Result, Ok, Err}
 use Rattle.std.specs.Io.KnownBytes.{Appends}
 use Rattle.streams.specs.Fronts.{AppendsFront}
 use Rattle.protocol.specs.Entries.{Entry, Tape, Void, Taped}
-use Rattle.protocol.specs.Refusals.{Call, Offering, Seeking}
+use Rattle.protocol.specs.Refusals.{Offering, Seeking}
 use Rattle.saved_rows.specs.declared.rows.Rows.{Ghosts}
 use Rattle.tape_frames.specs.Entries.{owned_entry}
 use Rattle.station.specs.declared.answer.Answer.{Answer}
 use Rattle.station.specs.declared.answer.Release.{Release}
 use Rattle.refusals.specs.declared.refusal.StepRefusal.{StepRefusal}
-use Rattle.station.specs.declared.station.Station.{Station}
 use Rattle.station.specs.Readiness.{slugs_of}
 use Rattle.wire.specs.Passing.{Trace}
 use Rattle.command_ends.specs.ReleaseText.{release_text}
 use Rattle.command_ends.specs.declared.end.End.{End}
+use Rattle.command_ends.specs.declared.end.End.TheVariants.{Done}
 use Rattle.exchange.specs.Events.{Event, asked, took, stored, aside}
-use Rattle.driver.specs.Driving.{Fate, known, post, Drove, AtClock, Then, IsTurn}
+use Rattle.driver.specs.Driving.{Fate, Post, known, post, Drove, AtClock, Then, IsTurn}
+use Rattle.serve_command.specs.declared.serve_loop.Machine.{Machine}
+use Rattle.serve_command.specs.declared.serve_loop.ServeTask.{ServeTask}
 
 -- a release is written as its line, and its galley where its tape sets
 abbrev pub release_of : Release → List ℕ
@@ -45,16 +47,17 @@ prints contents = record {
   front = λ old new log. AppendsFront (contents old) (contents new) (flat_map writing log);
 }
 
--- what `serve` did up to this end by events of this form, on a station, its wire and its output as they were and as they are
-abbrev pub ServesBy :
-    {R N W : Type 0} → (List Event → Type 0) → End → Ghosts R → (R → Type 0) → (N → Trace) → (W → Option (List ℕ))
-    → Station R → Station R → N → N → W → W → Type 0
-ServesBy Form end rows is_settled passed contents old new was is before after =
-    Drove (known rows is_settled passed (prints contents)) (post old was before) (post new is after) end Form
+-- the station and the wire of a machine, and the output behind them
+abbrev pub post_of : {R N W : Type 0} → Machine R N → W → Post R N W
+post_of machine out = post machine.station machine.wire out
 
--- whatever a sink is, its station may be called as it is called here
-abbrev pub IsFree : {S : Type 0} → (S → Call → Type 0) → Type 0
-IsFree {S = S} may = (s : S) (call : Call) → may s call
+-- what `serve` did up to this end by events of this form, on a machine and its output as they were and as they are: rows that are kept in the
+-- end were kept before, and a station that has stopped ends otherwise than well
+pub record ServesBy {R N W : Type 0} (Form : List Event → Type 0) (end : End) (rows : Ghosts R) (is_settled : R → Type 0) (passed : N → Trace)
+    (contents : W → Option (List ℕ)) (old new : Machine R N) (before after : W) : Type 0 where
+  pub done : Drove (known rows is_settled passed (prints contents)) (post_of old before) (post_of new after) end Form
+  pub was_kept : rows.kept new.station.rows → rows.kept old.station.rows
+  pub goes_on : end ≡ Done → new.station.stopped ≡ false
 
 -- the entry was taken, and what the station saved of it was stored
 abbrev pub IsOffering : ℕ → Entry → ℕ → List Event → Type 0
@@ -95,5 +98,5 @@ abbrev pub IsAsking : Option (ℕ × Tape) → Option ℕ → Option ℕ → Lis
 IsAsking offer withdraw seek log = Then (IsOffer offer) (IsLaterAsking withdraw seek) log
 
 -- what is asked first, and then so many turns
-abbrev pub IsRun : Option (ℕ × Tape) → Option ℕ → Option ℕ → ℕ → List Event → Type 0
-IsRun offer withdraw seek turns log = Then (IsAsking offer withdraw seek) (AreTurns turns) log
+abbrev pub IsRun : ServeTask → List Event → Type 0
+IsRun task log = Then (IsAsking task.offer task.withdraw task.seek) (AreTurns task.turns) log

@@ -1,9 +1,8 @@
 //! The command `serve`: what a station is asked, and its turns.
 
-ghost use Rattle.std.specs.Prelude.{◌≡◌, false};
+ghost use Rattle.std.specs.Prelude.{◌≡◌, IfOk};
 ghost use Rattle.driver.specs.Driving.{DroveUpTo, IsTurn};
-ghost use Rattle.serve_command.specs.Serving.{ServesBy, IsFree, IsOffer, IsWithdrawal, IsSearch, IsLaterAsking, IsAsking, AreTurns, IsRun};
-ghost use Rattle.command_ends.specs.declared.end.End.TheVariants.{Done};
+ghost use Rattle.serve_command.specs.Serving.{ServesBy, IsOffer, IsWithdrawal, IsSearch, IsLaterAsking, IsAsking, AreTurns, IsRun};
 
 use crate::printer::Printer;
 use command_ends::{End, Fault};
@@ -12,10 +11,34 @@ use exchange::Intake;
 use row_groups::Settles;
 use saved_rows::Rows;
 use station::{Station, StepRefusal};
-use std::alloc::Global;
+use std::alloc::{AllocError, Global};
 use std::io::Write;
 use tape_frames::Tape;
 use wire::Wire;
+
+/// A station on a wire, with the room for what it takes in.
+#[derive(Drop)]
+pub struct Machine<R: Settles, N: Wire + Drop> {
+    alloc: Global,
+    pub station: Station<R>,
+    pub wire: N,
+    intake: Intake,
+}
+
+impl<R: Settles, N: Wire + Drop> Machine<R, N> {
+    /// This station on this wire. The room for what comes is made here.
+    pub fn new(alloc: Global, station: Station<R>, wire: N) -> Result<Machine<R, N>, AllocError>
+        ensures station { IfOk result (λ machine. machine.station ≡ station) }
+        ensures wire { IfOk result (λ machine. machine.wire ≡ wire) }
+    {
+        Ok(Machine {
+            alloc,
+            station,
+            wire,
+            intake: Intake::new(alloc)?,
+        })
+    }
+}
 
 /// One turn of a station at a moment in milliseconds: it takes in one datagram at most, and then sees to what is due.
 ///
@@ -23,37 +46,41 @@ use wire::Wire;
 /// datagram that can't be sent is lost and told, and so are, once a second at most, those of strangers. One of a layout that the station does not read is told
 /// once a minute at most. The turn ends otherwise than by `Done` where the wire fails to receive, the station stops, or the output
 /// can't be written; `err` has the fault.
-pub fn serve_turn<R: Settles, N: Wire, W: Write, E: Write>(
-    alloc: Global,
-    station: &mut Station<R>,
-    wire: &mut N,
+pub fn serve_turn<R: Settles, N: Wire + Drop, W: Write, E: Write>(
+    machine: &mut Machine<R, N>,
     now: u64,
-    intake: &mut Intake,
     out: &mut W,
     err: &mut E,
 ) -> End
-    ensures was_kept { R.kept station.new.rows → R.kept station.old.rows }
-    ensures serves { ServesBy (IsTurn now) result R.Rows R.Settles.is_settled N.passed W.contents station.old station.new wire.old wire.new out.old out.new }
-    ensures goes_on { result ≡ Done → station.new.stopped ≡ false }
+    ensures { ServesBy (IsTurn now) result R.Rows R.Settles.is_settled N.passed W.contents machine.old machine.new out.old out.new }
 {
-    let printer = Printer { alloc, out };
+    let printer = Printer {
+        alloc: machine.alloc,
+        out,
+    };
     let mut log = Log { err, quiet: false };
-    let mut driver = Driver::new(station, wire, printer, intake);
+    let mut driver = Driver::new(
+        &mut machine.station,
+        &mut machine.wire,
+        printer,
+        &mut machine.intake,
+    );
     match driver.turn_at(now, &mut log) {
         Ok(()) => End::Done,
         Err(fault) => fault.tell(log.err),
     }
 }
 
-/// What a station is asked before its turns, as far as it is given.
+/// What a station under `serve` does: what it is asked, as far as it is given, and how many turns it takes then.
 #[derive(Drop)]
-struct FirstAsks {
+pub struct ServeTask {
     /// It is offered this tape for this number.
-    offer: Option<(u32, Tape)>,
+    pub offer: Option<(u32, Tape)>,
     /// It is offered the withdrawal of this number.
-    withdraw: Option<u32>,
+    pub withdraw: Option<u32>,
     /// It seeks what was agreed on for this number.
-    seek: Option<u32>,
+    pub seek: Option<u32>,
+    pub turns: u32,
 }
 
 /// Offers a tape for a number, where there is one to offer.
@@ -62,11 +89,7 @@ fn make_offer<R: Settles, N: Wire, S: Outlet, E: Write>(
     offer: Option<(u32, Tape)>,
     log: &mut Log<'_, E>,
 ) -> Result<(), Fault<'static>>
-    requires free { IsFree S.may }
-    ensures station { driver.new.station.ghost_name ≡ driver.old.station.ghost_name }
-    ensures wire { driver.new.wire.ghost_name ≡ driver.old.wire.ghost_name }
-    ensures was_kept { R.kept driver.new.station.now.rows → R.kept driver.old.station.now.rows }
-    ensures drove { DroveUpTo (IsOffer offer) result R.Rows R.Settles.is_settled N.passed S.Sink driver.old driver.new }
+    ensures { DroveUpTo (IsOffer offer) result R.Rows R.Settles.is_settled N.passed S.Sink driver.old driver.new }
 {
     let Some((number, tape)) = offer else {
         return Ok(());
@@ -84,11 +107,7 @@ fn make_withdrawal<R: Settles, N: Wire, S: Outlet, E: Write>(
     withdraw: Option<u32>,
     log: &mut Log<'_, E>,
 ) -> Result<(), Fault<'static>>
-    requires free { IsFree S.may }
-    ensures station { driver.new.station.ghost_name ≡ driver.old.station.ghost_name }
-    ensures wire { driver.new.wire.ghost_name ≡ driver.old.wire.ghost_name }
-    ensures was_kept { R.kept driver.new.station.now.rows → R.kept driver.old.station.now.rows }
-    ensures drove { DroveUpTo (IsWithdrawal withdraw) result R.Rows R.Settles.is_settled N.passed S.Sink driver.old driver.new }
+    ensures { DroveUpTo (IsWithdrawal withdraw) result R.Rows R.Settles.is_settled N.passed S.Sink driver.old driver.new }
 {
     match withdraw {
         Some(number) => driver.ask(Call::Withdraw { number }, log),
@@ -102,11 +121,7 @@ fn make_search<R: Settles, N: Wire, S: Outlet, E: Write>(
     seek: Option<u32>,
     log: &mut Log<'_, E>,
 ) -> Result<(), Fault<'static>>
-    requires free { IsFree S.may }
-    ensures station { driver.new.station.ghost_name ≡ driver.old.station.ghost_name }
-    ensures wire { driver.new.wire.ghost_name ≡ driver.old.wire.ghost_name }
-    ensures was_kept { R.kept driver.new.station.now.rows → R.kept driver.old.station.now.rows }
-    ensures drove { DroveUpTo (IsSearch seek) result R.Rows R.Settles.is_settled N.passed S.Sink driver.old driver.new }
+    ensures { DroveUpTo (IsSearch seek) result R.Rows R.Settles.is_settled N.passed S.Sink driver.old driver.new }
 {
     match seek {
         Some(number) => driver.ask(Call::Seek { number }, log),
@@ -121,11 +136,7 @@ fn withdraw_and_seek<R: Settles, N: Wire, S: Outlet, E: Write>(
     seek: Option<u32>,
     log: &mut Log<'_, E>,
 ) -> Result<(), Fault<'static>>
-    requires free { IsFree S.may }
-    ensures station { driver.new.station.ghost_name ≡ driver.old.station.ghost_name }
-    ensures wire { driver.new.wire.ghost_name ≡ driver.old.wire.ghost_name }
-    ensures was_kept { R.kept driver.new.station.now.rows → R.kept driver.old.station.now.rows }
-    ensures drove { DroveUpTo (IsLaterAsking withdraw seek) result R.Rows R.Settles.is_settled N.passed S.Sink driver.old driver.new }
+    ensures { DroveUpTo (IsLaterAsking withdraw seek) result R.Rows R.Settles.is_settled N.passed S.Sink driver.old driver.new }
 {
     make_withdrawal(driver, withdraw, log)?;
     make_search(driver, seek, log)
@@ -134,17 +145,13 @@ fn withdraw_and_seek<R: Settles, N: Wire, S: Outlet, E: Write>(
 /// Makes the offer, then the withdrawal, and then the search.
 fn ask_all<R: Settles, N: Wire, S: Outlet, E: Write>(
     driver: &mut Driver<'_, R, N, S>,
-    asks: FirstAsks,
+    task: ServeTask,
     log: &mut Log<'_, E>,
 ) -> Result<(), Fault<'static>>
-    requires free { IsFree S.may }
-    ensures station { driver.new.station.ghost_name ≡ driver.old.station.ghost_name }
-    ensures wire { driver.new.wire.ghost_name ≡ driver.old.wire.ghost_name }
-    ensures was_kept { R.kept driver.new.station.now.rows → R.kept driver.old.station.now.rows }
-    ensures drove { DroveUpTo (IsAsking asks.offer asks.withdraw asks.seek) result R.Rows R.Settles.is_settled N.passed S.Sink driver.old driver.new }
+    ensures { DroveUpTo (IsAsking task.offer task.withdraw task.seek) result R.Rows R.Settles.is_settled N.passed S.Sink driver.old driver.new }
 {
-    make_offer(driver, asks.offer, log)?;
-    withdraw_and_seek(driver, asks.withdraw, asks.seek, log)
+    make_offer(driver, task.offer, log)?;
+    withdraw_and_seek(driver, task.withdraw, task.seek, log)
 }
 
 /// The turns of a station, one after the other, up to the first fault.
@@ -153,10 +160,7 @@ fn take_turns<R: Settles, N: Wire, S: Outlet, E: Write>(
     turns: u32,
     log: &mut Log<'_, E>,
 ) -> Result<(), Fault<'static>>
-    ensures station { driver.new.station.ghost_name ≡ driver.old.station.ghost_name }
-    ensures wire { driver.new.wire.ghost_name ≡ driver.old.wire.ghost_name }
-    ensures was_kept { R.kept driver.new.station.now.rows → R.kept driver.old.station.now.rows }
-    ensures drove { DroveUpTo (AreTurns turns) result R.Rows R.Settles.is_settled N.passed S.Sink driver.old driver.new }
+    ensures { DroveUpTo (AreTurns turns) result R.Rows R.Settles.is_settled N.passed S.Sink driver.old driver.new }
 {
     for _ in 0..turns {
         driver.turn(log)?;
@@ -167,55 +171,44 @@ fn take_turns<R: Settles, N: Wire, S: Outlet, E: Write>(
 /// What is asked, and then the turns.
 fn ask_and_turn<R: Settles, N: Wire, S: Outlet, E: Write>(
     driver: &mut Driver<'_, R, N, S>,
-    asks: FirstAsks,
-    turns: u32,
+    task: ServeTask,
     log: &mut Log<'_, E>,
 ) -> Result<(), Fault<'static>>
-    requires free { IsFree S.may }
-    ensures station { driver.new.station.ghost_name ≡ driver.old.station.ghost_name }
-    ensures wire { driver.new.wire.ghost_name ≡ driver.old.wire.ghost_name }
-    ensures was_kept { R.kept driver.new.station.now.rows → R.kept driver.old.station.now.rows }
-    ensures drove { DroveUpTo (IsRun asks.offer asks.withdraw asks.seek turns) result R.Rows R.Settles.is_settled N.passed S.Sink driver.old driver.new }
+    ensures { DroveUpTo (IsRun task) result R.Rows R.Settles.is_settled N.passed S.Sink driver.old driver.new }
 {
-    ask_all(driver, asks, log)?;
+    let turns = task.turns;
+    ask_all(driver, task, log)?;
     take_turns(driver, turns, log)
 }
 
 /// Serves a station: the offer, then the withdrawal, then the search, if given, and then so many turns, up to the first
-/// that does not end well. The room for what comes is made before all of them.
+/// that does not end well.
 ///
 /// An offer, a withdrawal or a search that the station refuses ends it, and so does that it has stopped; `err` has the
 /// word. A station at version 1 refuses each withdrawal.
-pub fn serve_run<R: Settles, N: Wire, W: Write, E: Write>(
-    alloc: Global,
-    station: &mut Station<R>,
-    wire: &mut N,
-    offer: Option<(u32, Tape)>,
-    withdraw: Option<u32>,
-    seek: Option<u32>,
-    turns: u32,
+pub fn serve_run<R: Settles, N: Wire + Drop, W: Write, E: Write>(
+    machine: &mut Machine<R, N>,
+    task: ServeTask,
     out: &mut W,
     err: &mut E,
 ) -> End
-    ensures was_kept { R.kept station.new.rows → R.kept station.old.rows }
-    ensures serves { ServesBy (IsRun offer withdraw seek turns) result R.Rows R.Settles.is_settled N.passed W.contents station.old station.new wire.old wire.new out.old out.new }
-    ensures goes_on { result ≡ Done → station.new.stopped ≡ false }
+    ensures { ServesBy (IsRun task) result R.Rows R.Settles.is_settled N.passed W.contents machine.old machine.new out.old out.new }
 {
-    if station.stopped() {
+    if machine.station.stopped() {
         return Fault::of_step(StepRefusal::Stopped).tell(err);
     }
-    let Ok(mut intake) = Intake::new(alloc) else {
-        return Fault::OutOfMemory.tell(err);
+    let printer = Printer {
+        alloc: machine.alloc,
+        out,
     };
-    let asks = FirstAsks {
-        offer,
-        withdraw,
-        seek,
-    };
-    let printer = Printer { alloc, out };
     let mut log = Log { err, quiet: false };
-    let mut driver = Driver::new(station, wire, printer, &mut intake);
-    match ask_and_turn(&mut driver, asks, turns, &mut log) {
+    let mut driver = Driver::new(
+        &mut machine.station,
+        &mut machine.wire,
+        printer,
+        &mut machine.intake,
+    );
+    match ask_and_turn(&mut driver, task, &mut log) {
         Ok(()) => End::Done,
         Err(fault) => fault.tell(log.err),
     }

@@ -84,7 +84,7 @@ fn leaves_the_promise_alone(alloc: Global, story: &Story) -> bool {
         return false;
     };
     taken(&mut bench, story.steps) == story.steps.len()
-        && has_the_promise_alone(bench.station.rows().rows()) == Some(true)
+        && has_the_promise_alone(bench.machine.station.rows().rows()) == Some(true)
 }
 
 #[test]

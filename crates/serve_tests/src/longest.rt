@@ -58,7 +58,7 @@ fn log_of_a_vote(alloc: Global) -> Result<Vec<u8>, AllocError> {
 /// Whether the story is proposed, and then a turn passes in which these digits come and so many datagrams in all are sent.
 fn turns(bench: &mut Bench, digits: &[u8], sent: usize) -> bool {
     taken(bench, PROPOSED.steps) == PROPOSED.steps.len()
-        && bench.wire.bring_all(&[digits])
+        && bench.machine.wire.bring_all(&[digits])
         && taken(bench, &[Run { sent, ..TURN }]) == 1
 }
 
@@ -67,7 +67,7 @@ fn comes_whole(alloc: Global) -> Option<bool> {
     let digits = promise_with(alloc, b"").ok()?;
     let log = log_of_a_vote(alloc).ok()?;
     let mut bench = bench_of(alloc, &PROPOSED)?;
-    Some(turns(&mut bench, &digits, 3) && bench.wire.log.as_slice() == log.as_slice())
+    Some(turns(&mut bench, &digits, 3) && bench.machine.wire.log.as_slice() == log.as_slice())
 }
 
 /// Whether with a byte more it is none, and is passed over.

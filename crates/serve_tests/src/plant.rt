@@ -1,11 +1,9 @@
 //! A station at work, and the steps that it is driven by.
 
 use command_ends::End;
-use exchange::Intake;
 use fixtures::{Given, frames_of};
 use row_groups::Settles;
-use serve_command::{serve_run, serve_turn};
-use station::Station;
+use serve_command::{Machine, ServeTask, serve_run, serve_turn};
 use station_fixtures::station_over;
 use std::alloc::Global;
 use tape_frames::{Tape, TapeFault};
@@ -69,8 +67,18 @@ pub const SEARCH: Run = Run {
     ..TURN
 };
 
+/// What a station is to do in a run.
+pub fn task_of(alloc: Global, run: &Run) -> Result<ServeTask, TapeFault> {
+    Ok(ServeTask {
+        offer: offer_of(alloc, run)?,
+        withdraw: run.withdraw,
+        seek: run.seek,
+        turns: run.turns,
+    })
+}
+
 /// What a run offers.
-pub fn offer_of(alloc: Global, run: &Run) -> Result<Option<(u32, Tape)>, TapeFault> {
+fn offer_of(alloc: Global, run: &Run) -> Result<Option<(u32, Tape)>, TapeFault> {
     match run.offer {
         None => Ok(None),
         Some((number, given)) => Ok(Some((number, Tape::from_bytes(alloc, frames_of(given))?))),
@@ -80,19 +88,18 @@ pub fn offer_of(alloc: Global, run: &Run) -> Result<Option<(u32, Tape)>, TapeFau
 /// A station, its wire, and what it has printed.
 #[derive(Drop)]
 pub struct Plant<R: Settles, N: Wire + Drop> {
-    pub alloc: Global,
-    pub station: Station<R>,
-    pub wire: N,
+    alloc: Global,
+    pub machine: Machine<R, N>,
     pub out: Vec<u8>,
     pub err: Vec<u8>,
 }
 
 impl<R: Settles, N: Wire + Drop> Plant<R, N> {
     pub fn new(alloc: Global, me: u8, members: u8, rows: R, wire: N) -> Option<Plant<R, N>> {
+        let station = station_over(alloc, me, members, rows)?;
         Some(Plant {
             alloc,
-            station: station_over(alloc, me, members, rows)?,
-            wire,
+            machine: Machine::new(alloc, station, wire).ok()?,
             out: Vec::new(alloc),
             err: Vec::new(alloc),
         })
@@ -102,20 +109,10 @@ impl<R: Settles, N: Wire + Drop> Plant<R, N> {
     fn end_of(&mut self, run: &Run) -> End {
         self.out.clear();
         self.err.clear();
-        let Ok(offer) = offer_of(self.alloc, run) else {
+        let Ok(task) = task_of(self.alloc, run) else {
             return End::Memory;
         };
-        serve_run(
-            self.alloc,
-            &mut self.station,
-            &mut self.wire,
-            offer,
-            run.withdraw,
-            run.seek,
-            run.turns,
-            &mut self.out,
-            &mut self.err,
-        )
+        serve_run(&mut self.machine, task, &mut self.out, &mut self.err)
     }
 
     /// Whether this text and these faults have been printed, and no more.
@@ -129,16 +126,8 @@ impl<R: Settles, N: Wire + Drop> Plant<R, N> {
     }
 
     /// How one more turn ends. What it prints comes after what was printed before.
-    pub fn turn(&mut self, intake: &mut Intake) -> End {
-        let now = self.wire.now();
-        serve_turn(
-            self.alloc,
-            &mut self.station,
-            &mut self.wire,
-            now,
-            intake,
-            &mut self.out,
-            &mut self.err,
-        )
+    pub fn turn(&mut self) -> End {
+        let now = self.machine.wire.now();
+        serve_turn(&mut self.machine, now, &mut self.out, &mut self.err)
     }
 }

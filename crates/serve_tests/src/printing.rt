@@ -1,17 +1,16 @@
 //! What comes from the wire, and when a release is handed on.
 
-use crate::plant::{OFFER, RELEASE, Run, TURN, offer_of};
+use crate::plant::{OFFER, RELEASE, Run, TURN, task_of};
 use crate::stories::{Story, is_true};
 use crate::wires::{Manner, Scripted};
 use crate::writers::{Held, Slow};
 use command_ends::End;
 use saved_rows::MemoryRows;
-use serve_command::serve_run;
-use station::Station;
+use serve_command::{Machine, serve_run};
 use station_fixtures::station_over;
 use std::alloc::Global;
 use std::io::Write;
-use tape_frames::{Tape, Version};
+use tape_frames::Version;
 
 /// The text "no packet".
 const NO_PACKET: &[u8] = b"6e6f207061636b6574";
@@ -52,32 +51,22 @@ fn what_comes_from_the_wire(rt: HostRuntime) {
 /// Whether this run of a station ends as it has to over a writer, on a wire on which nothing comes.
 fn ends<W: Write>(
     alloc: Global,
-    station: &mut Station<MemoryRows>,
-    offer: Option<(u32, Tape)>,
+    machine: &mut Machine<MemoryRows, Scripted>,
     run: &Run,
     writer: &mut W,
-) -> bool {
-    let mut wire = Scripted::new(alloc, Manner::Whole);
+) -> Option<bool> {
+    let task = task_of(alloc, run).ok()?;
     let mut err = Vec::new(alloc);
-    let end = serve_run(
-        alloc,
-        station,
-        &mut wire,
-        offer,
-        run.withdraw,
-        run.seek,
-        run.turns,
-        writer,
-        &mut err,
-    );
-    end == run.end && err.as_slice() == run.err.as_bytes()
+    let end = serve_run(machine, task, writer, &mut err);
+    Some(end == run.end && err.as_slice() == run.err.as_bytes())
 }
 
 /// Whether this run of member 1 alone ends as it has to over a writer.
 fn ends_over<W: Write>(alloc: Global, run: &Run, writer: &mut W) -> Option<bool> {
-    let offer = offer_of(alloc, run).ok()?;
-    let mut station = station_over(alloc, 1, 1, MemoryRows::new(alloc))?;
-    Some(ends(alloc, &mut station, offer, run, writer))
+    let station = station_over(alloc, 1, 1, MemoryRows::new(alloc))?;
+    let wire = Scripted::new(alloc, Manner::Whole);
+    let mut machine = Machine::new(alloc, station, wire).ok()?;
+    ends(alloc, &mut machine, run, writer)
 }
 
 /// The story, and no turn.

@@ -24,13 +24,15 @@ pub type Bench = Plant<Balky<MemoryRows>, Scripted>;
 /// Whether a step comes to what it has to.
 fn takes(bench: &mut Bench, step: &Run) -> bool {
     if step.armed {
-        bench.station.rows_mut().arm(true);
+        bench.machine.station.rows_mut().arm(true);
     }
     if step.restarted {
-        bench.station.restart();
+        bench.machine.station.restart();
     }
-    bench.wire.moment = step.at;
-    bench.wire.bring_all(step.coming) && bench.takes(step) && bench.wire.sent == step.sent
+    bench.machine.wire.moment = step.at;
+    bench.machine.wire.bring_all(step.coming)
+        && bench.takes(step)
+        && bench.machine.wire.sent == step.sent
 }
 
 /// The station of a story, before its steps.
@@ -62,7 +64,7 @@ pub fn is_true(alloc: Global, story: &Story) -> bool {
 pub fn sends(alloc: Global, story: &Story, log: &str) -> bool {
     match bench_of(alloc, story) {
         Some(mut bench) => taken(&mut bench, story.steps) == story.steps.len()
-            && bench.wire.log.as_slice() == log.as_bytes(),
+            && bench.machine.wire.log.as_slice() == log.as_bytes(),
         None => false,
     }
 }

@@ -7,11 +7,11 @@ use crate::host::{Host, ThisHost};
 use crate::keys::keys_of;
 use crate::plan::{making_of, offer_of};
 use crate::start_up::{Ground, Launch, Started, start};
-use command_ends::End;
+use command_ends::{End, Fault};
 use command_line::Plan;
 use configuration::{ConfigInput, Resolver, read_config};
 use row_files::{RowFiles, close_rows};
-use serve_command::serve_run;
+use serve_command::{Machine, ServeTask, serve_run};
 use std::io::Write;
 
 /// A station that is to be started, and how it is served.
@@ -31,27 +31,27 @@ fn serve_from<F: RowFiles, W: Write, E: Write>(
     requires { IsCircuit serving.launch.config.member serving.launch.config.stations.items }
 {
     let Serving { launch, plan } = serving;
+    let alloc = ground.rt.alloc();
     let Started {
-        mut station,
-        mut wire,
+        station,
+        wire,
         offer,
         table: _,
     } = match start(ground, launch, err) {
         Ok(started) => started,
         Err(end) => return end,
     };
-    let end = serve_run(
-        ground.rt.alloc(),
-        &mut station,
-        &mut wire,
+    let Ok(mut machine) = Machine::new(alloc, station, wire) else {
+        return Fault::OutOfMemory.tell(err);
+    };
+    let task = ServeTask {
         offer,
-        plan.withdraw,
-        plan.seek,
-        plan.turns,
-        out,
-        err,
-    );
-    let rows = station.into_rows().into_rows();
+        withdraw: plan.withdraw,
+        seek: plan.seek,
+        turns: plan.turns,
+    };
+    let end = serve_run(&mut machine, task, out, err);
+    let rows = machine.station.into_rows().into_rows();
     close_rows(ground.row_files, rows, end, err)
 }
 

@@ -7,7 +7,7 @@ use command_ends::End;
 use line_check::Setting;
 use row_groups::{Grouped, SavesAll, Settles};
 use saved_rows::Rows;
-use serve_command::serve_run;
+use serve_command::{Machine, ServeTask, serve_run};
 use station::{Answer, Membership, Station, StepRefusal};
 use std::alloc::Global;
 use tape_frames::Tape;
@@ -132,28 +132,27 @@ fn ended(end: End, out: &[u8]) -> Option<bool> {
 
 /// Whether a run of a station that is offered the flood story prints its release and ends well; nothing where it neither does nor
 /// ends by the store.
-fn serves<R: Settles>(alloc: Global, station: &mut Station<R>, frames: &[u8]) -> Option<bool> {
-    let tape = Tape::from_bytes(alloc, frames).ok()?;
-    let mut wire = Still { moment: 0 };
+fn serves<R: Settles>(
+    alloc: Global,
+    machine: &mut Machine<R, Still>,
+    frames: &[u8],
+) -> Option<bool> {
+    let task = ServeTask {
+        offer: Some((12, Tape::from_bytes(alloc, frames).ok()?)),
+        withdraw: None,
+        seek: None,
+        turns: 1,
+    };
     let mut out = Vec::new(alloc);
     let mut err = Vec::new(alloc);
-    let end = serve_run(
-        alloc,
-        station,
-        &mut wire,
-        Some((12, tape)),
-        None,
-        None,
-        1,
-        &mut out,
-        &mut err,
-    );
+    let end = serve_run(machine, task, &mut out, &mut err);
     ended(end, out.as_slice())
 }
 
 /// The rows after such a run of a station over them, whose saves wait as those of the command do, and whether it ended well.
 pub fn served<R: SavesAll>(alloc: Global, rows: R, frames: &[u8]) -> Option<(R, bool)> {
-    let mut station = station_over(alloc, Grouped::new(alloc, rows))?;
-    let is_done = serves(alloc, &mut station, frames)?;
-    Some((station.into_rows().into_rows(), is_done))
+    let station = station_over(alloc, Grouped::new(alloc, rows))?;
+    let mut machine = Machine::new(alloc, station, Still { moment: 0 }).ok()?;
+    let is_done = serves(alloc, &mut machine, frames)?;
+    Some((machine.station.into_rows().into_rows(), is_done))
 }

@@ -9,13 +9,19 @@ use Rattle.driver.proofs.Driven.{nothing, of_form}
 use Rattle.serve_command.specs.Serving.{IsOffer}
 use Rattle.serve_command.proofs.serve_loop.make_offer.Goals as goal
 
-pub returns-in_default-clause-drove : goal.returns-in_default-clause-drove
-returns-in_default-clause-drove g c =
+pub returns-in_default : goal.returns-in_default
+returns-in_default g c =
     let d = c.args.driver.now in
-    nothing (known g.R.Rows g.R.Settles.is_settled g.N.Wire.passed (fate_of g.S.Sink)) g.S.Sink.may g.met.S.Sink.fates d.station.now d.wire.now d.wire.now d.sink ends.Done (IsOffer c.args.offer)
-    (Passes-nil (g.N.Wire.passed d.wire.now)) (λ done. subst (λ (o : Option (ℕ × Tape)). IsOffer o []) (sym c.in_default.is) refl) refl
+    record {
+      hands = (refl, refl);
+      done = nothing (known g.R.Rows g.R.Settles.is_settled g.N.Wire.passed (fate_of g.S.Sink)) g.S.Sink.may g.met.S.Sink.fates d.station.now d.wire.now d.wire.now d.sink ends.Done (IsOffer c.args.offer)
+          (Passes-nil (g.N.Wire.passed d.wire.now)) (λ done. subst (λ (o : Option (ℕ × Tape)). IsOffer o []) (sym c.in_default.is) refl) refl;
+    }
 
-pub returns-clause-drove : goal.returns-clause-drove
-returns-clause-drove g c =
-    of_form (known g.R.Rows g.R.Settles.is_settled g.N.Wire.passed (fate_of g.S.Sink)) (post_of c.args.driver.now) (post_of c.ask.new.self) (ended c.ask.result) _ (IsOffer c.args.offer)
-    (λ log done form. subst (λ (o : Option (ℕ × Tape)). IsOffer o log) (sym c.in-Some.is) form) c.ask.ensures.drove
+pub returns : goal.returns
+returns g c =
+    record {
+      hands = c.ask.ensures.hands;
+      done = of_form (known g.R.Rows g.R.Settles.is_settled g.N.Wire.passed (fate_of g.S.Sink)) (post_of c.args.driver.now) (post_of c.ask.new.self) (ended c.ask.result) _ (IsOffer c.args.offer)
+          (λ log done form. subst (λ (o : Option (ℕ × Tape)). IsOffer o log) (sym c.in-Some.is) form) c.ask.ensures.done;
+    }

@@ -8,13 +8,19 @@ use Rattle.driver.proofs.Driven.{nothing, of_form}
 use Rattle.serve_command.specs.Serving.{IsWithdrawal}
 use Rattle.serve_command.proofs.serve_loop.make_withdrawal.Goals as goal
 
-pub returns-in-None-clause-drove : goal.returns-in-None-clause-drove
-returns-in-None-clause-drove g c =
+pub returns-in-None : goal.returns-in-None
+returns-in-None g c =
     let d = c.args.driver.now in
-    nothing (known g.R.Rows g.R.Settles.is_settled g.N.Wire.passed (fate_of g.S.Sink)) g.S.Sink.may g.met.S.Sink.fates d.station.now d.wire.now d.wire.now d.sink ends.Done (IsWithdrawal c.args.withdraw)
-    (Passes-nil (g.N.Wire.passed d.wire.now)) (λ done. subst (λ (o : Option ℕ). IsWithdrawal o []) (sym c.in-None.is) refl) refl
+    record {
+      hands = (refl, refl);
+      done = nothing (known g.R.Rows g.R.Settles.is_settled g.N.Wire.passed (fate_of g.S.Sink)) g.S.Sink.may g.met.S.Sink.fates d.station.now d.wire.now d.wire.now d.sink ends.Done (IsWithdrawal c.args.withdraw)
+          (Passes-nil (g.N.Wire.passed d.wire.now)) (λ done. subst (λ (o : Option ℕ). IsWithdrawal o []) (sym c.in-None.is) refl) refl;
+    }
 
-pub returns-in-Some-clause-drove : goal.returns-in-Some-clause-drove
-returns-in-Some-clause-drove g c =
-    of_form (known g.R.Rows g.R.Settles.is_settled g.N.Wire.passed (fate_of g.S.Sink)) (post_of c.args.driver.now) (post_of c.ask.new.self) (ended c.ask.result) _ (IsWithdrawal c.args.withdraw)
-    (λ log done form. subst (λ (o : Option ℕ). IsWithdrawal o log) (sym c.in-Some.is) form) c.ask.ensures.drove
+pub returns-in-Some : goal.returns-in-Some
+returns-in-Some g c =
+    record {
+      hands = c.ask.ensures.hands;
+      done = of_form (known g.R.Rows g.R.Settles.is_settled g.N.Wire.passed (fate_of g.S.Sink)) (post_of c.args.driver.now) (post_of c.ask.new.self) (ended c.ask.result) _ (IsWithdrawal c.args.withdraw)
+          (λ log done form. subst (λ (o : Option ℕ). IsWithdrawal o log) (sym c.in-Some.is) form) c.ask.ensures.done;
+    }
