@@ -1,7 +1,6 @@
 -- The loop over the lines: what is written so far, and what is left.
-use Rattle.std.proofs.Common.{◌≡◌, ℕ, ◌+◌, ◌<◌, List, [], ◌∷◌, ◌++◌, length, get_or, drop, map, true, false, Option, Result, Ok, Err, refl, sym, ap, subst, ◌∙◌, append_assoc, arith}
+use Rattle.std.proofs.Common.{◌≡◌, ℕ, ◌+◌, ◌<◌, List, [], ◌∷◌, ◌++◌, length, get_or, drop, map, true, false, Option, refl, sym, ap, subst, ◌∙◌, append_assoc, arith}
 use denote.Ref.{Bor}
-use Rattle.std.specs.Prelude.{OnErr}
 use Rattle.std.specs.Io.KnownBytes.{Appends}
 use Rattle.std.proofs.KnownBytes.{Appends-trans, Appends-nil}
 use Rattle.std.proofs.lemmas.List.{drop_more, get_or-map, length-map}
@@ -51,10 +50,6 @@ pub stops : StepsAreOfTheWhole → (circuit me : ℕ) (v : Version) (rows : ℕ 
 stops steps circuit me v rows lines line rest old mid new full s front =
     let asked = asked_of circuit me v line in
     front_more old mid new s.done (text_of circuit me v rows line) (lines_text circuit me v (heard_after s.heard asked) rest) (lines_text circuit me v [] lines) s.wrote front (ap (λ (xs : List ℕ). s.done ++ xs) (sym (opened steps circuit me v rows s.heard line rest full s.stands)) ∙ s.all)
-
-pub on_err : {A E : Type 0} (r : Result A E) (P : Type 0) → P → OnErr r P
-on_err (Ok x) P p = tt
-on_err (Err e) P p = p
 
 abbrev pub texts : List (Bor (List ℕ)) → List (List ℕ)
 texts ls = map (λ l. l.now) ls

@@ -1,25 +1,22 @@
 //! The command `answer`: a line out for each line in.
 
-ghost use Rattle.std.specs.Prelude.{◌≡◌, ◌==◌, List, ℕ, [], ◌∷◌, ◌++◌, map, IfOk, OnOk, OnErr};
+ghost use Rattle.std.specs.Prelude.{◌≡◌, ◌==◌, List, ℕ, [], ◌∷◌, ◌++◌, map, IfOk, OnOk};
 ghost use Rattle.std.specs.List.{list_all, slice_split};
-ghost use Rattle.std.specs.Io.KnownBytes.{Appends};
-ghost use Rattle.streams.specs.Fronts.{AppendsFront};
 ghost use Rattle.tape_frames.specs.Entries.{version_of};
 ghost use Rattle.saved_rows.specs.Memory.{saved};
 ghost use Rattle.answer_command.specs.Replies.{rows_after};
 ghost use Rattle.answer_command.specs.AnswerText.{is_blank, lines_of, WritesAnswer, WritesAnswerFront};
 ghost use Rattle.answer_command.specs.Seats.{asked_at, line_at, lines_at, answer_at};
 ghost use Rattle.command_ends.specs.Ends.{IsOfInput};
+ghost use Rattle.command_ends.specs.Writing.{Writes};
 ghost use Rattle.command_ends.specs.declared.end.End.TheVariants.{Done};
 
 use crate::line::{AcceptorSeat, answer_line};
-use ballots::Member;
-use command_ends::{End, Fault};
+use command_ends::{End, Fault, PutFault};
 use saved_rows::MemoryRows;
 use std::alloc::{AllocError, Global};
 use std::io::{Read, Write};
 use streams::{put_all, read_input};
-use tape_frames::Version;
 
 fn is_blank(line: &[u8]) -> bool
     ensures { result ≡ is_blank line.now }
@@ -33,11 +30,11 @@ fn lines_of<'a>(alloc: Global, input: &'a [u8]) -> Result<Vec<&'a [u8]>, AllocEr
     input.split(|b| *b == b'\n').collect(alloc)
 }
 
-/// Why the lines are not answered to their end.
-#[derive(Clone, Copy)]
-enum AnswerStop {
-    Memory,
-    CannotWrite,
+/// What `answer` is asked: where the acceptor sits that answers, and what its lines are read from.
+#[derive(Drop)]
+pub struct AnswerOrder<R: Read + Drop> {
+    pub seat: AcceptorSeat,
+    pub input: R,
 }
 
 /// Answers one line that is not blank.
@@ -47,22 +44,21 @@ fn put_line<W: Write>(
     rows: &mut MemoryRows,
     line: &[u8],
     out: &mut W,
-) -> Result<(), AnswerStop>
+) -> Result<(), PutFault>
     requires { rows.old.version ≡ version_of seat.now.wire }
-    ensures text { OnOk result (Appends (W.contents out.old) (W.contents out.new) (line_at seat.now (saved rows.old) line.now ++ 10 ∷ [])) }
-    ensures front { OnErr result (AppendsFront (W.contents out.old) (W.contents out.new) (line_at seat.now (saved rows.old) line.now ++ 10 ∷ [])) }
+    ensures text { Writes result (W.contents out.old) (W.contents out.new) (line_at seat.now (saved rows.old) line.now ++ 10 ∷ []) }
     ensures rows { OnOk result ((n : ℕ) → saved rows.new n ≡ rows_after (saved rows.old) (asked_at seat.now line.now) n) }
     ensures version { rows.new.version ≡ rows.old.version }
 {
     let Ok(mut text) = answer_line(alloc, *seat, rows, line) else {
-        return Err(AnswerStop::Memory);
+        return Err(PutFault::OutOfMemory);
     };
     if text.push(b'\n').is_err() {
-        return Err(AnswerStop::Memory);
+        return Err(PutFault::OutOfMemory);
     }
     match put_all(out, &text) {
         Ok(()) => Ok(()),
-        Err(_) => Err(AnswerStop::CannotWrite),
+        Err(_) => Err(PutFault::CannotWrite),
     }
 }
 
@@ -72,9 +68,8 @@ fn put_lines<W: Write>(
     seat: &AcceptorSeat,
     lines: &[&[u8]],
     out: &mut W,
-) -> Result<(), AnswerStop>
-    ensures text { OnOk result (Appends (W.contents out.old) (W.contents out.new) (lines_at seat.now (map (λ l. l.now) lines.now))) }
-    ensures front { OnErr result (AppendsFront (W.contents out.old) (W.contents out.new) (lines_at seat.now (map (λ l. l.now) lines.now))) }
+) -> Result<(), PutFault>
+    ensures { Writes result (W.contents out.old) (W.contents out.new) (lines_at seat.now (map (λ l. l.now) lines.now)) }
 {
     // The rows of the loop are those of all the requests heard.
     protocol_laws::laws::acceptor_steps();
@@ -92,13 +87,12 @@ fn put_answer<W: Write>(
     seat: &AcceptorSeat,
     input: &[u8],
     out: &mut W,
-) -> Result<(), AnswerStop>
-    ensures text { OnOk result (Appends (W.contents out.old) (W.contents out.new) (answer_at seat.now input.now)) }
-    ensures front { OnErr result (AppendsFront (W.contents out.old) (W.contents out.new) (answer_at seat.now input.now)) }
+) -> Result<(), PutFault>
+    ensures { Writes result (W.contents out.old) (W.contents out.new) (answer_at seat.now input.now) }
 {
     match lines_of(alloc, input) {
         Ok(lines) => put_lines(alloc, seat, &lines, out),
-        Err(_) => Err(AnswerStop::Memory),
+        Err(_) => Err(PutFault::OutOfMemory),
     }
 }
 
@@ -108,14 +102,13 @@ fn put_and_flush<W: Write>(
     seat: &AcceptorSeat,
     input: &[u8],
     out: &mut W,
-) -> Result<(), AnswerStop>
-    ensures text { OnOk result (Appends (W.contents out.old) (W.contents out.new) (answer_at seat.now input.now)) }
-    ensures front { OnErr result (AppendsFront (W.contents out.old) (W.contents out.new) (answer_at seat.now input.now)) }
+) -> Result<(), PutFault>
+    ensures { Writes result (W.contents out.old) (W.contents out.new) (answer_at seat.now input.now) }
 {
     put_answer(alloc, seat, input, out)?;
     match out.flush() {
         Ok(()) => Ok(()),
-        Err(_) => Err(AnswerStop::CannotWrite),
+        Err(_) => Err(PutFault::CannotWrite),
     }
 }
 
@@ -124,27 +117,25 @@ fn put_and_flush<W: Write>(
 ///
 /// The whole input is read before anything is written. Where memory, the reader or the writer fails,
 /// a front of the text was written, and `err` has the fault. Nothing else ends it.
-pub fn answer<R: Read, W: Write, E: Write>(
+pub fn answer<R: Read + Drop, W: Write, E: Write>(
     alloc: Global,
-    circuit: u16,
-    me: Member,
-    wire: Version,
-    input: &mut R,
+    order: AnswerOrder<R>,
     out: &mut W,
     err: &mut E,
 ) -> End
-    ensures done { result ≡ Done → WritesAnswer circuit me (version_of wire) (R.remaining input.old) (W.contents out.old) (W.contents out.new) }
-    ensures front { WritesAnswerFront circuit me (version_of wire) (R.remaining input.old) (W.contents out.old) (W.contents out.new) }
+    ensures done { result ≡ Done → WritesAnswer order.seat.circuit order.seat.me (version_of order.seat.wire)
+        (R.remaining order.input) (W.contents out.old) (W.contents out.new) }
+    ensures front { WritesAnswerFront order.seat.circuit order.seat.me (version_of order.seat.wire)
+        (R.remaining order.input) (W.contents out.old) (W.contents out.new) }
     ensures ends { IsOfInput result }
 {
-    let seat = AcceptorSeat { circuit, me, wire };
-    let bytes = match read_input(alloc, input) {
+    let AnswerOrder { seat, mut input } = order;
+    let bytes = match read_input(alloc, &mut input) {
         Ok(bytes) => bytes,
         Err(fault) => return Fault::of_input(fault, "-").tell(err),
     };
     match put_and_flush(alloc, &seat, &bytes, out) {
         Ok(()) => End::Done,
-        Err(AnswerStop::Memory) => Fault::OutOfMemory.tell(err),
-        Err(AnswerStop::CannotWrite) => Fault::CannotWrite.tell(err),
+        Err(fault) => Fault::of_writing(fault).tell(err),
     }
 }

@@ -4,4 +4,5 @@
 mod answers;
 mod line;
 
-pub use answers::answer;
+pub use answers::{AnswerOrder, answer};
+pub use line::AcceptorSeat;

@@ -11,7 +11,7 @@ use crate::console::Console;
 use crate::editing::{run_fit, run_punch, run_spell};
 use crate::reels::{run_import, run_survey};
 use crate::story::Story;
-use answer_command::answer;
+use answer_command::{AcceptorSeat, AnswerOrder, answer};
 use check_command::{CheckOrder, check};
 use command_ends::{End, ScriptPaths, TapePaths};
 use command_line::{Asked, Telling, print_version};
@@ -142,7 +142,12 @@ pub fn carry_out<F: RowFiles, R: Read + Drop, W: Write + Drop, E: Write + Drop>(
                 err,
                 ..
             } = console;
-            answer(rt.alloc(), *circuit, *me, *wire, input, out, err)
+            let seat = AcceptorSeat {
+                circuit: *circuit,
+                me: *me,
+                wire: *wire,
+            };
+            answer(rt.alloc(), AnswerOrder { seat, input }, out, err)
         }
         Asked::Check { paths, listing } => run_check(console, paths, *listing),
         Asked::Draw { paths, page } => run_draw(console, paths, *page),

@@ -4,7 +4,9 @@ use crate::console::Console;
 use crate::story::Story;
 use code_table::Name;
 use command_ends::{End, Fault, TapePaths};
-use editor_commands::{Form, Given, StoryPaths, fit, punch, spell};
+use editor_commands::{
+    FitOrder, Form, Given, PunchOrder, SpellOrder, StoryPaths, fit, punch, spell,
+};
 use row_files::RowFiles;
 use std::alloc::Global;
 use std::io::{Read, Write};

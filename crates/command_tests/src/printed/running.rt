@@ -2,7 +2,7 @@
 
 use super::failing::{Input, Slow};
 use super::paths;
-use answer_command::answer;
+use answer_command::{AcceptorSeat, AnswerOrder, answer};
 use ballots::Member;
 use check_command::{CheckOrder, check};
 use command_ends::End;
@@ -62,12 +62,16 @@ fn end_of_rehearse(alloc: Global, inputs: Inputs<'_>, out: &mut Slow, err: &mut 
 
 fn end_of_answer(
     alloc: Global,
-    (wire, given): (Version, Input<'_>),
+    (wire, input): (Version, Input<'_>),
     out: &mut Slow,
     err: &mut Vec<u8>,
 ) -> Option<End> {
-    let mut input = given;
-    Some(answer(alloc, 7, Member::new(2)?, wire, &mut input, out, err))
+    let seat = AcceptorSeat {
+        circuit: 7,
+        me: Member::new(2)?,
+        wire,
+    };
+    Some(answer(alloc, AnswerOrder { seat, input }, out, err))
 }
 
 /// How a command over this writer ends.
