@@ -22,7 +22,7 @@ use reel_commands::ChartPaths;
 use rehearse_command::{RehearsalOrder, rehearse};
 use row_files::RowFiles;
 use station_commands::{CreatePlan, Ground, RunPlan, ThisHost, create, run, serve};
-use status_command::{Shape, status};
+use status_command::{Shape, StatusOrder, status};
 use std::io::{Read, Write};
 use streams::InputFile;
 use tape_drawing::DrawingForm;
@@ -216,7 +216,11 @@ pub fn carry_out<F: RowFiles, R: Read + Drop, W: Write + Drop, E: Write + Drop>(
         Asked::Stop { config } => stop(rt, *config, &mut console.err),
         Asked::Status { config, telling } => {
             let Console { out, err, .. } = console;
-            status(rt, *config, shape_of(*telling), out, err)
+            let order = StatusOrder {
+                config: *config,
+                shape: shape_of(*telling),
+            };
+            status(rt, order, out, err)
         }
         Asked::Rehearse { paths } => run_rehearse(console, paths),
         Asked::Import(plan) => run_import(console, plan),

@@ -1,5 +1,5 @@
 -- The faults of a configuration, not the first alone.
-use Rattle.std.specs.Prelude.{ℕ, List, [], ◌∷◌, ◌++◌, length, Option, Some, None, Result, Ok, Err, nat_le, if◌then◌else◌}
+use Rattle.std.specs.Prelude.{◌≡◌, ◌⊎◌, ℕ, List, [], ◌∷◌, ◌++◌, length, Option, Some, None, Result, Ok, Err, MatchResult, nat_le, if◌then◌else◌}
 use Rattle.protocol.specs.Limits.{most_members}
 use Rattle.toml.specs.Data.{Members}
 use Rattle.wire.specs.declared.address.Address.{Address}
@@ -7,12 +7,16 @@ use Rattle.configuration.specs.Keys.{number_at, text_at, folders_in, catches_up_
 use Rattle.configuration.specs.Stations.{Found, read_stations}
 use Rattle.configuration.specs.declared.fault.ConfigKey.TheVariants.{Circuit, Member, Table, Widths, Rows}
 use Rattle.configuration.specs.declared.fault.ConfigFault.{ConfigFault}
-use Rattle.configuration.specs.declared.fault.ConfigFault.TheVariants.{NotToml, OutOfRange}
+use Rattle.configuration.specs.declared.fault.ConfigFault.TheVariants.{NotToml, OutOfMemory, OutOfRange}
 
 -- the fault of what is read, if any
 abbrev pub fault_of : {A : Type 0} → Result A ConfigFault → Option ConfigFault
 fault_of (Ok x) = None
 fault_of (Err e) = Some e
+
+-- a call gives what is read: this of what it found, or the same fault, or there was no memory
+abbrev pub GivesOrNoMemory : {X A : Type 0} → Result X ConfigFault → (X → A) → Result A ConfigFault → Type 0
+GivesOrNoMemory result view read = MatchResult result (λ x. read ≡ Ok (view x)) (λ e. (e ≡ OutOfMemory) ⊎ (read ≡ Err e))
 
 -- these faults, and one more where there is one
 unfoldable pub noted : List ConfigFault → Option ConfigFault → List ConfigFault
@@ -34,6 +38,10 @@ absent (Err e) count = None
 unfoldable pub with_stations : List ConfigFault → Result ℕ ConfigFault → Result (List Address) ConfigFault → List ConfigFault
 with_stations faults member (Ok stations) = noted faults (absent member (length stations))
 with_stations faults member (Err fault) = noted faults (Some fault)
+
+-- these faults, and those of the stations of a document
+abbrev pub with_stations_in : List ConfigFault → Found → Members → List ConfigFault
+with_stations_in faults found file = with_stations faults (number_at Member 1 most_members file) (stations_in found file)
 
 -- the faults of a document: that of each key, the first of the folders and the first among the stations, and that there is no station of
 -- the own member

@@ -1,7 +1,8 @@
 -- The keys of a configuration, as a TOML document has them.
-use Rattle.std.specs.Prelude.{◌≡◌, ℕ, zero, suc, ℤ, pos, negsuc, List, Bool, true, false, codes, Option, Some, None, Result, Ok, Err, MatchResult, nat_le, not, ◌&&◌, if◌then◌else◌}
+use Rattle.std.specs.Prelude.{◌≡◌, ℕ, zero, suc, ℤ, pos, negsuc, List, Bool, true, false, codes, Option, Some, None, option_map, Result, Ok, Err, MatchResult, nat_le, not, ◌&&◌, if◌then◌else◌}
 use Rattle.protocol.specs.Limits.{most_members}
 use Rattle.toml.specs.Data.{Data, Items, no_items, item, Members, get_member, as_integer, as_str, as_bool, as_array, as_table}
+use Rattle.configuration.specs.declared.keys.FolderPaths.{FolderPaths as CodeFolderPaths}
 use Rattle.configuration.specs.declared.fault.ConfigKey.{ConfigKey}
 use Rattle.configuration.specs.declared.fault.ConfigKey.TheVariants.{Circuit, Member, Table, Widths, Rows, Folders, Offers, Releases, Text, Renamed, Status, CatchUp, Off, Wire, Key, Station}
 use Rattle.configuration.specs.declared.fault.ConfigFault.{ConfigFault}
@@ -118,6 +119,10 @@ pub record FolderPaths : Type 0 where
 abbrev pub folder_paths : List ℕ → List ℕ → Bool → Bool → Option (List ℕ) → FolderPaths
 folder_paths offers releases text renamed status =
     record { offers = offers; releases = releases; text = text; renamed = renamed; status = status }
+
+-- what the code found of them
+abbrev pub lent_paths : CodeFolderPaths → FolderPaths
+lent_paths p = folder_paths p.offers.now p.releases.now p.text p.renamed (option_map (λ s. s.now) p.status)
 
 -- the paths in a table; texts may be offered unless it says that they may not, files come in any way unless it says that they are
 -- renamed, and there is a status file where it names one

@@ -3,10 +3,12 @@ use Rattle.std.specs.Prelude.{◌≡◌, ℕ, Bool, List, length, string_bytes, 
 use Rattle.protocol.specs.Limits.{most_members}
 use Rattle.toml.specs.Data.{Members}
 use Rattle.wire.specs.declared.address.Address.{Address}
-use Rattle.configuration.specs.Keys.{◌>>=◌, holds, number_at, Paths, FolderPaths, folder_paths, paths_in, folders_in, catches_up_in, wire_in, entries_at}
+use Rattle.configuration.specs.Keys.{◌>>=◌, holds, number_at, Paths, FolderPaths, folder_paths, three_paths, paths_in, folders_in, catches_up_in, wire_in, entries_at}
 use Rattle.configuration.specs.Hosts.{Finds, AreFound}
 use Rattle.configuration.specs.Stations.{Found, read_stations}
 use Rattle.configuration.specs.declared.config.Config.{Config}
+use Rattle.configuration.specs.declared.config.FilePaths.{FilePaths}
+use Rattle.configuration.specs.declared.config.Own.{Own}
 use Rattle.configuration.specs.declared.config.WorkFolders.{WorkFolders}
 use Rattle.configuration.specs.declared.fault.ConfigKey.TheVariants.{Circuit, Member}
 use Rattle.configuration.specs.declared.fault.ConfigFault.{ConfigFault}
@@ -43,6 +45,12 @@ file_with circuit member paths folders catches_up key stations = record {
 -- the paths of these folders, whether texts may be offered, whether files come only by being renamed, and the path of the status file
 abbrev pub paths_of : WorkFolders → FolderPaths
 paths_of folders = folder_paths (string_bytes folders.offers) (string_bytes folders.releases) folders.text folders.renamed (option_map string_bytes folders.status)
+
+-- what these files, folders and stations say of a station
+abbrev pub file_from : Own → FilePaths → Option WorkFolders → List Address → ConfigFile
+file_from own files folders stations =
+    file_with own.circuit own.member (three_paths (string_bytes files.table) (string_bytes files.widths) (string_bytes files.rows))
+    (option_map paths_of folders) own.catches_up (option_map string_bytes files.key) stations
 
 -- what this configuration says
 abbrev pub file_of : Config → ConfigFile

@@ -3,8 +3,8 @@
 ghost use Rattle.std.specs.Prelude.{◌≡◌, ◌⊎◌, Some, None, Ok, Err, IfOk, IfErr, option_map, nat_le, string_bytes};
 ghost use Rattle.toml.specs.Parse.{parse_document};
 ghost use Rattle.toml.specs.View.{table_view};
-ghost use Rattle.configuration.specs.Keys.{three_paths, folder_paths};
-ghost use Rattle.configuration.specs.Reading.{file_with, file_of, paths_of, read_file, read_config};
+ghost use Rattle.configuration.specs.Keys.{lent_paths};
+ghost use Rattle.configuration.specs.Reading.{file_from, file_of, paths_of, read_file, read_config};
 ghost use Rattle.configuration.specs.Stations.{IsCircuit};
 ghost use Rattle.configuration.specs.declared.fault.ConfigFault.TheVariants.{NotToml, OutOfMemory};
 
@@ -81,8 +81,7 @@ fn owned(alloc: Global, text: Option<&str>) -> Result<Option<String>, AllocError
 
 /// The folders at these paths.
 fn folders_of(alloc: Global, paths: &FolderPaths<'_>) -> Result<WorkFolders, AllocError>
-    ensures { IfOk result (λ f. paths_of f ≡ folder_paths paths.now.offers.now paths.now.releases.now paths.now.text paths.now.renamed
-        (option_map (λ s. s.now) paths.now.status)) }
+    ensures { IfOk result (λ f. paths_of f ≡ lent_paths paths.now) }
 {
     let offers = paths.offers.to_string(alloc)?;
     let releases = paths.releases.to_string(alloc)?;
@@ -103,8 +102,7 @@ fn folders_at(
     alloc: Global,
     paths: &Option<FolderPaths<'_>>,
 ) -> Result<Option<WorkFolders>, AllocError>
-    ensures { IfOk result (λ f. option_map paths_of f ≡ option_map (λ p. folder_paths p.offers.now p.releases.now p.text p.renamed
-        (option_map (λ s. s.now) p.status)) paths.now) }
+    ensures { IfOk result (λ f. option_map paths_of f ≡ option_map lent_paths paths.now) }
 {
     match paths {
         Some(paths) => Ok(Some(folders_of(alloc, paths)?)),
@@ -155,9 +153,7 @@ fn config_of(
     folders: Option<WorkFolders>,
     stations: Vec<Address>,
 ) -> Config
-    ensures value { file_of result ≡ file_with own.circuit own.member
-        (three_paths (string_bytes files.table) (string_bytes files.widths) (string_bytes files.rows)) (option_map paths_of folders) own.catches_up (option_map string_bytes files.key)
-        stations.items }
+    ensures value { file_of result ≡ file_from own files folders stations.items }
     ensures member { result.member ≡ own.member }
     ensures stations { result.stations ≡ stations }
 {

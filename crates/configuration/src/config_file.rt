@@ -10,20 +10,9 @@ ghost use Rattle.configuration.specs.Stations.{IsCircuit};
 use crate::config::Config;
 use crate::fault::ConfigFault;
 use crate::hosts::{Hosts, find_hosts};
-use command_ends::{End, read_text};
+use command_ends::{End, read_text, text_of};
 use std::alloc::Global;
 use std::io::{Read, Write};
-use std::str;
-
-/// The text of bytes that are UTF-8.
-fn text_of(bytes: &[u8]) -> Option<&str>
-    ensures { IfSome result (λ text. text.now ≡ bytes.now) }
-{
-    match str::from_utf8(bytes) {
-        Ok(text) => Some(text),
-        Err(_) => None,
-    }
-}
 
 /// The configuration of a text. What isn't UTF-8 is not TOML.
 fn config_of<H: Hosts>(alloc: Global, hosts: &H, bytes: &[u8]) -> Result<Config, ConfigFault>

@@ -120,18 +120,6 @@ impl fmt::Display for ConfigFault {
 }
 
 impl ConfigFault {
-    /// How a command ends by this fault.
-    fn end(self) -> End
-        ensures end { result ≡ end_of_config self }
-        ensures cause { IsOfInput result }
-        ensures fails { ¬ (result ≡ Done) }
-    {
-        match self {
-            ConfigFault::OutOfMemory => End::Memory,
-            _ => End::Input,
-        }
-    }
-
     /// Writes the text, and gives the end. That the writer fails is ignored.
     pub fn tell<E: Write>(self, err: &mut E) -> End
         ensures end { result ≡ end_of_config self }
@@ -139,6 +127,9 @@ impl ConfigFault {
         ensures fails { ¬ (result ≡ Done) }
     {
         let _ = writeln!(err, "{self}");
-        self.end()
+        match self {
+            ConfigFault::OutOfMemory => End::Memory,
+            _ => End::Input,
+        }
     }
 }

@@ -1,13 +1,12 @@
 //! The faults of a configuration, not the first alone.
 
-ghost use Rattle.std.specs.Prelude.{◌≡◌, ◌⊎◌, [], ◌∷◌, Ok, Err, IfOk, OnOk, MatchResult};
+ghost use Rattle.std.specs.Prelude.{◌≡◌, [], ◌∷◌, IfOk, OnOk};
 ghost use Rattle.protocol.specs.Limits.{most_members};
 ghost use Rattle.toml.specs.Parse.{parse_document};
 ghost use Rattle.toml.specs.View.{table_view};
 ghost use Rattle.configuration.specs.Keys.{number_at, text_at, folders_in, catches_up_in, wire_in};
-ghost use Rattle.configuration.specs.Faults.{fault_of, noted, stations_in, absent, with_stations, faults_in, all_faults};
+ghost use Rattle.configuration.specs.Faults.{fault_of, noted, stations_in, absent, GivesOrNoMemory, with_stations_in, faults_in, all_faults};
 ghost use Rattle.configuration.specs.declared.fault.ConfigKey.TheVariants.{Circuit, Member as MemberKey};
-ghost use Rattle.configuration.specs.declared.fault.ConfigFault.TheVariants.{OutOfMemory};
 
 use crate::config::document_of;
 use crate::fault::{ConfigFault, ConfigKey};
@@ -86,8 +85,7 @@ fn stations_in(
     found: &[Option<[u8; 4]>],
     file: &Table,
 ) -> Result<Vec<Address>, ConfigFault>
-    ensures { MatchResult result (λ stations. stations_in found.now (table_view file.now) ≡ Ok stations.items)
-        (λ fault. (fault ≡ OutOfMemory) ⊎ (stations_in found.now (table_view file.now) ≡ Err fault)) }
+    ensures { GivesOrNoMemory result (λ stations. stations.items) (stations_in found.now (table_view file.now)) }
 {
     let entries = entries_at(file)?;
     read_stations(alloc, found, entries)
@@ -114,8 +112,7 @@ fn note_stations(
     file: &Table,
     faults: &mut Vec<ConfigFault>,
 ) -> Result<(), AllocError>
-    ensures { OnOk result (faults.new.items ≡ with_stations faults.old.items (number_at MemberKey 1 most_members (table_view file.now))
-        (stations_in found.now (table_view file.now))) }
+    ensures { OnOk result (faults.new.items ≡ with_stations_in faults.old.items found.now (table_view file.now)) }
 {
     match stations_in(alloc, found, file) {
         Ok(stations) => note(faults, absent(member_at(file), stations.len())),

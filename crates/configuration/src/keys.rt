@@ -4,7 +4,7 @@ ghost use Rattle.std.specs.Prelude.{◌≡◌, ◌≤◌, IfSome, IfOk, option_m
 ghost use Rattle.protocol.specs.Limits.{most_members};
 ghost use Rattle.toml.specs.Data.{get_member};
 ghost use Rattle.toml.specs.View.{view, table_view, array_view};
-ghost use Rattle.configuration.specs.Keys.{Gives, in_range, value_at, number_at, text_at, text_where, flag_at, three_paths, paths_in, folder_paths, folder_paths_in, folders_in, catches_up_in, wire_in, entries_at};
+ghost use Rattle.configuration.specs.Keys.{Gives, in_range, value_at, number_at, text_at, text_where, flag_at, three_paths, paths_in, lent_paths, folder_paths_in, folders_in, catches_up_in, wire_in, entries_at};
 ghost use Rattle.configuration.specs.declared.fault.ConfigKey.TheVariants.{Circuit, Member as MemberKey};
 
 use crate::fault::{ConfigFault, ConfigKey};
@@ -163,7 +163,7 @@ fn text_where(keys: &Table, key: ConfigKey) -> Result<Option<&str>, ConfigFault>
 /// The paths in the table of the folders.
 #[tactic(auto, unfolding(crate::specs::Keys::folder_paths_in))]
 fn folder_paths_in(keys: &Table) -> Result<FolderPaths<'_>, ConfigFault>
-    ensures { Gives result (λ p. folder_paths p.offers.now p.releases.now p.text p.renamed (option_map (λ s. s.now) p.status)) (folder_paths_in (table_view keys.now)) }
+    ensures { Gives result lent_paths (folder_paths_in (table_view keys.now)) }
 {
     Ok(FolderPaths {
         offers: text_at(keys, ConfigKey::Offers)?,
@@ -177,7 +177,7 @@ fn folder_paths_in(keys: &Table) -> Result<FolderPaths<'_>, ConfigFault>
 /// The folders, where there is a table of them.
 #[tactic(auto, unfolding(crate::specs::Keys::folders_in))]
 pub(crate) fn folders_in(file: &Table) -> Result<Option<FolderPaths<'_>>, ConfigFault>
-    ensures { Gives result (λ f. option_map (λ p. folder_paths p.offers.now p.releases.now p.text p.renamed (option_map (λ s. s.now) p.status)) f) (folders_in (table_view file.now)) }
+    ensures { Gives result (option_map lent_paths) (folders_in (table_view file.now)) }
 {
     let Some(value) = value_of(file, ConfigKey::Folders.name()) else {
         return Ok(None);

@@ -12,47 +12,59 @@ use streams::InputFile;
 /// How many seconds it is waited for a station to end. It copies its log into its row file, which has a thousand pages at most.
 const SECONDS: u32 = 30;
 
-/// Tells what the folder of offers did not allow, and gives the end.
-fn refuse<E: Write>(what: &str, fault: FolderFault, err: &mut E) -> End
-    ensures ends { IsOfInput result }
-{
-    if fault == FolderFault::OutOfMemory {
-        return Fault::OutOfMemory.tell(err);
-    }
-    let _ = writeln!(err, "folders: cannot {what} offers: {fault}");
-    End::Input
+/// Why a station is not ended.
+#[derive(Clone, Copy)]
+enum StopFault {
+    /// Its configuration names no folders.
+    Unnamed,
+    /// Its folder of offers does not allow this.
+    Folder {
+        what: &'static str,
+        fault: FolderFault,
+    },
+    /// It has not ended in time.
+    NotEnded,
 }
 
-/// Ends the station that works with the folder of offers at a path.
-fn stop_over<E: Write>(rt: &HostRuntime, offers: &str, err: &mut E) -> End
-    ensures ends { IsOfInput result }
-{
-    if let Err(fault) = lay_stop(rt, offers) {
-        return refuse("write", fault, err);
-    }
-    match await_end(rt, offers, SECONDS) {
-        Ok(true) => End::Done,
-        Ok(false) => {
-            let _ = writeln!(
+impl StopFault {
+    /// Tells it, and gives the end.
+    fn tell<E: Write>(self, err: &mut E) -> End
+        ensures ends { IsOfInput result }
+    {
+        let _ = match self {
+            StopFault::Unnamed => writeln!(err, "stop: the configuration names no folders"),
+            StopFault::Folder {
+                fault: FolderFault::OutOfMemory,
+                ..
+            } => return Fault::OutOfMemory.tell(err),
+            StopFault::Folder { what, fault } => {
+                writeln!(err, "folders: cannot {what} offers: {fault}")
+            }
+            StopFault::NotEnded => writeln!(
                 err,
                 "stop: the station has not ended within {SECONDS} seconds"
-            );
-            End::Input
-        }
-        Err(fault) => refuse("read", fault, err),
+            ),
+        };
+        End::Input
     }
 }
 
 /// Ends the station of a configuration.
-fn stop_from<E: Write>(rt: &HostRuntime, config: &Config, err: &mut E) -> End
-    ensures ends { IsOfInput result }
-{
-    match &config.folders {
-        Some(folders) => stop_over(rt, &folders.offers, err),
-        None => {
-            let _ = writeln!(err, "stop: the configuration names no folders");
-            End::Input
-        }
+fn end_station(rt: &HostRuntime, config: &Config) -> Result<(), StopFault> {
+    let Some(folders) = &config.folders else {
+        return Err(StopFault::Unnamed);
+    };
+    if let Err(fault) = lay_stop(rt, &folders.offers) {
+        let what = "write";
+        return Err(StopFault::Folder { what, fault });
+    }
+    match await_end(rt, &folders.offers, SECONDS) {
+        Ok(true) => Ok(()),
+        Ok(false) => Err(StopFault::NotEnded),
+        Err(fault) => Err(StopFault::Folder {
+            what: "read",
+            fault,
+        }),
     }
 }
 
@@ -68,8 +80,12 @@ pub fn stop<E: Write>(rt: &HostRuntime, config: &str, err: &mut E) -> End
         input: InputFile::at(rt, config),
     };
     // No station is talked to, so no host is looked up: it ends also where the names are not known any more.
-    match read_config(rt.alloc(), &NoLookUp, file, err) {
-        Ok(config) => stop_from(rt, &config, err),
-        Err(end) => end,
+    let config = match read_config(rt.alloc(), &NoLookUp, file, err) {
+        Ok(config) => config,
+        Err(end) => return end,
+    };
+    match end_station(rt, &config) {
+        Ok(()) => End::Done,
+        Err(fault) => fault.tell(err),
     }
 }

@@ -176,23 +176,24 @@ fn recall(who: &str, what: &str, whom: &str) -> Result<Order, ScriptFault>
     })
 }
 
-/// What a name with a member, a number and one word more behind it asks for.
+/// What `offer` with a member, a number and the hex of a tape behind it asks for.
+fn offer(alloc: Global, who: &str, what: &str, frames: &str) -> Result<Order, ScriptFault> {
+    let (member, number) = (member(who)?, small(what)?);
+    Ok(Order::Offer {
+        member,
+        number,
+        tape: tape(alloc, frames)?,
+    })
+}
+
+/// What a name with these three words behind it asks for.
 fn order_of_three(
     alloc: Global,
     name: &str,
-    who: &str,
-    what: &str,
-    last: &str,
+    (who, what, last): (&str, &str, &str),
 ) -> Result<Order, ScriptFault> {
     match name {
-        "offer" => {
-            let (member, number) = (member(who)?, small(what)?);
-            Ok(Order::Offer {
-                member,
-                number,
-                tape: tape(alloc, last)?,
-            })
-        }
+        "offer" => offer(alloc, who, what, last),
         "recall" => recall(who, what, last),
         _ => Err(ScriptFault::BadLine),
     }
@@ -215,13 +216,10 @@ pub fn order_of(alloc: Global, line: &[u8]) -> Result<Order, ScriptFault> {
     };
     match (words.next(), words.next()) {
         (None, _) => order_of_two(text(name)?, text(first)?, text(second)?),
-        (Some(last), None) => order_of_three(
-            alloc,
-            text(name)?,
-            text(first)?,
-            text(second)?,
-            text(last)?,
-        ),
+        (Some(last), None) => {
+            let name = text(name)?;
+            order_of_three(alloc, name, (text(first)?, text(second)?, text(last)?))
+        }
         (Some(_), Some(_)) => Err(ScriptFault::BadLine),
     }
 }

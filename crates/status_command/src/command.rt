@@ -98,57 +98,70 @@ fn end_by(is_well: bool) -> End
     if is_well { End::Done } else { End::Input }
 }
 
-/// The same of the station of a configuration, by the status file that this names.
-fn status_from<W: Write, E: Write>(
+/// Which file has the status of the station of a configuration, if it names one.
+fn status_path(config: &Config) -> Option<&str> {
+    match &config.folders {
+        Some(folders) => match &folders.status {
+            Some(path) => Some(path.as_str()),
+            None => None,
+        },
+        None => None,
+    }
+}
+
+/// Tells how a station stands, and gives the end.
+fn status_of<W: Write, E: Write>(
     rt: &HostRuntime,
-    config: &Config,
-    shape: Shape,
+    asked: StatusPlan<'_>,
     out: &mut W,
     err: &mut E,
 ) -> End {
-    let named = match &config.folders {
-        Some(folders) => folders.status.as_ref(),
-        None => None,
-    };
-    let Some(path) = named else {
-        return StatusFault::Unnamed.tell("", err);
-    };
-    let path = path.as_str();
-    let asked = StatusPlan {
-        config,
-        path,
-        shape,
-    };
-    let told = match shape {
+    let told = match asked.shape {
         Shape::Watched => watch(rt, asked, out),
         Shape::Lines | Shape::Json => print(rt, asked, out),
     };
     match told {
         Ok(is_well) => end_by(is_well),
-        Err(fault) => fault.tell(path, err),
+        Err(fault) => fault.tell(asked.path, err),
     }
+}
+
+/// What `status` is asked: where the configuration of a station is, and in which shape it is told how that stands.
+#[derive(Clone, Copy)]
+pub struct StatusOrder<'a> {
+    pub config: &'a str,
+    pub shape: Shape,
 }
 
 /// Tells how the station of the configuration at a path stands, as the status file that this names tells, and whether it is well: it ends as
 /// done where it is, and as a fault of an input where it is not. Where nothing can be told it ends with 3.
 pub fn status<W: Write, E: Write>(
     rt: &HostRuntime,
-    config: &str,
-    shape: Shape,
+    order: StatusOrder<'_>,
     out: &mut W,
     err: &mut E,
 ) -> End {
+    let shape = order.shape;
     if matches!(shape, Shape::Watched) && !rt.stdout().is_terminal() {
         let _ = writeln!(err, "usage: --watch is for a terminal");
         return End::Usage;
     }
     // Which hosts the stations are on is not asked.
     let file = ConfigInput {
-        path: config,
-        input: InputFile::at(rt, config),
+        path: order.config,
+        input: InputFile::at(rt, order.config),
     };
-    match read_config(rt.alloc(), &NoLookUp, file, err) {
-        Ok(config) => status_from(rt, &config, shape, out, err),
-        Err(end) => end_of_config(end),
-    }
+    let config = match read_config(rt.alloc(), &NoLookUp, file, err) {
+        Ok(config) => config,
+        Err(end) => return end_of_config(end),
+    };
+    let Some(path) = status_path(&config) else {
+        return StatusFault::Unnamed.tell("", err);
+    };
+    let asked = StatusPlan {
+        config: &config,
+        path,
+        shape,
+    };
+    status_of(rt, asked, out, err)
 }

@@ -8,4 +8,4 @@ mod json;
 mod shown;
 mod watching;
 
-pub use command::{Shape, status};
+pub use command::{Shape, StatusOrder, status};
