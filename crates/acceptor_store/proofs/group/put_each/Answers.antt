@@ -1,6 +1,7 @@
 use Rattle.std.proofs.Common.{rules, ◌≡◌, Some, sym, ap, ◌∙◌, arith}
 use Rattle.std.specs.Prelude.{slice_get}
 use Rattle.std.proofs.lemmas.Option.{slice_get-get_or}
+use Rattle.std.proofs.lemmas.Result.{err_from_is_err_and}
 use Rattle.sqlite.specs.State.{HasCleanDisk}
 use Rattle.sqlite.specs.Held.{state}
 use Rattle.row_columns.specs.Layouts.{layout_of}
@@ -23,11 +24,12 @@ pub returns-in_err-put_in : goal.returns-in_err-put_in
 returns-in_err-put_in g c =
     let h = c.loop-item.invariant.1 in
     let puts = c.put_in.ensures.acts in
+    let p = err_from_is_err_and c.from_residual.result c.from_residual.ensures.1 in
     record {
       acts = record {
         same_reference = puts.same_reference ∙ c.loop-item.invariant.0;
-        done = λ clean. tt;
-        inside = λ clean begun. tt;
+        done = λ clean. rw p.1 tt;
+        inside = λ clean begun. rw p.1 tt;
         kept = λ clean begun.
             let early : HasCleanDisk (state g.S.Store c.loop-item.tx.conn.now) = omega (arith, puts.survives.clean, clean) in
             kept_then _ _ _ (h.kept early begun) (puts.kept clean (h.inside early begun));

@@ -12,3 +12,6 @@ pub returns-in-Some-clause-stored : goal.returns-in-Some-clause-stored
 returns-in-Some-clause-stored g c clean layout has =
     let some : station_in c.in-Ok.stations.items ≡ Some c.in-Some.station = search rules in
     same_station _ c.in-Ok.stations.items (c.in-Ok.ensures.listed clean layout has) ∙ some
+
+pub returns-in-Err-clause-leaves : goal.returns-in-Err-clause-leaves
+returns-in-Err-clause-leaves g c clean layout has = c.get_station.ensures.leaves layout clean has

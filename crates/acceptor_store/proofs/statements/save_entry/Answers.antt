@@ -1,7 +1,8 @@
-use Rattle.std.proofs.Common.{ℕ, subst₂}
+use Rattle.std.proofs.Common.{rules, ℕ, subst₂}
 use Rattle.sqlite_value.specs.Order.{Row as Columns}
 use Rattle.sqlite.specs.Held.{state}
 use Rattle.row_table.specs.Tables.Layout.{Second}
+use Rattle.row_table.specs.Tables.Origin.{Created}
 use Rattle.row_table.specs.Rows.{WasSaved}
 use Rattle.acceptor_store.proofs.statements.save_entry.Goals as goal
 
@@ -12,3 +13,17 @@ returns-in-Ok-put_entry-clause-saved g c origin serves clean =
 
 pub returns-in-Ok-put_entry-clause-serves : goal.returns-in-Ok-put_entry-clause-serves
 returns-in-Ok-put_entry-clause-serves g c origin = (c.put_entry.ensures origin).serves
+
+pub returns-in-Ok-put_entry-clause-clean : goal.returns-in-Ok-put_entry-clause-clean
+returns-in-Ok-put_entry-clause-clean g c = (c.put_entry.ensures Created).clean
+
+pub returns-clause-serves : goal.returns-clause-serves
+returns-clause-serves g c origin = (c.put_entry.ensures origin).serves
+
+pub returns-clause-err : goal.returns-clause-err
+returns-clause-err g c origin =
+    let kept = (c.put_entry.ensures origin).err in
+    search rules
+
+pub returns-clause-clean : goal.returns-clause-clean
+returns-clause-clean g c = (c.put_entry.ensures Created).clean
