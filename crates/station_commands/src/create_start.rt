@@ -6,7 +6,7 @@ ghost use Rattle.command_ends.specs.Ends.{IsOfWriting};
 ghost use Rattle.station_commands.specs.Creations.{layout_number, made_line, CreateEnds};
 
 use crate::host::{Host, ThisHost};
-use crate::start_up::{Ground, new_rows};
+use crate::start_up::{Ground, make_rows};
 use command_ends::{End, Fault};
 use configuration::{ConfigInput, NoLookUp, read_config};
 use row_files::{NewRows, RowFiles};
@@ -87,10 +87,10 @@ pub fn create<F: RowFiles, W: Write, E: Write>(
         Ok(config) => config,
         Err(end) => return end,
     };
-    let new = new_rows(&config, plan.version);
-    if let Err(refused) = ground.row_files.make(rt, new) {
-        return refused.tell(err);
-    }
+    let new = match make_rows(ground, &config, plan.version) {
+        Ok(new) => new,
+        Err(refused) => return refused.tell(err),
+    };
     match put_made(rt.alloc(), new, out) {
         Ok(()) => End::Done,
         Err(fault) => fault.tell(err),

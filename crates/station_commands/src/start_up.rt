@@ -1,6 +1,6 @@
 //! A station that starts from its configuration: the files that this names, its saved rows and its wire.
 
-ghost use Rattle.std.specs.Prelude.{◌≡◌, [], IfOk, option_map, string_bytes};
+ghost use Rattle.std.specs.Prelude.{◌≡◌, [], IfOk, OnOk, option_map, string_bytes};
 ghost use Rattle.configuration.specs.Reading.{file_of};
 ghost use Rattle.configuration.specs.Stations.{IsCircuit};
 ghost use Rattle.saved_rows.specs.Identity.{IsIdentity};
@@ -99,19 +99,28 @@ fn rows_of<H: Host, F: RowFiles>(
     }
 }
 
-/// The row file that a configuration names, as it is to be made: for its station, and in the layout for rows of this version.
-pub(crate) fn new_rows(config: &Config, version: Version) -> NewRows<'_>
+/// Makes the row file that a configuration names, for its station and in the layout for rows of this version, and tells what was
+/// made.
+///
+/// It is refused as [`RowFiles::make`] is.
+pub(crate) fn make_rows<'a, H: Host, F: RowFiles>(
+    ground: &Ground<'_, H, F>,
+    config: &'a Config,
+    version: Version,
+) -> Result<NewRows<'a>, RefusedRows>
     requires { IsCircuit config.now.member config.now.stations.items }
-    ensures path { result.path.now ≡ string_bytes config.now.rows }
-    ensures station { result.identity ≡ identity_of (file_of config.now) }
-    ensures is_one { IsIdentity result.identity }
-    ensures version { result.version ≡ version }
+    ensures made { OnOk result (F.leaves ground.now.row_files.now (string_bytes config.now.rows) (identity_of (file_of config.now)) version) }
+    ensures path { IfOk result (λ new. new.path.now ≡ string_bytes config.now.rows) }
+    ensures identity { IfOk result (λ new. new.identity ≡ identity_of (file_of config.now)) }
+    ensures version { IfOk result (λ new. new.version ≡ version) }
 {
-    NewRows {
+    let new = NewRows {
         path: &config.rows,
         identity: identity_of(config),
         version,
-    }
+    };
+    ground.row_files.make(ground.rt, new)?;
+    Ok(new)
 }
 
 /// Why there is no wire: there is no memory for it, or the socket can't be bound.
