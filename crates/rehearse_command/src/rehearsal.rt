@@ -1,15 +1,17 @@
 //! The command `rehearse`: a whole circuit in one process, driven by a script.
 
-ghost use Rattle.std.specs.Prelude.{◌≡◌, OnOk, OnErr, IfOk, IfErr, true, false};
+ghost use Rattle.std.specs.Prelude.{◌≡◌, ◌+◌, ◌≤◌, OnOk, OnErr, IfOk, IfErr, length, true, false};
 ghost use Rattle.std.specs.List.{All};
 ghost use Rattle.std.specs.Io.KnownBytes.{Appends};
 ghost use Rattle.streams.specs.Fronts.{AppendsFront};
 ghost use Rattle.command_ends.specs.Ends.{IsOfInput, end_of};
+ghost use Rattle.command_ends.specs.Writing.{Writes};
 ghost use Rattle.command_ends.specs.declared.end.End.TheVariants.{Done};
 ghost use Rattle.protocol.specs.Versions.{One};
 ghost use Rattle.tape_frames.specs.Entries.{version_of};
 ghost use Rattle.rehearse_command.specs.Orders.{step_of};
 ghost use Rattle.rehearse_command.specs.Rehearsals.{BeginsIn, BeginsOn, GoesOn, inputs, PlaysAll, PlaysFront, PlaysOn, PlaysStaged, Rehearses, StandsNew, Stops, StopsOn, StopsStaged, TurnsOn};
+ghost use Rattle.rehearse_command.specs.Scenes.{shown_text};
 
 use crate::scene_lines::{ShownStep, put_scene};
 use code_table::CodeTable;
@@ -146,6 +148,22 @@ fn stop_of(refusal: WorldRefusal) -> LineStop {
     }
 }
 
+/// Writes all that is seen of a step, whose lines are made in `line`.
+fn put_step<W: Write>(
+    alloc: Global,
+    line: &mut String,
+    step: &ShownStep<'_>,
+    out: &mut W,
+) -> Result<(), LineStop>
+    requires { step.now.before + length step.now.sent.now ≤ usize.MAX }
+    ensures { Writes result (W.contents out.old) (W.contents out.new) (shown_text step.now) }
+{
+    match put_scene(alloc, line, step, out) {
+        Ok(()) => Ok(()),
+        Err(fault) => Err(LineStop::Unwritten(fault)),
+    }
+}
+
 impl Rehearsal {
     /// Sets the stage anew with its members in this version, as long as it is new.
     fn turn_to(&mut self, setting: MemberSetting<'_>, version: Version) -> Result<(), LineStop>
@@ -181,10 +199,7 @@ impl Rehearsal {
                     sent: new_sent,
                     releases: new_releases,
                 };
-                match put_scene(alloc, &mut self.text, &shown, out) {
-                    Ok(()) => Ok(()),
-                    Err(fault) => Err(LineStop::Unwritten(fault)),
-                }
+                put_step(alloc, &mut self.text, &shown, out)
             }
             Err(refusal) => Err(stop_of(refusal)),
         }
