@@ -1,6 +1,6 @@
 //! The command `serve`: what a station is asked, and its turns.
 
-ghost use Rattle.std.specs.Prelude.{◌≡◌, IfOk};
+ghost use Rattle.std.specs.Prelude.{◌≡◌};
 ghost use Rattle.driver.specs.Driving.{DroveUpTo, IsTurn};
 ghost use Rattle.serve_command.specs.Serving.{ServesBy, IsOffer, IsWithdrawal, IsSearch, IsLaterAsking, IsAsking, AreTurns, IsRun};
 
@@ -11,33 +11,38 @@ use exchange::Intake;
 use row_groups::Settles;
 use saved_rows::Rows;
 use station::{Station, StepRefusal};
-use std::alloc::{AllocError, Global};
+use std::alloc::Global;
 use std::io::Write;
 use tape_frames::Tape;
 use wire::Wire;
 
-/// A station on a wire, with the room for what it takes in.
+/// A station on a wire.
 #[derive(Drop)]
 pub struct Machine<R: Settles, N: Wire + Drop> {
     alloc: Global,
     pub station: Station<R>,
     pub wire: N,
-    intake: Intake,
 }
 
 impl<R: Settles, N: Wire + Drop> Machine<R, N> {
-    /// This station on this wire. The room for what comes is made here.
-    pub fn new(alloc: Global, station: Station<R>, wire: N) -> Result<Machine<R, N>, AllocError>
-        ensures station { IfOk result (λ machine. machine.station ≡ station) }
-        ensures wire { IfOk result (λ machine. machine.wire ≡ wire) }
+    /// This station on this wire.
+    pub fn new(alloc: Global, station: Station<R>, wire: N) -> Machine<R, N>
+        ensures station { result.station ≡ station }
+        ensures wire { result.wire ≡ wire }
     {
-        Ok(Machine {
+        Machine {
             alloc,
             station,
             wire,
-            intake: Intake::new(alloc)?,
-        })
+        }
     }
+}
+
+/// A moment in milliseconds, and the room for what comes in it.
+#[derive(Drop)]
+pub struct Moment<'a> {
+    pub at: u64,
+    pub intake: &'a mut Intake,
 }
 
 /// One turn of a station at a moment in milliseconds: it takes in one datagram at most, and then sees to what is due.
@@ -48,24 +53,20 @@ impl<R: Settles, N: Wire + Drop> Machine<R, N> {
 /// can't be written; `err` has the fault.
 pub fn serve_turn<R: Settles, N: Wire + Drop, W: Write, E: Write>(
     machine: &mut Machine<R, N>,
-    now: u64,
+    moment: Moment<'_>,
     out: &mut W,
     err: &mut E,
 ) -> End
-    ensures { ServesBy (IsTurn now) result R.Rows R.Settles.is_settled N.passed W.contents machine.old machine.new out.old out.new }
+    ensures { ServesBy (IsTurn moment.entry.at) result R.Rows R.Settles.is_settled N.passed W.contents machine.old machine.new out.old out.new }
 {
+    let Moment { at, intake } = moment;
     let printer = Printer {
         alloc: machine.alloc,
         out,
     };
     let mut log = Log { err, quiet: false };
-    let mut driver = Driver::new(
-        &mut machine.station,
-        &mut machine.wire,
-        printer,
-        &mut machine.intake,
-    );
-    match driver.turn_at(now, &mut log) {
+    let mut driver = Driver::new(&mut machine.station, &mut machine.wire, printer, intake);
+    match driver.turn_at(at, &mut log) {
         Ok(()) => End::Done,
         Err(fault) => fault.tell(log.err),
     }
@@ -197,6 +198,9 @@ pub fn serve_run<R: Settles, N: Wire + Drop, W: Write, E: Write>(
     if machine.station.stopped() {
         return Fault::of_step(StepRefusal::Stopped).tell(err);
     }
+    let Ok(mut intake) = Intake::new(machine.alloc) else {
+        return Fault::OutOfMemory.tell(err);
+    };
     let printer = Printer {
         alloc: machine.alloc,
         out,
@@ -206,7 +210,7 @@ pub fn serve_run<R: Settles, N: Wire + Drop, W: Write, E: Write>(
         &mut machine.station,
         &mut machine.wire,
         printer,
-        &mut machine.intake,
+        &mut intake,
     );
     match ask_and_turn(&mut driver, task, &mut log) {
         Ok(()) => End::Done,

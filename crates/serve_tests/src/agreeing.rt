@@ -3,7 +3,9 @@
 use crate::plant::{OFFER, Plant, RELEASE, Run};
 use ballots::Member;
 use command_ends::End;
+use exchange::Intake;
 use saved_rows::MemoryRows;
+use std::alloc::Global;
 use wire::{Address, UdpWire};
 
 /// A socket at a free port of this machine, and the address of a member there.
@@ -51,9 +53,9 @@ fn three_posts<'a>(rt: &'a HostRuntime) -> Option<Vec<Post<'a>>> {
 }
 
 /// Whether each took a turn that ended well.
-fn take_a_turn<'a>(posts: &mut [Post<'a>]) -> bool {
+fn take_a_turn<'a>(posts: &mut [Post<'a>], intake: &mut Intake) -> bool {
     for post in posts.iter_mut() {
-        if post.turn() != End::Done {
+        if post.turn(intake) != End::Done {
             return false;
         }
     }
@@ -67,16 +69,17 @@ fn all_have_printed<'a>(posts: &[Post<'a>], out: &str) -> bool {
 }
 
 /// Whether each turn ended well, up to the one after which all have printed this, or 300.
-fn all_come_to<'a>(posts: &mut [Post<'a>], out: &str) -> bool {
+fn all_come_to<'a>(alloc: Global, posts: &mut [Post<'a>], out: &str) -> Option<bool> {
+    let mut intake = Intake::new(alloc).ok()?;
     for _ in 0..300 {
-        if !take_a_turn(posts) {
-            return false;
+        if !take_a_turn(posts, &mut intake) {
+            return Some(false);
         }
         if all_have_printed(posts, out) {
             break;
         }
     }
-    true
+    Some(true)
 }
 
 /// The offer of the story, and no turn.
@@ -91,16 +94,16 @@ fn offers<'a>(posts: &mut [Post<'a>]) -> bool {
 }
 
 /// Whether these agree on what the first offers, and none has a fault.
-fn come_to_agree<'a>(posts: &mut [Post<'a>]) -> bool {
+fn come_to_agree<'a>(alloc: Global, posts: &mut [Post<'a>]) -> bool {
     offers(posts)
-        && all_come_to(posts, RELEASE)
+        && all_come_to(alloc, posts, RELEASE) == Some(true)
         && posts.iter().all(|post| post.has_printed(RELEASE, ""))
 }
 
 /// Whether three stations agree.
 fn agree(rt: &HostRuntime) -> Option<bool> {
     let mut posts = three_posts(rt)?;
-    Some(come_to_agree(&mut posts))
+    Some(come_to_agree(rt.alloc(), &mut posts))
 }
 
 #[test]

@@ -1,9 +1,10 @@
 //! A station at work, and the steps that it is driven by.
 
 use command_ends::End;
+use exchange::Intake;
 use fixtures::{Given, frames_of};
 use row_groups::Settles;
-use serve_command::{Machine, ServeTask, serve_run, serve_turn};
+use serve_command::{Machine, Moment, ServeTask, serve_run, serve_turn};
 use station_fixtures::station_over;
 use std::alloc::Global;
 use tape_frames::{Tape, TapeFault};
@@ -99,7 +100,7 @@ impl<R: Settles, N: Wire + Drop> Plant<R, N> {
         let station = station_over(alloc, me, members, rows)?;
         Some(Plant {
             alloc,
-            machine: Machine::new(alloc, station, wire).ok()?,
+            machine: Machine::new(alloc, station, wire),
             out: Vec::new(alloc),
             err: Vec::new(alloc),
         })
@@ -126,8 +127,9 @@ impl<R: Settles, N: Wire + Drop> Plant<R, N> {
     }
 
     /// How one more turn ends. What it prints comes after what was printed before.
-    pub fn turn(&mut self) -> End {
-        let now = self.machine.wire.now();
-        serve_turn(&mut self.machine, now, &mut self.out, &mut self.err)
+    pub fn turn(&mut self, intake: &mut Intake) -> End {
+        let at = self.machine.wire.now();
+        let moment = Moment { at, intake };
+        serve_turn(&mut self.machine, moment, &mut self.out, &mut self.err)
     }
 }

@@ -65,7 +65,7 @@ fn ends<W: Write>(
 fn ends_over<W: Write>(alloc: Global, run: &Run, writer: &mut W) -> Option<bool> {
     let station = station_over(alloc, 1, 1, MemoryRows::new(alloc))?;
     let wire = Scripted::new(alloc, Manner::Whole);
-    let mut machine = Machine::new(alloc, station, wire).ok()?;
+    let mut machine = Machine::new(alloc, station, wire);
     ends(alloc, &mut machine, run, writer)
 }
 

@@ -7,7 +7,7 @@ use crate::host::{Host, ThisHost};
 use crate::keys::keys_of;
 use crate::plan::{making_of, offer_of};
 use crate::start_up::{Ground, Launch, Started, start};
-use command_ends::{End, Fault};
+use command_ends::End;
 use command_line::Plan;
 use configuration::{ConfigInput, Resolver, read_config};
 use row_files::{RowFiles, close_rows};
@@ -41,9 +41,7 @@ fn serve_from<F: RowFiles, W: Write, E: Write>(
         Ok(started) => started,
         Err(end) => return end,
     };
-    let Ok(mut machine) = Machine::new(alloc, station, wire) else {
-        return Fault::OutOfMemory.tell(err);
-    };
+    let mut machine = Machine::new(alloc, station, wire);
     let task = ServeTask {
         offer,
         withdraw: plan.withdraw,

@@ -152,7 +152,7 @@ fn serves<R: Settles>(
 /// The rows after such a run of a station over them, whose saves wait as those of the command do, and whether it ended well.
 pub fn served<R: SavesAll>(alloc: Global, rows: R, frames: &[u8]) -> Option<(R, bool)> {
     let station = station_over(alloc, Grouped::new(alloc, rows))?;
-    let mut machine = Machine::new(alloc, station, Still { moment: 0 }).ok()?;
+    let mut machine = Machine::new(alloc, station, Still { moment: 0 });
     let is_done = serves(alloc, &mut machine, frames)?;
     Some((machine.station.into_rows().into_rows(), is_done))
 }

@@ -10,7 +10,7 @@ pub returns-in-Ok : goal.returns-in-Ok
 returns-in-Ok g c =
     let k = known g.R.Rows g.R.Settles.is_settled g.N.Wire.passed (prints g.W.Write.contents) in
     let last = c.turn_at.new.self in
-    let form = IsTurn c.args.now in
+    let form = IsTurn c.args.moment.at in
     let drove = c.in-Ok.ensures in
     let was = post c.args.machine.now.station c.args.machine.now.wire c.args.out.now in
     let there = post last.station.now last.wire.now last.sink.out.now in
@@ -31,7 +31,7 @@ pub returns-in-Err : goal.returns-in-Err
 returns-in-Err g c =
     let k = known g.R.Rows g.R.Settles.is_settled g.N.Wire.passed (prints g.W.Write.contents) in
     let last = c.turn_at.new.self in
-    let form = IsTurn c.args.now in
+    let form = IsTurn c.args.moment.at in
     let drove = c.in-Err.ensures in
     let was = post c.args.machine.now.station c.args.machine.now.wire c.args.out.now in
     let there = post last.station.now last.wire.now last.sink.out.now in
