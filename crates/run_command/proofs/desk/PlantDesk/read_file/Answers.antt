@@ -9,8 +9,19 @@ use Rattle.run_command.proofs.Lives.{dealt}
 use Rattle.run_command.proofs.Wishes.{put_off_still}
 use Rattle.run_command.proofs.desk.PlantDesk.read_file.Goals as goal
 
-pub returns-in-Ok : goal.returns-in-Ok
-returns-in-Ok g c =
+pub returns-then-replaced : goal.returns-then-replaced
+returns-then-replaced g c =
+    let it = c.args.self.now in
+    let doings = g.F.Folders.doings in
+    let last = c.read-read.new.folders in (
+      (refl, refl),
+      dealt it.plant.now.texts doings it.folders.now last it.plant.now.waits.items it.plant.now.papers.book c.was_read.new.self
+          (deals_read it.plant.now.texts FolderFault (doings it.folders.now) (doings last) it.plant.now.waits.items c.args.found.now.request c.read-read.result c.in-Ok.wish it.plant.now.papers.book c.was_read.new.self c.in-Ok.is c.read-read.ensures
+          (ap (λ b. b.files) c.was_read.ensures) (ap (λ b. b.released) c.was_read.ensures)),
+    )
+
+pub returns-else-replaced : goal.returns-else-replaced
+returns-else-replaced g c =
     let it = c.args.self.now in
     let doings = g.F.Folders.doings in
     let last = c.read-read.new.folders in (
