@@ -1,8 +1,8 @@
 //! The command `spell`: the text of a tape.
 
-ghost use Rattle.std.specs.Prelude.{◌≡◌, OnOk, IfOk, IfErr};
+ghost use Rattle.std.specs.Prelude.{◌≡◌, OnOk, IfErr};
 ghost use Rattle.code_table.specs.Tables.{mean};
-ghost use Rattle.editor_commands.specs.Ends.{end_in};
+ghost use Rattle.editor_commands.specs.Ends.{end_in, Gives};
 ghost use Rattle.editor_commands.specs.SpelledAs.{text_in, WasSpelled, BreaksOffSpelling, Spells};
 
 use crate::cause::EditorFault;
@@ -11,7 +11,7 @@ use crate::outputs::put_whole;
 use crate::punching::StoryPaths;
 use code_table::CodeTable;
 use command_ends::{End, Fault, read_table, read_text};
-use std::alloc::{AllocError, Global};
+use std::alloc::Global;
 use std::io::{Read, Write};
 use std::marker::Model;
 use tape_frames::Tape;
@@ -44,12 +44,21 @@ impl<'a, R: Read + Drop, S: Read + Drop> Model for SpellOrder<'a, R, S> {
 }
 
 /// The text of a tape in a form.
-fn text_of(alloc: Global, table: &CodeTable, tape: &Tape, form: Form) -> Result<Vec<u8>, AllocError>
-    ensures { IfOk result (λ text. text.items ≡ text_in form (mean table.now) tape.now) }
+fn text_of<'a>(
+    alloc: Global,
+    table: &CodeTable,
+    tape: &Tape,
+    form: Form,
+) -> Result<Vec<u8>, EditorFault<'a>>
+    ensures { Gives result (λ text. text.items ≡ text_in form (mean table.now) tape.now) }
 {
-    match form {
+    let text = match form {
         Form::Punchable => spell_tape(alloc, table, tape),
         Form::Plain => spell_plainly(alloc, table, tape),
+    };
+    match text {
+        Ok(text) => Ok(text),
+        Err(_) => Err(EditorFault::Other(Fault::OutOfMemory)),
     }
 }
 
@@ -77,10 +86,8 @@ fn write_text<'a, R: Read + Drop, S: Read + Drop, W: Write>(
         Err(fault) => return Err(EditorFault::Other(fault)),
     };
     let tape = tape_of(alloc, &bytes)?;
-    match text_of(alloc, &table, &tape, form) {
-        Ok(text) => put_whole(&text, out),
-        Err(_) => Err(EditorFault::Other(Fault::OutOfMemory)),
-    }
+    let text = text_of(alloc, &table, &tape, form)?;
+    put_whole(&text, out)
 }
 
 /// Spells a tape by a code table: writes its text in a form.
