@@ -1,6 +1,7 @@
 //! The command `serve`: what a station is asked, and its turns.
 
 ghost use Rattle.std.specs.Prelude.{◌≡◌};
+ghost use Rattle.exchange.specs.Events.{ended};
 ghost use Rattle.driver.specs.Driving.{DroveUpTo, IsTurn};
 ghost use Rattle.serve_command.specs.Serving.{ServesBy, IsOffer, IsWithdrawal, IsSearch, IsLaterAsking, IsAsking, AreTurns, IsRun};
 
@@ -45,6 +46,16 @@ pub struct Moment<'a> {
     pub intake: &'a mut Intake,
 }
 
+/// How what was done up to this result ends. A fault is told.
+fn end_after<E: Write>(done: Result<(), Fault<'static>>, err: &mut E) -> End
+    ensures { result ≡ ended done.entry }
+{
+    match done {
+        Ok(()) => End::Done,
+        Err(fault) => fault.tell(err),
+    }
+}
+
 /// One turn of a station at a moment in milliseconds: it takes in one datagram at most, and then sees to what is due.
 ///
 /// What the station hands out is sent, and a release is written, once what it saved is stored. A datagram that it refuses is passed over, a
@@ -66,10 +77,8 @@ pub fn serve_turn<R: Settles, N: Wire + Drop, W: Write, E: Write>(
     };
     let mut log = Log { err, quiet: false };
     let mut driver = Driver::new(&mut machine.station, &mut machine.wire, printer, intake);
-    match driver.turn_at(at, &mut log) {
-        Ok(()) => End::Done,
-        Err(fault) => fault.tell(log.err),
-    }
+    let done = driver.turn_at(at, &mut log);
+    end_after(done, log.err)
 }
 
 /// What a station under `serve` does: what it is asked, as far as it is given, and how many turns it takes then.
