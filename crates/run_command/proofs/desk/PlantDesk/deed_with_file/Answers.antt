@@ -25,7 +25,7 @@ returns-in-Some-Leave g c =
       dealt it.plant.now.texts doings it.folders.now last w it.plant.now.papers.book new.book
           (deals_from it.plant.now.texts (doings it.folders.now) (doings last) w it.plant.now.papers.book chose.book new.book c.next_task.ensures.book
           (deals_left it.plant.now.texts (doings it.folders.now) (doings last) w c.is_empty.result c.in-Some-Leave.departure chose.book new.book
-          (λ moves. no_items w (vec_len it.plant.now.waits) count (sym c.is_empty.ensures ∙ moves)) c.leave.ensures c.in-Some-Leave.ensures.free)),
+          (λ moves. no_items w (vec_len it.plant.now.waits) count (sym c.is_empty.ensures ∙ moves)) c.leave.ensures (rw c.in-Some-Leave.field-0-is at c.in-Some-Leave.ensures.free))),
     )
 
 pub returns-in-Some-Read : goal.returns-in-Some-Read
