@@ -12,3 +12,6 @@ loop-index-preserved g c = λ by set_up.
 
 pub returns-clause-ok : goal.returns-clause-ok
 returns-clause-ok g c = λ by set_up. staged_rehearsed by (g.W.Write.contents c.args.out.now) (g.W.Write.contents c.loop-index.out) c.loop-index.stage (c.loop-index.invariant by set_up)
+
+pub returns-in-Err-clause-err : goal.returns-in-Err-clause-err
+returns-in-Err-clause-err g c = λ by set_up. c.in-Err.ensures.stops by (g.W.Write.contents c.args.out.now) set_up (c.loop-index.invariant by set_up)
