@@ -160,6 +160,25 @@ idle_behind t rows is_settled passed doings s w f g end same cause =
       form = λ done. tt;
     }
 
+-- a run over folders of which the same is told is one from there on
+pub behind : {R N F : Type 0} (t : Texts) (rows : Ghosts R) (is_settled : R → Type 0) (passed : N → Trace) (doings : F → Option (List Doing)) (s u : Station R) (w v : N) (f g h : F) (end : End)
+    → doings g ≡ doings f → Drove (known rows is_settled passed (tells t doings)) (post s w g) (post u v h) end Anyhow → Drove (known rows is_settled passed (tells t doings)) (post s w f) (post u v h) end Anyhow
+behind t rows is_settled passed doings s u w v f g h end same d =
+    let from : (log : List Event) → Tells t doings g h log → Tells t doings f h log =
+    λ log p. record { story = p.story; events = p.events; does = subst (λ b. Does b (doings h) (doings_of p.story)) same p.does; front = p.front; ordered = p.ordered } in
+    record {
+      log = d.log;
+      driven = record {
+        steps = d.driven.steps;
+        passes = d.driven.passes;
+        waits = d.driven.waits;
+        front = from d.log d.driven.front;
+        whole = λ done. from d.log (d.driven.whole done);
+        cause = d.driven.cause;
+      };
+      form = d.form;
+    }
+
 -- a run in which nothing happened
 pub idle : {R N F : Type 0} (t : Texts) (rows : Ghosts R) (is_settled : R → Type 0) (passed : N → Trace) (doings : F → Option (List Doing)) (s : Station R) (w : N) (f : F) (end : End)
     → HasCause [] s.stopped s.stopped end → Drove (known rows is_settled passed (tells t doings)) (post s w f) (post s w f) end Anyhow

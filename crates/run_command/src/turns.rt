@@ -14,7 +14,7 @@ use exchange::Intake;
 use folders::{FolderFault, Folders, STOP};
 use gone_out::{Known, Origin};
 use log_terms::Loudness;
-use plant_care::{CareStart, begin};
+use plant_care::{Care, CareStart, begin};
 use plant_log::tell_fault;
 use plant_status::{StationId, StatusFile};
 use row_groups::Settles;
@@ -57,6 +57,55 @@ fn remove_stop<F: Folders, E: Write>(alloc: Global, folders: &mut F, err: &mut E
     }
 }
 
+/// With what a plant begins that catches up and has room for what comes.
+#[derive(Drop)]
+struct Outset<'a, E: Write, S: StatusFile + Drop> {
+    alloc: Global,
+    manner: Manner,
+    /// By which code table texts among the offers become tapes; by none where no text may be offered.
+    texts: Option<CodeTable>,
+    care: Box<Care>,
+    intake: Intake,
+    /// Where its status lies.
+    file: S,
+    err: &'a mut E,
+    /// Whether faults alone are told.
+    is_quiet: bool,
+}
+
+/// Takes a file away that ended the run before, and drives the station until its run is over.
+fn drive<R: Settles, N: Wire, F: Folders, E: Write, S: StatusFile + Drop>(
+    station: &mut Station<R>,
+    wire: &mut N,
+    folders: &mut F,
+    outset: Outset<'_, E, S>,
+) -> End
+    ensures was_kept { R.kept station.new.rows → R.kept station.old.rows }
+    ensures runs { RunsUpTo outset.entry.texts result R.Rows R.Settles.is_settled N.passed F.doings station.old station.new wire.old wire.new folders.old folders.new }
+{
+    let Outset {
+        alloc,
+        manner,
+        texts,
+        care,
+        mut intake,
+        mut file,
+        err,
+        is_quiet,
+    } = outset;
+    remove_stop(alloc, folders, err);
+    let waits = Vec::new(alloc);
+    let papers = Papers::new(alloc, manner, care);
+    let mut plant = Plant {
+        waits,
+        texts,
+        papers,
+    };
+    let desk = PlantDesk::new(folders, &mut plant, &mut file);
+    let mut driver = Driver::new(station, wire, desk, &mut intake);
+    driver.run(alloc, err, is_quiet)
+}
+
 /// Runs a station over the folders of its plant, until a file `stop` lies among the offers, or the station stops, the network
 /// fails, or there is no memory for the files of a release; `err` has the fault. A file `stop` that lies there at the start is
 /// taken away. The room for what comes is made before the first turn.
@@ -93,22 +142,21 @@ pub fn run_station<R: Settles, N: Wire, F: Folders, E: Write, S: StatusFile + Dr
     if station.stopped() {
         return Fault::of_step(StepRefusal::Stopped).tell(terms.err);
     }
-    let Ok(mut intake) = Intake::new(alloc) else {
+    let Ok(intake) = Intake::new(alloc) else {
         return Fault::OutOfMemory.tell(terms.err);
     };
     let Ok(care) = begin(start, folders, terms.err) else {
         return Fault::OutOfMemory.tell(terms.err);
     };
-    remove_stop(alloc, folders, terms.err);
-    let mut file = terms.file;
-    let waits = Vec::new(alloc);
-    let papers = Papers::new(alloc, manner, care);
-    let mut plant = Plant {
-        waits,
+    let outset = Outset {
+        alloc,
+        manner,
         texts: terms.texts,
-        papers,
+        care,
+        intake,
+        file: terms.file,
+        err: terms.err,
+        is_quiet,
     };
-    let desk = PlantDesk::new(folders, &mut plant, &mut file);
-    let mut driver = Driver::new(station, wire, desk, &mut intake);
-    driver.run(alloc, terms.err, is_quiet)
+    drive(station, wire, folders, outset)
 }
