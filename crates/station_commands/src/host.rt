@@ -5,7 +5,7 @@ ghost use Rattle.wire.specs.declared.address.Address.{Address as AddressValue};
 ghost use Rattle.seals.specs.declared.opening.Keys.{Keys as KeysValue};
 ghost use Rattle.station_commands.specs.Wires.{IsHostWire};
 
-use crate::host_wire::{HostWire, bind_wire};
+use crate::host_wire::HostWire;
 use seals::Keys;
 use std::io;
 use std::io::Read;
@@ -65,6 +65,6 @@ impl<'a> Host for ThisHost<'a> {
         stations: Vec<Address>,
         keys: Option<Keys>,
     ) -> io::Result<HostWire<'a>> {
-        bind_wire(self.rt, own, stations, keys)
+        HostWire::bind(self.rt, own, stations, keys)
     }
 }

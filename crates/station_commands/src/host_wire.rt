@@ -1,27 +1,77 @@
 //! The wire of the machine that the program runs on.
 
-ghost use Rattle.std.specs.Prelude.{IfOk};
-ghost use Rattle.station_commands.specs.Wires.{IsHostWire};
+ghost use Rattle.std.specs.Prelude.{[], ◌∷◌, IfOk, length};
+ghost use Rattle.station_commands.specs.Wires.{IsHostWire, host_passed};
+ghost use Rattle.wire.specs.Arrival.{Fits, came_by};
+ghost use Rattle.wire.specs.Passing.{Passes, sent, told};
 
 use crate::host_door::{HostDoor, door_of};
+use ballots::Member;
 use seals::Keys;
 use std::io;
 use std::net::UdpSocket;
-use wire::{Address, GuardedWire};
+use wire::{Address, Arrival, GuardedWire, Strangers, Wire};
 
 /// A UDP socket of this machine, behind the door of a station without a key, or of one with keys.
-pub type HostWire<'a> = GuardedWire<'a, HostRuntime, HostDoor, UdpSocket>;
+#[derive(Drop)]
+pub struct HostWire<'a> {
+    wire: GuardedWire<'a, HostRuntime, HostDoor, UdpSocket>,
+}
 
-/// A wire at the own address, that sends to these stations, in order of members from 1, and takes what comes of them alone: sealed under
-/// these keys where there are such, and else as it is.
-pub(crate) fn bind_wire<'a>(
-    rt: &'a HostRuntime,
-    own: &Address,
-    stations: Vec<Address>,
-    keys: Option<Keys>,
-) -> io::Result<HostWire<'a>>
-    ensures { IfOk result (λ wire. IsHostWire wire own.now stations.items keys) }
-{
-    let door = door_of(own, stations, keys)?;
-    GuardedWire::behind(rt, rt, own, door)
+impl<'a> HostWire<'a> {
+    /// A socket at the own address, that sends to these stations, in order of members from 1, and takes what comes of them alone: sealed
+    /// under these keys where there are such, and else as it is.
+    pub(crate) fn bind(
+        rt: &'a HostRuntime,
+        own: &Address,
+        stations: Vec<Address>,
+        keys: Option<Keys>,
+    ) -> io::Result<HostWire<'a>>
+        ensures { IfOk result (λ wire. IsHostWire wire own.now stations.items keys) }
+    {
+        let door = door_of(own, stations, keys)?;
+        let wire = GuardedWire::behind(rt, rt, own, door)?;
+        Ok(HostWire { wire })
+    }
+}
+
+impl<'a> Wire for HostWire<'a> {
+    ghost passed = { host_passed };
+
+    fn fetch(&mut self) -> bool
+        ensures passes { Passes (host_passed self.old) (host_passed self.new) [] }
+    {
+        self.wire.fetch()
+    }
+
+    fn receive(&mut self, buffer: &mut [u8]) -> Arrival
+        ensures fits { Fits result (length buffer.new) }
+        ensures passes { Passes (host_passed self.old) (host_passed self.new) (came_by result buffer.new) }
+    {
+        self.wire.receive(buffer)
+    }
+
+    fn send(&mut self, to: Member, bytes: &[u8]) -> bool
+        ensures passes { Passes (host_passed self.old) (host_passed self.new) (sent to bytes.now ∷ []) }
+    {
+        self.wire.send(to, bytes)
+    }
+
+    fn now(&mut self) -> u64
+        ensures passes { Passes (host_passed self.old) (host_passed self.new) (told result ∷ []) }
+    {
+        self.wire.now()
+    }
+
+    fn strangers(&mut self, now: u64) -> Option<Strangers>
+        ensures passes { Passes (host_passed self.old) (host_passed self.new) [] }
+    {
+        self.wire.strangers(now)
+    }
+
+    fn lost(&mut self, now: u64) -> Option<u64>
+        ensures passes { Passes (host_passed self.old) (host_passed self.new) [] }
+    {
+        self.wire.lost(now)
+    }
 }
