@@ -1,17 +1,18 @@
 -- The packets to the others, member by member.
-use Rattle.std.proofs.Common.{◌≡◌, ◌≤◌, ◌<◌, ℕ, zero, suc, ◌+◌, refl, sym, ap, ◌∙◌, List, [], ◌∷◌, ◌++◌, Option, Some, None, Bool, true, false, length, arith, length-append}
+use Rattle.std.proofs.Common.{◌≡◌, ◌⊎◌, inl, inr, ◌≤◌, ◌<◌, ℕ, zero, suc, ◌+◌, refl, sym, ap, subst, ◌∙◌, List, [], ◌∷◌, ◌++◌, Option, Some, None, Bool, true, false, length, arith, length-append}
 use Rattle.std.specs.Prelude.{filter, not, slice_get, option_map, is_some, ◌==◌, ◌-◌, ◌*◌}
 use Rattle.std.proofs.lemmas.Bool.{eqb-true, eqb-false, ne_eqb, eq-eqb}
 use Rattle.std.proofs.lemmas.List.{length-map}
 use Rattle.std.proofs.lemmas.List.Elements.{filter-append}
 use Rattle.std.proofs.lemmas.Option.{slice_get-map, slice_get_past, slice_get_within}
 use Rattle.protocol.specs.Ballots.{Ballot, members}
+use Rattle.protocol.specs.Entries.{Entry}
 use Rattle.protocol.specs.Rows.{Vote}
 use Rattle.protocol.specs.Packets.{Packet, Body, Prepare, Accept, Accepted}
-use Rattle.protocol.specs.Turn.{packet_to, others, to_others}
+use Rattle.protocol.specs.Turn.{packet_to, others, to_others, proposal_to_others}
 use Rattle.messages.specs.Rules.{keeps_rules, kind_of, may_send, may_say}
 use Rattle.protocol.specs.Seats.{Seat}
-use Rattle.mail.specs.Mails.{Mail, letter_sends, mail_sends}
+use Rattle.mail.specs.Mails.{Mail, SaysTheSame, letter_sends, mail_sends}
 use Rattle.mail.specs.declared.letter.Letter.{Letter}
 use Rattle.mail.specs.declared.letter.Letter.TheVariants as letters
 
@@ -193,3 +194,52 @@ proposal_many o None m sends count is some letter has many = let bad : false ≡
 proposal_many o (Some u) m sends count is some letter has many =
     let whole : length sends ≡ length (others m.seat) + length (others m.seat) = ap length (letter_is o (Some u) m sends letters.Proposal is some letter) ∙ two_sent m.seat m.number m.ballot (Accept u.entry) (Accepted u.entry) in
     omega arith
+
+-- ---- what says the same
+
+-- a packet says the same as itself
+pub itself : (packets : List Packet) (place : ℕ) → SaysTheSame packets place place
+itself packets place p q first second = let same : p ≡ q = some_is p q (sym first ∙ second) in subst (λ (x : Packet). p ≡ record x { to = p.to }) same refl
+  where
+    some_is : (x y : Packet) → Some x ≡ Some y → x ≡ y
+    some_is x y e = cc
+
+module _ (s : Seat) (n : ℕ) (b : Ballot) where
+  -- what stands among the packets of one body
+  one_of : (body : Body) (i : ℕ) (p : Packet) → slice_get (to_others s n b body) i ≡ Some p → p ≡ packet_to s n b body p.to
+  one_of body i p h = picked (slice_get (others s) i) (sym (slice_get-map (packet_to s n b body) (others s) i) ∙ h)
+    where
+      picked : (to : Option ℕ) → option_map (packet_to s n b body) to ≡ Some p → p ≡ packet_to s n b body p.to
+      picked None e = absurd cc
+      picked (Some to) e = let is : packet_to s n b body to ≡ p = cc in subst (λ (x : Packet). x ≡ packet_to s n b body x.to) is refl
+
+  pub said_alike : (body : Body) (i j : ℕ) → SaysTheSame (to_others s n b body) i j
+  said_alike body i j p q first second = one_of body i p first ∙ sym (ap (λ (x : Packet). record x { to = p.to }) (one_of body j q second))
+
+  pub accepts_alike : (entry : Entry) (count place : ℕ) → count ≡ length (others s) → place < count → SaysTheSame (proposal_to_others s n b entry) 0 place
+  accepts_alike entry count place is before p q first second =
+      said_alike (Accept entry) 0 place p q (sym (proposed_first s n b (Accept entry) (Accepted entry) count 0 is (omega arith)) ∙ first)
+      (sym (proposed_first s n b (Accept entry) (Accepted entry) count place is before) ∙ second)
+
+  pub news_alike : (entry : Entry) (count place : ℕ) → count ≡ length (others s) → count ≤ place → SaysTheSame (proposal_to_others s n b entry) count place
+  news_alike entry count place is behind p q first second =
+      said_alike (Accepted entry) (count - count) (place - count) p q (sym (proposed_second s n b (Accept entry) (Accepted entry) count count is (omega arith)) ∙ first)
+      (sym (proposed_second s n b (Accept entry) (Accepted entry) count place is behind) ∙ second)
+
+  -- of the letters whose packets all say the same
+  pub vote_alike : (vote : Option Vote) (i j : ℕ) → SaysTheSame (letter_sends s n b vote letters.Vote) i j
+  vote_alike None i j = λ p q first second. absurd cc
+  vote_alike (Some v) i j = said_alike (Accepted v.entry) i j
+
+-- of what a mail sends
+alike_in :
+    (o : Option Mail) (v : Option Vote) (m : Mail) (sends : List Packet) (letter : Letter) (i j : ℕ) → mail_sends o v ≡ sends → o ≡ Some m → m.letter ≡ letter
+    → SaysTheSame (letter_sends m.seat m.number m.ballot v letter) i j → SaysTheSame sends i j
+alike_in o v m sends letter i j is some same alike = subst (λ (packets : List Packet). SaysTheSame packets i j) (sym (letter_is o v m sends letter is some same)) alike
+
+pub each_alike :
+    (o : Option Mail) (v : Option Vote) (m : Mail) (sends : List Packet) (letter : Letter) (i j : ℕ) → mail_sends o v ≡ sends → o ≡ Some m → letter ≡ m.letter
+    → (letter ≡ letters.Prepare) ⊎ (letter ≡ letters.Vote) → SaysTheSame sends i j
+each_alike o v m sends letter i j is some same (inl prepare) =
+    alike_in o v m sends letters.Prepare i j is some (sym same ∙ prepare) (said_alike m.seat m.number m.ballot Prepare i j)
+each_alike o v m sends letter i j is some same (inr vote) = alike_in o v m sends letters.Vote i j is some (sym same ∙ vote) (vote_alike m.seat m.number m.ballot v i j)

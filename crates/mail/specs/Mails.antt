@@ -1,5 +1,5 @@
 -- What goes out with a turn.
-use Rattle.std.specs.Prelude.{◌≡◌, ◌≤◌, ℕ, List, [], ◌∷◌, Option, Some, None, IsTrue, length, if◌then◌else◌}
+use Rattle.std.specs.Prelude.{◌≡◌, ◌≤◌, ℕ, List, [], ◌∷◌, Option, Some, None, IsTrue, length, slice_get, if◌then◌else◌}
 use Rattle.protocol.specs.Ballots.{Ballot, is_below}
 use Rattle.protocol.specs.Entries.{Entry}
 use Rattle.protocol.specs.Rows.{Vote}
@@ -54,3 +54,7 @@ MayGo s n b (letters.Nack to promised) = IsTrue (keeps_rules (packet_to s n b (N
 -- two packets go out to each of 14 others at most
 abbrev pub IsFew : Option Mail → Type 0
 IsFew mail = (vote : Option Vote) → length (mail_sends mail vote) ≤ most_sent
+
+-- what stands at the first place says the same as what stands at the other, to another member
+abbrev pub SaysTheSame : List Packet → ℕ → ℕ → Type 0
+SaysTheSame packets first place = (p q : Packet) → slice_get packets first ≡ Some p → slice_get packets place ≡ Some q → p ≡ record q { to = p.to }

@@ -1,13 +1,14 @@
 //! The packets of a letter, each at its place.
 
 ghost use Rattle.std.specs.Prelude.{◌≡◌, ℕ, ◌≤◌, ◌<◌, ◌+◌, ◌∷◌, [], Some, IsTrue, length, slice_get};
+ghost use Rattle.protocol.specs.Entries.{Entry};
 ghost use Rattle.protocol.specs.Packets.{Accepted};
 ghost use Rattle.protocol.specs.Turn.{packet_to, to_others, proposal_to_others, others};
 ghost use Rattle.protocol.specs.Limits.{most_members};
 ghost use Rattle.messages.specs.Bodies.{said};
 ghost use Rattle.tape_frames.specs.Entries.{lent_entry};
 ghost use Rattle.messages.specs.Rules.{keeps_rules, may_send, kind_of, may_say};
-ghost use Rattle.mail.specs.Mails.{MayGo, IsFew, of_entry};
+ghost use Rattle.mail.specs.Mails.{MayGo, IsFew, SaysTheSame, of_entry};
 
 use crate::letter::Letter;
 use crate::seat::Seat;
@@ -196,5 +197,17 @@ impl Mail {
             return self.to_other(place, BodyRef::Accept { entry });
         }
         self.to_other(place - others, BodyRef::Accepted { entry })
+    }
+
+    /// The place of the first packet of a proposal that says the same as the one at this place: the Accepts stand before the news.
+    pub(crate) fn first_of_proposal(&self, place: usize) -> usize
+        ensures first { result ≤ place }
+        ensures same { (entry : Entry) → SaysTheSame (proposal_to_others self.now.seat self.now.number self.now.ballot entry) result place }
+    {
+        let others = self.others();
+        if place < others {
+            return 0;
+        }
+        others
     }
 }

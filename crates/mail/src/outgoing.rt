@@ -1,7 +1,7 @@
 //! What goes out with a turn, packet by packet. It owns no entry: what it tells is the vote of the row after the turn, lent from there.
 
-ghost use Rattle.std.specs.Prelude.{◌≡◌, length, slice_get, option_copied};
-ghost use Rattle.mail.specs.Mails.{vote_below, mail_sends};
+ghost use Rattle.std.specs.Prelude.{◌≡◌, ◌≤◌, length, slice_get, option_copied};
+ghost use Rattle.mail.specs.Mails.{vote_below, mail_sends, SaysTheSame};
 
 use crate::letter::Letter;
 use crate::mail::Mail;
@@ -100,6 +100,22 @@ impl<'a> Outgoing<'a> {
                 mail.reply(place, to, BodyRef::Promise { report })
             }
             (Letter::Nack { to, promised }, _) => mail.reply(place, to, BodyRef::Nack { promised }),
+        }
+    }
+
+    /// The place of the first packet that says the same as the one at this place, to whatever member: no later than this place. What goes
+    /// to all others says the same to each, so it has to be spelled once.
+    pub fn first_alike(&self, place: usize) -> usize
+        ensures first { result ≤ place }
+        ensures same { SaysTheSame self.now result place }
+    {
+        let Some(mail) = &self.mail else {
+            return place;
+        };
+        match mail.letter() {
+            Letter::Prepare | Letter::Vote => 0,
+            Letter::Proposal => mail.first_of_proposal(place),
+            Letter::VoteTo { .. } | Letter::Promise { .. } | Letter::Nack { .. } => place,
         }
     }
 }

@@ -7,4 +7,5 @@ pub mod Taken
 pub mod Saying
 pub mod Unique
 pub mod Lengths
+pub mod Alike
 mod Speaking

@@ -114,6 +114,10 @@ pub record Spells (v : Version) (bytes : List ℕ) (p : Packet) : Type 0 where
   pub spells_body : SpellsBody v body p.body
   pub rules : IsTrue (keeps_rules p)
 
+-- the bytes spell what says the same, to whatever member
+abbrev pub SpellsAlike : Version → List ℕ → Packet → Type 0
+SpellsAlike v bytes p = (to : ℕ) × Spells v bytes (record p { to = to })
+
 -- the bytes spell the packet in a version that a station of this version reads: at version 1 in that alone, at version 2 in either
 abbrev pub SpellsAt : Version → List ℕ → Packet → Type 0
 SpellsAt One bytes p = Spells One bytes p
@@ -131,6 +135,14 @@ IsBody (Promise (Some vote)) = IsBallot vote.ballot × IsEntry vote.entry
 IsBody (Accept entry) = IsEntry entry
 IsBody (Accepted entry) = IsEntry entry
 IsBody (Nack promised) = IsBallot promised
+
+-- each number of the header is in its range
+pub record IsHeader (p : Packet) : Type 0 where
+  pub circuit : p.circuit < 65536
+  pub from : IsMember most_members p.from
+  pub to : IsMember most_members p.to
+  pub number_low : 1 ≤ p.number
+  pub number_high : p.number ≤ last_number
 
 -- what has a spelling in some version: each field is in its range, and the rules are kept
 pub record IsPacket (p : Packet) : Type 0 where

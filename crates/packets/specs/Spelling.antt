@@ -30,6 +30,10 @@ abbrev pub header_bytes : Version → PacketKind → ℕ → ℕ → ℕ → ℕ
 header_bytes v kind circuit from to number =
     84 ∷ 78 ∷ number_of_version v ∷ kind_byte kind ∷ [] ++ to_be_bytes w16 circuit ++ from ∷ to ∷ [] ++ to_be_bytes w32 number
 
+-- the header of a packet as far as the ballot
+abbrev pub header_of : Version → Packet → List ℕ
+header_of v p = header_bytes v (kind_of p.body) p.circuit p.from p.to p.number
+
 -- frames: one a byte in version 1, packed in version 2
 abbrev pub frame_bytes : Version → List ℕ → List ℕ
 frame_bytes One frames = frames

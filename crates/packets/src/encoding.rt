@@ -1,6 +1,6 @@
 //! Writing a packet as bytes.
 
-ghost use Rattle.std.specs.Prelude.{◌≡◌, ◌++◌, ◌≤◌, ◌+◌, List, ℕ, length, IfOk, OnOk, Ok};
+ghost use Rattle.std.specs.Prelude.{◌≡◌, ◌++◌, ◌∷◌, ◌≤◌, ◌+◌, List, ℕ, length, take, drop, IfOk, IfSome, OnOk, Ok};
 ghost use Rattle.tape_frames.specs.Frames.{most_frames};
 ghost use Rattle.tape_frames.specs.Entries.{IsEntry, lent_entry, version_of};
 ghost use Rattle.protocol.specs.Ballots.{IsBallot};
@@ -8,14 +8,14 @@ ghost use Rattle.protocol.specs.Fitting.{BodyFits};
 ghost use Rattle.protocol.specs.Packets.{Promise};
 ghost use Rattle.protocol.specs.Versions.{Two};
 ghost use Rattle.messages.specs.Bodies.{said};
-ghost use Rattle.packets.specs.Grammar.{Spells, IsBody, IsPacket};
+ghost use Rattle.packets.specs.Grammar.{Spells, SpellsAlike, IsBody, IsHeader, IsPacket};
 ghost use Rattle.packets.specs.Laws.{shortest, longest};
 ghost use Rattle.packets.specs.Reading.{packet_in, packet_at};
-ghost use Rattle.packets.specs.Spelling.{kind_byte, ballot_bytes, header_bytes, entry_bytes, report_bytes, body_bytes, spelling};
+ghost use Rattle.packets.specs.Spelling.{kind_byte, ballot_bytes, header_of, entry_bytes, report_bytes, body_bytes, spelling};
 
 use crate::header::{HEADER_LEN, version_byte};
 use crate::laws::packings;
-use ballots::{Ballot, VoteRef};
+use ballots::{Ballot, Member, VoteRef};
 use messages::{BodyRef, PacketKind, PacketRef};
 use std::alloc::{AllocError, Global};
 use tape_frames::{EntryRef, Version, packed_len};
@@ -86,21 +86,16 @@ fn put_body(out: &mut Vec<u8>, body: &BodyRef<'_>, version: Version) -> Result<(
     }
 }
 
-fn put_header(
-    out: &mut Vec<u8>,
-    version: Version,
-    kind: PacketKind,
-    circuit: u16,
-    from: u8,
-    to: u8,
-    number: u32,
-) -> Result<(), AllocError>
-    ensures { OnOk result (out.new.items ≡ out.old.items ++ header_bytes (version_of version) kind circuit from to number) }
+/// Puts the header as far as the ballot.
+fn put_header(out: &mut Vec<u8>, packet: &PacketRef<'_>, version: Version) -> Result<(), AllocError>
+    ensures ok { OnOk result (out.new.items ≡ out.old.items ++ header_of (version_of version) packet.now) }
+    ensures range { OnOk result (IsHeader packet.now) }
 {
-    out.extend_from_slice(&[b'T', b'N', version_byte(version), kind_byte(kind)])?;
-    out.extend_from_slice(&circuit.to_be_bytes())?;
-    out.extend_from_slice(&[from, to])?;
-    out.extend_from_slice(&number.to_be_bytes())?;
+    let (version, kind) = (version_byte(version), kind_byte(packet.body().kind()));
+    out.extend_from_slice(&[b'T', b'N', version, kind])?;
+    out.extend_from_slice(&packet.circuit().to_be_bytes())?;
+    out.extend_from_slice(&[packet.from().get(), packet.to().get()])?;
+    out.extend_from_slice(&packet.number().get().to_be_bytes())?;
     Ok(())
 }
 
@@ -137,17 +132,8 @@ fn written(alloc: Global, packet: &PacketRef<'_>, version: Version) -> Result<Ve
     ensures range { OnOk result (IsPacket packet.now) }
 {
     let body = packet.body();
-    let (from, to) = (packet.from().get(), packet.to().get());
     let mut out = Vec::with_capacity(alloc, HEADER_LEN + body_len(body, version))?;
-    put_header(
-        &mut out,
-        version,
-        body.kind(),
-        packet.circuit(),
-        from,
-        to,
-        packet.number().get(),
-    )?;
+    put_header(&mut out, packet, version)?;
     put_ballot(&mut out, packet.ballot())?;
     put_body(&mut out, body, version)?;
     Ok(out)
@@ -175,4 +161,40 @@ pub fn encode(
 {
     packings();
     written(alloc, packet, version)
+}
+
+/// A copy of a packet's spelling that goes to another member: its addressee is the header's eighth byte.
+fn readdressed(alloc: Global, spelled: &[u8], to: Member) -> Result<Vec<u8>, AllocError>
+    requires { 8 ≤ length spelled.now }
+    ensures { IfOk result (λ v. v.items ≡ take 7 spelled.now ++ to ∷ drop 8 spelled.now) }
+{
+    let mut out = Vec::with_capacity(alloc, spelled.len())?;
+    out.extend_from_slice(&spelled[..7])?;
+    out.push(to.get())?;
+    out.extend_from_slice(&spelled[8..])?;
+    Ok(out)
+}
+
+/// The spelling of a packet, beside that of one which says the same to another member, where there is such: then it is a copy of its bytes
+/// with another addressee. So what goes to many members is packed once.
+pub fn encode_beside(
+    alloc: Global,
+    alike: Option<&[u8]>,
+    packet: &PacketRef<'_>,
+    version: Version,
+) -> Result<Vec<u8>, AllocError>
+    requires fits { BodyFits (version_of version) packet.now.body }
+    requires alike { IfSome alike (λ bytes. SpellsAlike (version_of version) bytes.now packet.now) }
+    ensures spelled { IfOk result (λ v. Spells (version_of version) v.items packet.now) }
+    ensures again { IfOk result (λ v. packet_in (version_of version) v.items ≡ Ok packet.now) }
+{
+    packings();
+    match alike {
+        None => encode(alloc, packet, version),
+        Some(spelled) => {
+            // The rules that it keeps are known once it is read.
+            let _body = packet.body();
+            readdressed(alloc, spelled, packet.to())
+        }
+    }
 }

@@ -8,6 +8,6 @@ mod header;
 pub mod laws;
 
 pub use decoding::decode;
-pub use encoding::encode;
+pub use encoding::{encode, encode_beside};
 pub use fault::PacketFault;
 pub use messages::{Body, BodyRef, Packet, PacketRef};

@@ -1,4 +1,5 @@
 pub mod Zips
+mod Alike
 pub mod Remembering
 pub mod Taking
 pub mod Asking

@@ -12,6 +12,7 @@ use Rattle.protocol.specs.Circuit.{Datagram}
 use Rattle.saved_rows.specs.Saved.{WithRow, IsEither}
 use Rattle.saved_rows.specs.declared.fault.RowsFault.{RowsFault}
 use Rattle.tape_frames.specs.Entries.{owned_entry}
+use Rattle.packets.specs.Grammar.{Spells}
 use Rattle.packets.specs.Reading.{packet_in}
 use Rattle.code_table.specs.Tables.{Places, mean}
 use Rattle.code_table.specs.declared.case.Case.{Case}
@@ -32,6 +33,10 @@ use Rattle.station.specs.Stations.{Sight}
 -- the datagram spells the packet in this version, and goes to its addressee
 abbrev pub Carries : Version → Packet → Datagram → Type 0
 Carries v p d = (d.to ≡ p.to) × (packet_in v d.bytes ≡ Ok p)
+
+-- and its bytes are the packet's spelling
+abbrev pub IsSpelled : Version → Packet → Datagram → Type 0
+IsSpelled v p d = Carries v p d × Spells v d.bytes p
 
 -- what setting a tape gave, its slugs as a list
 abbrev pub slugs_of : Result (Vec Slug Global) SetFault → Result (List Slug) SetFault

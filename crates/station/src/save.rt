@@ -1,14 +1,17 @@
 //! What a turn hands out is made ready, and then its row is saved.
 
-ghost use Rattle.std.specs.Prelude.{◌≡◌, ◌≤◌, [], None, IfOk, IfErr, OnOk, OnErr, IfSome, true, false, length, option_map};
+ghost use Rattle.std.specs.Prelude.{◌≡◌, ◌≤◌, [], None, Some, IfOk, IfErr, OnOk, OnErr, IfSome, true, false, length, option_map, slice_get, take};
 ghost use Rattle.std.specs.List.{AllZip};
 ghost use Rattle.protocol.specs.Fitting.{BodyFits};
+ghost use Rattle.protocol.specs.Packets.{Packet};
+ghost use Rattle.protocol.specs.Versions.{Version as VersionValue};
 ghost use Rattle.tape_frames.specs.Entries.{owned_entry, version_of};
+ghost use Rattle.packets.specs.Grammar.{SpellsAlike};
 ghost use Rattle.saved_rows.specs.Saved.{HasPromise, RowFits, Rises};
 ghost use Rattle.node_core.specs.Turns.{sent};
 ghost use Rattle.station.specs.Speaking.{AllFit, TurnSpeaks};
 ghost use Rattle.station.specs.Stations.{StaysMade, sight};
-ghost use Rattle.station.specs.Readiness.{Carries, IsReleased, IsNumbered, RowSaved, RowBalked, Saves, WasChecked};
+ghost use Rattle.station.specs.Readiness.{Carries, IsSpelled, IsReleased, IsNumbered, RowSaved, RowBalked, Saves, WasChecked};
 ghost use Rattle.station.specs.Steps.{OnStore, IfStore, tears, is_early};
 
 use crate::answer::{Answer, Release};
@@ -17,22 +20,39 @@ use crate::setting::Checked;
 use crate::station::Station;
 use ballots::{Number, Row};
 use node_core::{Outgoing, Turn};
-use packets::{PacketRef, encode};
+use packets::{PacketRef, encode_beside};
 use refusals::StepRefusal;
 use saved_rows::{Rows, RowsFault};
 use std::alloc::{AllocError, Global};
 use tape_frames::{Entry, Version};
 
-/// The datagram of a packet, spelled in this version.
-fn spell(alloc: Global, packet: &PacketRef<'_>, version: Version) -> Result<Datagram, AllocError>
-    requires { BodyFits (version_of version) packet.now.body }
-    ensures { IfOk result (λ d. Carries (version_of version) packet.now d) }
+/// The datagram of a packet, spelled in this version; beside the bytes of one that says the same to another member, where there is such.
+fn spell(
+    alloc: Global,
+    packet: &PacketRef<'_>,
+    alike: Option<&[u8]>,
+    version: Version,
+) -> Result<Datagram, AllocError>
+    requires fits { BodyFits (version_of version) packet.now.body }
+    requires alike { IfSome alike (λ bytes. SpellsAlike (version_of version) bytes.now packet.now) }
+    ensures { IfOk result (λ d. IsSpelled (version_of version) packet.now d) }
 {
-    let bytes = encode(alloc, packet, version)?;
+    let bytes = encode_beside(alloc, alike, packet, version)?;
     Ok(Datagram::new(packet.to(), bytes))
 }
 
-/// The datagrams of packets, in order, spelled in this version. No memory is taken where there is none.
+/// The bytes of the first datagram that says the same as the packet at this place, where it was spelled already.
+fn spelled_alike<'a>(packets: &Outgoing<'_>, out: &'a [Datagram], place: usize) -> Option<&'a [u8]>
+    ensures { (v : VersionValue) (p : Packet) → AllZip (IsSpelled v) (take place packets.now) out.entry.now → slice_get packets.now place ≡ Some p → IfSome result (λ bytes. SpellsAlike v bytes.now p) }
+{
+    match out.get(packets.first_alike(place)) {
+        None => None,
+        Some(datagram) => Some(datagram.bytes()),
+    }
+}
+
+/// The datagrams of packets, in order, spelled in this version. No memory is taken where there is none. What goes to all others is packed
+/// once.
 fn spell_all(
     alloc: Global,
     packets: &Outgoing<'_>,
@@ -51,7 +71,11 @@ fn spell_all(
     for place in 0..count {
         match packets.get(place) {
             None => unreachable!(),
-            Some(packet) => out.push(spell(alloc, &packet, version)?)?,
+            Some(packet) => {
+                let alike = spelled_alike(packets, &out, place);
+                let datagram = spell(alloc, &packet, alike, version)?;
+                out.push(datagram)?
+            }
         }
     }
     Ok(out)
