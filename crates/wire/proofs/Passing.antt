@@ -1,5 +1,5 @@
 -- What passes over a wire, one stretch after the other.
-use Rattle.std.proofs.Common.{◌≡◌, ℕ, List, [], ◌∷◌, ◌++◌, sym, ap, ◌∙◌, append_assoc}
+use Rattle.std.proofs.Common.{ℕ, List, [], ◌∷◌, ◌++◌, sym, ap, ◌∙◌, append_assoc}
 use Rattle.std.proofs.lemmas.List.{append-nil}
 use Rattle.wire.specs.Passing.{Passed, came, sent, told, Trace, untold, listed, guarded, AllCame, Guards, Passes}
 

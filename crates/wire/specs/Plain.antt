@@ -2,13 +2,20 @@
 use Rattle.std.specs.Prelude.{◌≡◌, ◌⊎◌, ℕ, List, length, slice_index, slice_index_or, Bool, false, not, ◌&&◌, ◌||◌, ◌==◌, nat_lt, Option, Some, None, MatchOption, if◌then◌else◌}
 use Rattle.std.specs.List.{All}
 use Rattle.std.specs.declared.net.socket_addr.SocketAddr.{SocketAddr}
+use Rattle.std.specs.declared.vec.Vec.{Vec}
+use Rattle.std.specs.Global.{Global}
 use Rattle.pace.specs.declared.share.Incoming.{Incoming}
 use Rattle.wire.specs.Addresses.{IsAt, IsFirstAt, address_of}
 use Rattle.wire.specs.declared.address.Address.{Address}
 use Rattle.wire.specs.declared.door.Brought.{Brought}
 use Rattle.wire.specs.declared.door.Brought.TheVariants as brought
+use Rattle.wire.specs.declared.plain.PlainDoor.{PlainDoor}
 use Rattle.wire.specs.declared.reason.Reason.{Reason}
 use Rattle.wire.specs.declared.reason.Reason.TheVariants as reasons
+
+-- the door of this member, over these addresses of the stations
+abbrev pub plain_door : ℕ → Vec Address Global → PlainDoor
+plain_door own stations = record { own = own; stations = stations }
 
 -- a datagram begins with T and this letter
 abbrev pub has_mark : ℕ → List ℕ → Bool

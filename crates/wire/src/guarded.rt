@@ -3,9 +3,8 @@
 
 ghost use Rattle.std.specs.Prelude.{◌≡◌, ◌≤◌, ◌<◌, ◌/◌, ◌^◌, ◌-◌, [], ◌∷◌, length, min, None, MatchOption, IfOk, take, true};
 ghost use Rattle.std.specs.Duration.{as_nanos};
-ghost use Rattle.wire.specs.Arrival.{Fits, came_by};
-ghost use Rattle.wire.specs.Doors.{BringsOnly, ComesAs, IsKept, NoneWaits};
-ghost use Rattle.wire.specs.Guarded.{IsClean, Keeps, let_in, passed_of};
+ghost use Rattle.wire.specs.Doors.{IsKept};
+ghost use Rattle.wire.specs.Guarded.{IsFreshBehind, Keeps, Leaves, Receives, passed_of};
 ghost use Rattle.wire.specs.Passing.{Passes, sent, told};
 ghost use Rattle.wire.specs.Strangers.{TellsFirst, later};
 
@@ -84,9 +83,7 @@ impl<'a, C: Clock, D: Door> GuardedWire<'a, C, D, UdpSocket> {
         own: &Address,
         door: D,
     ) -> io::Result<GuardedWire<'a, C, D, UdpSocket>>
-        ensures door { IfOk result (λ w. w.door ≡ door) }
-        ensures moment { IfOk result (λ w. w.moment ≡ 0) }
-        ensures waits { IfOk result (λ w. NoneWaits w.waiting) }
+        ensures { IfOk result (IsFreshBehind door) }
     {
         let stations = door.stations();
         let alloc = *stations.allocator();
@@ -116,30 +113,39 @@ impl<'a, C: Clock, D: Door> GuardedWire<'a, C, D, UdpSocket> {
     }
 }
 
-impl<'a, C: Clock, D: Door, S: Socket> GuardedWire<'a, C, D, S> {
-    /// Lets what a datagram brought wait; one that is not admitted is counted, and one that finds no memory is lost.
-    fn keep(&mut self, brought: Brought, sender: SocketAddr)
-        requires { BringsOnly (let_in S.came D.brings self.old) brought }
-        ensures kept { IsKept brought sender self.old.waiting self.old.untold.tallies self.new.waiting self.new.untold.tallies }
-        ensures keeps { Keeps S.came D.brings self.old self.new }
-    {
-        match brought {
-            Brought::Packet(datagram) => {
-                let _ = self.waiting.put(datagram);
-            }
-            Brought::Part => {}
-            Brought::Lost => self.waiting.lose(),
-            Brought::Refused(reason) => self.untold.add(reason, sender),
+/// Lets what a datagram brought wait; one that is not admitted is counted, and one that finds no memory is lost.
+fn keep(brought: Brought, sender: SocketAddr, waiting: &mut Waiting, untold: &mut Untold)
+    ensures { IsKept brought sender waiting.old untold.old.tallies waiting.new untold.new.tallies }
+{
+    match brought {
+        Brought::Packet(datagram) => {
+            let _ = waiting.put(datagram);
         }
+        Brought::Part => {}
+        Brought::Lost => waiting.lose(),
+        Brought::Refused(reason) => untold.add(reason, sender),
     }
+}
 
+/// Whether the network stands after what was taken: where nothing came in time, it does.
+fn stands(taken: io::Result<()>) -> bool {
+    match taken {
+        Ok(()) => true,
+        Err(error) => matches!(
+            error.kind(),
+            ErrorKind::WouldBlock | ErrorKind::TimedOut | ErrorKind::Interrupted
+        ),
+    }
+}
+
+impl<'a, C: Clock, D: Door, S: Socket> GuardedWire<'a, C, D, S> {
     /// Takes a datagram from the socket, and lets it wait where it is admitted. It waits for one as the socket does.
     fn take_one(&mut self) -> io::Result<()>
         ensures keeps { Keeps S.came D.brings self.old self.new }
     {
         let (length, sender) = self.socket.take(&mut self.room)?;
         let brought = self.door.admit(self.alloc, sender, &self.room[..length]);
-        self.keep(brought, sender);
+        keep(brought, sender, &mut self.waiting, &mut self.untold);
         Ok(())
     }
 
@@ -158,32 +164,17 @@ impl<'a, C: Clock, D: Door, S: Socket> GuardedWire<'a, C, D, S> {
         let _ = self.socket.set_waits(true);
     }
 
-    /// Waits for a datagram within the time limit; whether the network stands.
-    fn wait_for_one(&mut self) -> bool
-        ensures keeps { Keeps S.came D.brings self.old self.new }
-    {
-        match self.take_one() {
-            Ok(()) => true,
-            Err(error) => matches!(
-                error.kind(),
-                ErrorKind::WouldBlock | ErrorKind::TimedOut | ErrorKind::Interrupted
-            ),
-        }
-    }
-
     /// Takes what waits at the socket, or waits for a datagram; whether the network stands.
     fn await_one(&mut self) -> bool
         ensures keeps { Keeps S.came D.brings self.old self.new }
     {
         self.fetch_some(MOST_RECEIVES);
-        !self.waiting.is_empty() || self.wait_for_one()
+        !self.waiting.is_empty() || stands(self.take_one())
     }
 
     /// Takes the datagram whose turn it is, of those that wait in memory. One for which the buffer has no room is lost.
     fn take_next(&mut self, buffer: &mut [u8]) -> Arrival
-        ensures fits { Fits result (length buffer.new) }
-        ensures comes { IsClean S.came D.brings self.old → ComesAs (let_in S.came D.brings self.old) result buffer.new }
-        ensures keeps { Keeps S.came D.brings self.old self.new }
+        ensures { Receives S.came D.brings self.old self.new result buffer.new }
     {
         let Some(datagram) = self.waiting.take() else {
             return Arrival::Nothing;
@@ -202,18 +193,14 @@ impl<'a, C: Clock, D: Door, S: Socket> Wire for GuardedWire<'a, C, D, S> {
     ghost passed = { passed_of S.came D.brings };
 
     fn fetch(&mut self) -> bool
-        ensures keeps { Keeps S.came D.brings self.old self.new }
-        ensures passes { Passes (passed_of S.came D.brings self.old) (passed_of S.came D.brings self.new) [] }
+        ensures leaves { Leaves S.came D.brings self.old self.new [] }
     {
         self.fetch_some(MOST_RECEIVES);
         !self.waiting.is_empty()
     }
 
     fn receive(&mut self, buffer: &mut [u8]) -> Arrival
-        ensures fits { Fits result (length buffer.new) }
-        ensures comes { IsClean S.came D.brings self.old → ComesAs (let_in S.came D.brings self.old) result buffer.new }
-        ensures keeps { Keeps S.came D.brings self.old self.new }
-        ensures passes { Passes (passed_of S.came D.brings self.old) (passed_of S.came D.brings self.new) (came_by result buffer.new) }
+        ensures receives { Receives S.came D.brings self.old self.new result buffer.new }
     {
         if !self.await_one() {
             return Arrival::Failed;
@@ -224,8 +211,7 @@ impl<'a, C: Clock, D: Door, S: Socket> Wire for GuardedWire<'a, C, D, S> {
     /// What came meanwhile is taken from the socket, so that what the others send at once does not fill it.
     fn send(&mut self, to: Member, bytes: &[u8]) -> bool
         ensures sends { D.sends self.old.door (S.given self.old.socket) to bytes.now result }
-        ensures keeps { Keeps S.came D.brings self.old self.new }
-        ensures passes { Passes (passed_of S.came D.brings self.old) (passed_of S.came D.brings self.new) (sent to bytes.now ∷ []) }
+        ensures leaves { Leaves S.came D.brings self.old self.new (sent to bytes.now ∷ []) }
     {
         let is_sent = self.door.send(&self.socket, to, bytes);
         self.fetch_some(MOST_AFTER_A_SEND);
@@ -235,8 +221,7 @@ impl<'a, C: Clock, D: Door, S: Socket> Wire for GuardedWire<'a, C, D, S> {
     /// Where the clock fails, it is the last moment that was told.
     fn now(&mut self) -> u64
         ensures moment { result ≡ self.new.moment }
-        ensures waits { self.new.waiting ≡ self.old.waiting }
-        ensures door { self.new.door ≡ self.old.door }
+        ensures rest { self.new ≡ record self.old { moment = self.new.moment } }
         ensures passes { Passes (passed_of S.came D.brings self.old) (passed_of S.came D.brings self.new) (told result ∷ []) }
     {
         if let Ok(elapsed) = self.start.elapsed(self.clock) {
@@ -248,8 +233,7 @@ impl<'a, C: Clock, D: Door, S: Socket> Wire for GuardedWire<'a, C, D, S> {
     /// Those of each reason are told at most once a second.
     fn strangers(&mut self, now: u64) -> Option<Strangers>
         ensures tells { TellsFirst now result self.old.untold.tallies self.new.untold.tallies }
-        ensures waits { self.new.waiting ≡ self.old.waiting }
-        ensures door { self.new.door ≡ self.old.door }
+        ensures rest { self.new ≡ record self.old { untold = self.new.untold } }
         ensures passes { Passes (passed_of S.came D.brings self.old) (passed_of S.came D.brings self.new) [] }
     {
         self.untold.tell(now)
@@ -260,8 +244,8 @@ impl<'a, C: Clock, D: Door, S: Socket> Wire for GuardedWire<'a, C, D, S> {
         ensures early { now < self.old.lost_due → (result ≡ None) × (self.new.waiting ≡ self.old.waiting) }
         ensures told { MatchOption result (self.new.lost_due ≡ self.old.lost_due) (λ lost. (lost ≡ self.old.waiting.lost) × (self.new.lost_due ≡ later now)) }
         ensures counted { self.old.lost_due ≤ now → self.new.waiting.lost ≡ 0 }
-        ensures waits { self.new.waiting.shares ≡ self.old.waiting.shares }
-        ensures door { self.new.door ≡ self.old.door }
+        ensures shares { self.new.waiting.shares ≡ self.old.waiting.shares }
+        ensures rest { self.new ≡ record self.old { waiting = self.new.waiting; lost_due = self.new.lost_due } }
         ensures passes { Passes (passed_of S.came D.brings self.old) (passed_of S.came D.brings self.new) [] }
     {
         if now < self.lost_due {

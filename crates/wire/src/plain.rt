@@ -1,7 +1,7 @@
 //! The door of a station without a key: the papers' datagrams, as they come.
 
 ghost use Rattle.std.specs.Prelude.{◌≡◌, IfOk, IfErr};
-ghost use Rattle.wire.specs.Plain.{AdmitsPlain, brings_plain, IsAgainst, IsFrom, IsPacketOf, has_mark, names_another, reason_against, sends_plain};
+ghost use Rattle.wire.specs.Plain.{AdmitsPlain, brings_plain, IsAgainst, IsFrom, IsPacketOf, has_mark, names_another, plain_door, reason_against, sends_plain};
 
 use crate::address::{Address, address_of, place_of};
 use crate::door::{Brought, Door};
@@ -63,8 +63,7 @@ fn packet_of(alloc: Global, sender: Member, bytes: &[u8]) -> Brought
 impl PlainDoor {
     /// The door of this member's station.
     pub fn new(own: Member, stations: Vec<Address>) -> PlainDoor
-        ensures own { result.own ≡ own }
-        ensures stations { result.stations ≡ stations }
+        ensures { result ≡ plain_door own stations }
     {
         PlainDoor { own, stations }
     }

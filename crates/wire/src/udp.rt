@@ -1,7 +1,8 @@
 //! Datagrams over UDP as they are, from and to the stations of a circuit alone.
 
-ghost use Rattle.std.specs.Prelude.{◌≡◌, IfOk};
-ghost use Rattle.wire.specs.Doors.{NoneWaits};
+ghost use Rattle.std.specs.Prelude.{IfOk};
+ghost use Rattle.wire.specs.Guarded.{IsFreshBehind};
+ghost use Rattle.wire.specs.Plain.{plain_door};
 
 use crate::address::Address;
 use crate::guarded::GuardedWire;
@@ -22,10 +23,7 @@ impl<'a, C: Clock> GuardedWire<'a, C, PlainDoor, UdpSocket> {
         own: &Address,
         stations: Vec<Address>,
     ) -> io::Result<UdpWire<'a, C>>
-        ensures own { IfOk result (λ w. w.door.own ≡ own.now.member) }
-        ensures stations { IfOk result (λ w. w.door.stations ≡ stations) }
-        ensures moment { IfOk result (λ w. w.moment ≡ 0) }
-        ensures waits { IfOk result (λ w. NoneWaits w.waiting) }
+        ensures { IfOk result (IsFreshBehind (plain_door own.now.member stations)) }
     {
         let door = PlainDoor::new(own.member, stations);
         GuardedWire::behind(net, clock, own, door)

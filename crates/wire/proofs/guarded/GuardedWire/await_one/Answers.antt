@@ -4,5 +4,5 @@ use Rattle.wire.proofs.guarded.GuardedWire.await_one.Goals as goal
 
 pub returns-else-not-is_empty : goal.returns-else-not-is_empty
 returns-else-not-is_empty g c = record {
-  keeps = keeps_then g.S.Socket.came g.D.Door.brings c.args.self.now c.fetch_some.new.self c.wait_for_one.new.self c.fetch_some.ensures.keeps c.wait_for_one.ensures.keeps;
+  keeps = keeps_then g.S.Socket.came g.D.Door.brings c.args.self.now c.fetch_some.new.self c.take_one.new.self c.fetch_some.ensures.keeps c.take_one.ensures.keeps;
 }

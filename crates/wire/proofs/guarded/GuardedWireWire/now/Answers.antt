@@ -1,5 +1,4 @@
 -- The moment alone changes.
-use Rattle.std.proofs.Common.{◌∷◌, []}
 use Rattle.wire.specs.Guarded.{Keeps, let_in}
 use Rattle.wire.proofs.Staying.{stays_self}
 use Rattle.wire.proofs.Guarding.{keeps_to, tells}

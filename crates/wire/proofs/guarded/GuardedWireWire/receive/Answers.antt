@@ -1,20 +1,27 @@
 -- What comes, behind what was waited for.
-use Rattle.wire.proofs.Guarding.{comes_later, keeps_then, quiet, receives}
+use Rattle.wire.proofs.Guarding.{comes_later, keeps_then, leaves_quiet, receives}
 use Rattle.wire.proofs.guarded.GuardedWireWire.receive.Goals as goal
 
-pub returns-then-not-await_one-clause-passes : goal.returns-then-not-await_one-clause-passes
-returns-then-not-await_one-clause-passes g c = quiet g.S.Socket.came g.D.Door.brings c.args.self.now c.await_one.new.self c.await_one.ensures.keeps
+pub returns-then-not-await_one : goal.returns-then-not-await_one
+returns-then-not-await_one g c = record {
+  receives = record {
+    fits = tt;
+    comes = λ clean. tt;
+    leaves = leaves_quiet g.S.Socket.came g.D.Door.brings c.args.self.now c.await_one.new.self c.await_one.ensures.keeps;
+  };
+}
 
-pub returns-clause-comes : goal.returns-clause-comes
-returns-clause-comes g c =
-    comes_later g.S.Socket.came g.D.Door.brings c.args.self.now c.await_one.new.self c.take_next.result c.take_next.new.buffer c.await_one.ensures.keeps c.take_next.ensures.comes
-
-pub returns-clause-keeps : goal.returns-clause-keeps
-returns-clause-keeps g c =
-    keeps_then g.S.Socket.came g.D.Door.brings c.args.self.now c.await_one.new.self c.take_next.new.self c.await_one.ensures.keeps c.take_next.ensures.keeps
-
-pub returns-clause-passes : goal.returns-clause-passes
-returns-clause-passes g c =
-    receives g.S.Socket.came g.D.Door.brings c.args.self.now c.take_next.new.self c.take_next.result c.take_next.new.buffer
-    (comes_later g.S.Socket.came g.D.Door.brings c.args.self.now c.await_one.new.self c.take_next.result c.take_next.new.buffer c.await_one.ensures.keeps c.take_next.ensures.comes)
-    (keeps_then g.S.Socket.came g.D.Door.brings c.args.self.now c.await_one.new.self c.take_next.new.self c.await_one.ensures.keeps c.take_next.ensures.keeps)
+pub returns : goal.returns
+returns g c =
+    let came = g.S.Socket.came in
+    let brings = g.D.Door.brings in
+    let old = c.args.self.now in
+    let comes = comes_later came brings old c.await_one.new.self c.take_next.result c.take_next.new.buffer c.await_one.ensures.keeps c.take_next.ensures.comes in
+    let keeps = keeps_then came brings old c.await_one.new.self c.take_next.new.self c.await_one.ensures.keeps c.take_next.ensures.leaves.keeps in
+    record {
+      receives = record {
+        fits = c.take_next.ensures.fits;
+        comes = comes;
+        leaves = record { keeps = keeps; passes = receives came brings old c.take_next.new.self c.take_next.result c.take_next.new.buffer comes keeps };
+      };
+    }
