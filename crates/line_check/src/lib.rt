@@ -12,7 +12,7 @@ mod tape;
 
 pub use fault::{Cause, LineFault, SetError, SetFault};
 pub use galleys::galley;
-pub use line::check;
+pub use line::{Tally, check, tally_of};
 pub use setting::Setting;
 pub use slug::{Kind, Slug};
 pub use sort::{Sort, Sorts};

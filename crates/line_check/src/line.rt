@@ -15,11 +15,11 @@ use widths::Widths;
 
 /// What a line comes to before it is cast.
 #[derive(Clone, Copy)]
-struct Tally {
+pub struct Tally {
     /// The width of its matrices and fixed spaces, in units.
-    fixed: u32,
+    pub fixed: u32,
     /// How many spacebands it has.
-    bands: u32,
+    pub bands: u32,
 }
 
 /// What one item comes to.
@@ -38,7 +38,7 @@ fn tally_one(item: &Item) -> Tally
 }
 
 /// What a line comes to.
-fn tally_of(items: &[Item]) -> Tally
+pub fn tally_of(items: &[Item]) -> Tally
     requires { length items.now ≤ most_frames }
     ensures fixed { result.fixed ≡ fixed_of items.now }
     ensures bands { result.bands ≡ bands_of items.now }

@@ -1,10 +1,13 @@
 -- The line since the last cut, and one frame more.
-use Rattle.std.specs.Prelude.{◌≡◌, ◌≤◌, ℕ, suc, List, [], ◌∷◌, ◌++◌, Option, Some, None, length, option_map, option_to_list, unwrap_or}
+use Rattle.std.specs.Prelude.{◌≡◌, ◌≤◌, ◌<◌, ℕ, suc, List, [], ◌∷◌, ◌++◌, Option, Some, None, length, option_map, option_to_list, unwrap_or}
 use Rattle.code_table.specs.Tables.{case_of}
+use Rattle.code_table.specs.declared.case.Case.TheVariants as cases
 use Rattle.code_table.specs.declared.meaning.Meaning.{Meaning}
 use Rattle.code_table.specs.declared.meaning.Meaning.TheVariants as meanings
 use Rattle.widths.specs.Widths.{WidthFile}
+use Rattle.tape_frames.specs.Frames.{most_frames}
 use Rattle.slug_reader.specs.declared.item.Item.{Item}
+use Rattle.slug_reader.specs.declared.item.Rail.TheVariants as rails
 use Rattle.slug_reader.specs.declared.line.Line.{Line}
 use Rattle.slug_reader.specs.Positions.{first, or_else}
 use Rattle.slug_reader.specs.Meanings.{Meanings, case_at, rail_at, meaning_at, rail_of, quad_of, item_of}
@@ -31,6 +34,30 @@ pub record Stands (means : Meanings) (widths : WidthFile) (tape : List ℕ) (i :
   pub line : p.line ≡ line_number means tape i
   pub few : length p.items.items ≤ i
   pub short : p.line ≤ suc i
+
+-- the same before the frame at a position of a tape is read
+pub record StandsBefore (means : Meanings) (widths : WidthFile) (tape : List ℕ) (i : ℕ) (p : Pending) : Type 0 where
+  -- there is such a frame
+  pub within : i < length tape
+  -- the tape is none that is too long
+  pub short : length tape ≤ most_frames
+  -- what is kept is what looking back gives
+  pub stands : Stands means widths tape i p
+
+-- what is kept at the start of a tape
+pub record IsBegun (p : Pending) : Type 0 where
+  -- unshift holds
+  pub case : p.case ≡ cases.Unshift
+  -- and the lower rail
+  pub rail : p.rail ≡ rails.Lower
+  -- the line is empty
+  pub items : p.items.items ≡ []
+  -- it has no quad
+  pub quad : p.quad ≡ None
+  -- nothing is wrong with it
+  pub fault : p.fault ≡ None
+  -- it is the first
+  pub line : p.line ≡ 1
 
 -- the cause for which a frame with this meaning cannot be read
 abbrev pub cause_in : WidthFile → Option Meaning → Option Cause

@@ -5,7 +5,7 @@ ghost use Rattle.code_table.specs.Tables.{mean};
 ghost use Rattle.line_check.specs.Sets.{first_fault};
 ghost use Rattle.line_fit.specs.Fitting.{Fits, first_told};
 
-use crate::pending::Pending;
+use crate::pending::{Pending, Reading};
 use crate::sizes::Sizes;
 use crate::verdict::LineFit;
 use code_table::CodeTable;
@@ -36,8 +36,13 @@ fn fitting_of(
     let mut pending = Pending::new(alloc);
     let mut lines = Vec::new(alloc);
     let frames = tape.frames();
+    let reading = Reading {
+        table,
+        sizes,
+        frames,
+    };
     for at in 0..frames.len() {
-        match pending.step(alloc, table, sizes, frames, at)? {
+        match pending.step(alloc, &reading, at)? {
             Some(fit) => lines.push(fit)?,
             None => {}
         }

@@ -1,6 +1,6 @@
 //! The line since the last elevate code, read whatever is wrong with it.
 
-ghost use Rattle.std.specs.Prelude.{◌≡◌, ◌≤◌, ◌<◌, ◌+◌, suc, ◌++◌, [], length, IfOk, OnOk, Some, None, option_map, option_to_list};
+ghost use Rattle.std.specs.Prelude.{◌≡◌, ◌≤◌, ◌+◌, suc, ◌++◌, [], length, IfOk, OnOk, Some, None, option_map, option_to_list};
 ghost use Rattle.tape_frames.specs.Frames.{most_frames};
 ghost use Rattle.code_table.specs.Tables.{mean};
 ghost use Rattle.slug_reader.specs.Lines.{is_cut};
@@ -8,7 +8,7 @@ ghost use Rattle.slug_reader.specs.Positions.{or_else};
 ghost use Rattle.slug_reader.specs.Meanings.{is_elevate};
 ghost use Rattle.slug_reader.specs.Assembling.{line_cut};
 ghost use Rattle.line_fit.specs.Fitting.{IsFitAt};
-ghost use Rattle.line_fit.specs.Pending.{Stands, IsRead, IsTaken, IsVerdictOf, IsFitOf, cut_fault, fault_by, if_filled};
+ghost use Rattle.line_fit.specs.Pending.{Stands, StandsBefore, IsBegun, IsRead, IsTaken, IsVerdictOf, IsFitOf, cut_fault, fault_by, if_filled};
 
 use crate::codes::{cause_of, is_elevate, item_of, quad_of, rail_of};
 use crate::sizes::Sizes;
@@ -32,21 +32,23 @@ pub struct Pending {
     pub line: u32,
 }
 
-/// What is said of a line that is cut.
-fn verdict_of(
-    alloc: Global,
-    widths: &Widths,
-    line: &Option<Line>,
+/// A line that is cut: what is in it, its first fault so far, where it is cut, and its number.
+#[derive(Clone, Copy)]
+struct CutLine<'a> {
+    line: &'a Option<Line>,
     fault: Option<SetFault>,
     at: u32,
     number: u32,
-) -> Result<Verdict, AllocError>
-    ensures { IfOk result (λ verdict. IsVerdictOf widths.now line.now (cut_fault widths.now fault line.now at number) verdict) }
+}
+
+/// What is said of a line that is cut.
+fn verdict_of(alloc: Global, widths: &Widths, cut: &CutLine<'_>) -> Result<Verdict, AllocError>
+    ensures { IfOk result (λ verdict. IsVerdictOf widths.now cut.now.line.now (cut_fault widths.now cut.now.fault cut.now.line.now cut.now.at cut.now.number) verdict) }
 {
-    if let Some(fault) = fault {
+    if let Some(fault) = cut.fault {
         return Ok(Verdict::Faulty(fault));
     }
-    let Some(line) = line else {
+    let Some(line) = cut.line else {
         return Ok(Verdict::Nothing);
     };
     let cause = match check(alloc, line, widths) {
@@ -56,8 +58,8 @@ fn verdict_of(
         Err(LineFault::OutOfMemory) => return Err(AllocError),
     };
     Ok(Verdict::Faulty(SetFault {
-        at,
-        line: number,
+        at: cut.at,
+        line: cut.number,
         cause,
     }))
 }
@@ -75,15 +77,28 @@ fn line_of(items: Vec<Item>, quad: Option<Quad>, at: u32) -> Option<Line>
     })
 }
 
+/// Adds the item of a meaning, if it has one.
+fn add(items: &mut Vec<Item>, item: Option<Item>) -> Result<(), AllocError>
+    ensures { OnOk result (items.new.items ≡ items.old.items ++ option_to_list item) }
+{
+    if let Some(item) = item {
+        items.push(item)?;
+    }
+    Ok(())
+}
+
+/// What a tape is read by, and its frames.
+#[derive(Clone, Copy)]
+pub struct Reading<'a> {
+    pub table: &'a CodeTable,
+    pub sizes: &'a Sizes<'a>,
+    pub frames: &'a [u8],
+}
+
 impl Pending {
     /// At the start of a tape.
     pub fn new(alloc: Global) -> Pending
-        ensures case { result.case ≡ Case.Unshift }
-        ensures rail { result.rail ≡ Rail.Lower }
-        ensures items { result.items.items ≡ [] }
-        ensures quad { result.quad ≡ None }
-        ensures fault { result.fault ≡ None }
-        ensures line { result.line ≡ 1 }
+        ensures { IsBegun result }
     {
         Pending {
             case: Case::Unshift,
@@ -95,39 +110,18 @@ impl Pending {
         }
     }
 
-    /// Keeps a fault, where it is the first of the line.
-    fn blame(&mut self, at: u32, cause: Option<Cause>)
-        ensures fault { self.new.fault ≡ or_else self.old.fault (option_map (fault_by at self.old.line) cause) }
-        ensures case { self.new.case ≡ self.old.case }
-        ensures rail { self.new.rail ≡ self.old.rail }
-        ensures items { self.new.items ≡ self.old.items }
-        ensures quad { self.new.quad ≡ self.old.quad }
-        ensures line { self.new.line ≡ self.old.line }
+    /// The first fault of the line, where this is wrong with the frame at a position of it.
+    fn first_fault(&self, at: u32, cause: Option<Cause>) -> Option<SetFault>
+        ensures { result ≡ or_else self.now.fault (option_map (fault_by at self.now.line) cause) }
     {
-        if self.fault.is_none() {
-            if let Some(cause) = cause {
-                self.fault = Some(SetFault {
-                    at,
-                    line: self.line,
-                    cause,
-                });
-            }
+        match (self.fault, cause) {
+            (None, Some(cause)) => Some(SetFault {
+                at,
+                line: self.line,
+                cause,
+            }),
+            (fault, _) => fault,
         }
-    }
-
-    /// Adds the item of a meaning, if it has one.
-    fn add(&mut self, item: Option<Item>) -> Result<(), AllocError>
-        ensures items { OnOk result (self.new.items.items ≡ self.old.items.items ++ option_to_list item) }
-        ensures case { self.new.case ≡ self.old.case }
-        ensures rail { self.new.rail ≡ self.old.rail }
-        ensures quad { self.new.quad ≡ self.old.quad }
-        ensures fault { self.new.fault ≡ self.old.fault }
-        ensures line { self.new.line ≡ self.old.line }
-    {
-        if let Some(item) = item {
-            self.items.push(item)?;
-        }
-        Ok(())
     }
 
     /// Takes in a frame that means this, and answers whether it cuts the line.
@@ -137,8 +131,8 @@ impl Pending {
         ensures read { OnOk result (IsRead sizes.now at (Some meaning.now) self.old self.new) }
     {
         let item = item_of(sizes, self.rail, meaning);
-        self.blame(at, cause_of(meaning, &item));
-        self.add(item)?;
+        self.fault = self.first_fault(at, cause_of(meaning, &item));
+        add(&mut self.items, item)?;
         self.case = meaning.selects().unwrap_or(self.case);
         self.rail = rail_of(meaning).unwrap_or(self.rail);
         self.quad = quad_of(meaning).or(self.quad);
@@ -146,23 +140,15 @@ impl Pending {
     }
 
     /// Takes in the frame at this place, and answers whether it cuts the line.
-    fn take(
-        &mut self,
-        table: &CodeTable,
-        sizes: &Sizes<'_>,
-        frames: &[u8],
-        at: usize,
-    ) -> Result<bool, AllocError>
-        requires within { at < length frames.now }
-        requires short { length frames.now ≤ most_frames }
-        requires stands { Stands (mean table.now) sizes.now frames.now at self.old }
-        ensures cuts { IfOk result (λ cuts. cuts ≡ is_cut (mean table.now) frames.now at) }
-        ensures taken { OnOk result (IsTaken (mean table.now) sizes.now frames.now at self.new) }
+    fn take(&mut self, tape: &Reading<'_>, at: usize) -> Result<bool, AllocError>
+        requires { StandsBefore (mean tape.now.table.now) tape.now.sizes.now tape.now.frames.now at self.old }
+        ensures cuts { IfOk result (λ cuts. cuts ≡ is_cut (mean tape.now.table.now) tape.now.frames.now at) }
+        ensures taken { OnOk result (IsTaken (mean tape.now.table.now) tape.now.sizes.now tape.now.frames.now at self.new) }
     {
-        match table.meaning(self.case, frames[at]) {
-            Some(meaning) => self.read(sizes, meaning, at as u32),
+        match tape.table.meaning(self.case, tape.frames[at]) {
+            Some(meaning) => self.read(tape.sizes, meaning, at as u32),
             None => {
-                self.blame(at as u32, Some(Cause::UnknownCode));
+                self.fault = self.first_fault(at as u32, Some(Cause::UnknownCode));
                 Ok(false)
             }
         }
@@ -179,7 +165,13 @@ impl Pending {
         let span = span_of(&self.items, widths);
         let items = mem::replace(&mut self.items, Vec::new(alloc));
         let line = line_of(items, self.quad.take(), at);
-        let verdict = verdict_of(alloc, widths, &line, self.fault.take(), at, self.line)?;
+        let cut = CutLine {
+            line: &line,
+            fault: self.fault.take(),
+            at,
+            number: self.line,
+        };
+        let verdict = verdict_of(alloc, widths, &cut)?;
         self.line += 1;
         Ok(LineFit {
             cut_at: at,
@@ -194,19 +186,15 @@ impl Pending {
     pub fn step(
         &mut self,
         alloc: Global,
-        table: &CodeTable,
-        sizes: &Sizes<'_>,
-        frames: &[u8],
+        tape: &Reading<'_>,
         at: usize,
     ) -> Result<Option<LineFit>, AllocError>
-        requires within { at < length frames.now }
-        requires short { length frames.now ≤ most_frames }
-        requires stands { Stands (mean table.now) sizes.now frames.now at self.old }
-        ensures fit { IfOk result (λ fit. IsFitAt (mean table.now) sizes.now frames.now at fit) }
-        ensures stands { OnOk result (Stands (mean table.now) sizes.now frames.now (suc at) self.new) }
+        requires { StandsBefore (mean tape.now.table.now) tape.now.sizes.now tape.now.frames.now at self.old }
+        ensures fit { IfOk result (λ fit. IsFitAt (mean tape.now.table.now) tape.now.sizes.now tape.now.frames.now at fit) }
+        ensures stands { OnOk result (Stands (mean tape.now.table.now) tape.now.sizes.now tape.now.frames.now (suc at) self.new) }
     {
-        if self.take(table, sizes, frames, at)? {
-            let fit = self.cut(alloc, sizes.widths(), at as u32)?;
+        if self.take(tape, at)? {
+            let fit = self.cut(alloc, tape.sizes.widths(), at as u32)?;
             Ok(Some(fit))
         } else {
             Ok(None)

@@ -10,6 +10,6 @@ use Rattle.line_fit.proofs.fitting.fitting_of.Given as goal
 abbrev pub invariant-loop-at : goal.invariant-loop-at
 invariant-loop-at l = record {
   within : l.at ≤ length l.frames;
-  stands : Stands (mean l.table) l.sizes l.frames l.at l.pending;
-  fits : AreFits (mean l.table) l.sizes l.frames (filter (is_cut (mean l.table) l.frames) (before l.at)) l.lines.items;
+  stands : Stands (mean l.table) l.fn.sizes l.frames l.at l.pending;
+  fits : AreFits (mean l.table) l.fn.sizes l.frames (filter (is_cut (mean l.table) l.frames) (before l.at)) l.lines.items;
 }
