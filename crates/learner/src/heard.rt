@@ -44,6 +44,14 @@ impl Model for Heard {
     ghost invariant = { λ h. (h.members ≤ most_members) × (length (opened h.members h.slots) ≡ h.members) };
 }
 
+/// A vote that is heard of a member, its entry lent.
+#[derive(Drop)]
+struct NewVote<'a> {
+    member: Member,
+    ballot: Ballot,
+    entry: EntryRef<'a>,
+}
+
 /// A slot for each of so many members, with nothing heard.
 fn empty_slots(members: u8) -> Slots
     requires { members ≤ most_members }
@@ -183,19 +191,18 @@ fn give_up(slots: &mut Option<Box<Slots>>, ballot: Ballot) -> Option<Entry>
     }
 }
 
-/// Keeps the vote in the member's slot, where it is above the one that stands there. Only then does it take memory.
-fn keep_newer(
-    alloc: Global,
-    slots: &mut Slots,
-    member: Member,
-    ballot: Ballot,
-    entry: EntryRef<'_>,
-) -> Result<(), AllocError>
-    requires { member ≤ length slots.old.items }
-    ensures kept { OnOk result (slots.new.items ≡ kept slots.old.items member ballot (lent_entry entry.entry)) }
+/// Keeps the vote in its member's slot, where it is above the one that stands there. Only then does it take memory.
+fn keep_newer(alloc: Global, slots: &mut Slots, vote: NewVote<'_>) -> Result<(), AllocError>
+    requires { vote.member ≤ length slots.old.items }
+    ensures kept { OnOk result (slots.new.items ≡ kept slots.old.items vote.entry.member vote.entry.ballot (lent_entry vote.entry.entry)) }
     ensures err { OnErr result (slots.new.items ≡ slots.old.items) }
-    ensures no_memory { is_newer ballot (slot_of slots.old.items member) ≡ false → IsOk result }
+    ensures no_memory { is_newer vote.entry.ballot (slot_of slots.old.items vote.entry.member) ≡ false → IsOk result }
 {
+    let NewVote {
+        member,
+        ballot,
+        entry,
+    } = vote;
     let place = usize::from(member.get()) - 1;
     if slots[place].gives_way_to(ballot) {
         let entry = entry.copy(alloc)?;
@@ -210,25 +217,23 @@ fn keep(
     alloc: Global,
     slots: &mut Option<Box<Slots>>,
     members: u8,
-    member: Member,
-    ballot: Ballot,
-    entry: EntryRef<'_>,
+    vote: NewVote<'_>,
 ) -> Result<(), AllocError>
     requires few { members ≤ most_members }
-    requires member { member ≤ length (opened members slots.old) }
-    ensures kept { OnOk result (opened members slots.new ≡ kept (opened members slots.old) member ballot (lent_entry entry.entry)) }
+    requires member { vote.member ≤ length (opened members slots.old) }
+    ensures kept { OnOk result (opened members slots.new ≡ kept (opened members slots.old) vote.entry.member vote.entry.ballot (lent_entry vote.entry.entry)) }
     ensures written { OnOk result (written slots.new ≡ opened members slots.new) }
     ensures err { OnErr result (opened members slots.new ≡ opened members slots.old) }
-    ensures no_memory { is_newer ballot (slot_of (opened members slots.old) member) ≡ false → IsOk result }
+    ensures no_memory { is_newer vote.entry.ballot (slot_of (opened members slots.old) vote.entry.member) ≡ false → IsOk result }
 {
     match slots {
         None => {
             let mut first = Box::new(alloc, empty_slots(members))?;
-            keep_newer(alloc, &mut first, member, ballot, entry)?;
+            keep_newer(alloc, &mut first, vote)?;
             *slots = Some(first);
             Ok(())
         }
-        Some(slots) => keep_newer(alloc, slots, member, ballot, entry),
+        Some(slots) => keep_newer(alloc, slots, vote),
     }
 }
 
@@ -275,14 +280,12 @@ impl Heard {
         slots_of_members::<Option<Vote>>();
         // The member's range is known once it is read.
         let _range = member.get();
-        keep(
-            self.alloc,
-            &mut self.slots,
-            self.members,
+        let vote = NewVote {
             member,
             ballot,
             entry,
-        )?;
+        };
+        keep(self.alloc, &mut self.slots, self.members, vote)?;
         Ok(chosen_at(lent(&self.slots)))
     }
 
