@@ -4,6 +4,7 @@ use Rattle.std.specs.List.{All, HoldsAt}
 use Rattle.seals.specs.Sealing.{count_of, part_of}
 use Rattle.seals.specs.declared.label.Label.{Label}
 use Rattle.seals.specs.declared.opening.Keys.{Keys}
+use Rattle.seals.specs.declared.opening.Piece.{Piece}
 use Rattle.seals.specs.declared.opening.KeyPlace.{KeyPlace}
 use Rattle.gathering.specs.Parts.{Parts, IsFor, IsSealedAs, IsWhole, blank, with_part}
 
@@ -62,6 +63,10 @@ Gathers keys place label index part old new answer =
     → MatchOption answer
     (Knows place label packet (slice_set had index true) new × ¬ IsWhole (slice_set had index true) (count_of (length packet)))
     (λ out. (out ≡ packet) × IsWhole (slice_set had index true) (count_of (length packet)))
+
+-- the same of a piece, by its key, its label, its index and its bytes
+abbrev pub GathersPiece : Keys → Piece → List Parts → List Parts → Option (List ℕ) → Type 0
+GathersPiece keys piece old new answer = Gathers keys piece.place piece.label piece.index piece.part.now old new answer
 
 -- what is known of any other packet stays, but for one of the same sender where that has four
 abbrev pub Keeps : KeyPlace → Label → List Parts → List Parts → Type 0

@@ -4,7 +4,7 @@ ghost use Rattle.std.specs.Prelude.{◌≡◌, ◌<◌, ◌≤◌, [], length, I
 ghost use Rattle.std.specs.List.{All, HoldsAt};
 ghost use Rattle.gathering.specs.Parts.{IsFor, IsSealedAs};
 ghost use Rattle.seals.specs.Opening.{IsPart};
-ghost use Rattle.gathering.specs.Places.{IsFirst, IsBounded, IsReady, PutsAt, Gathers, Keeps, Roomed, count_from};
+ghost use Rattle.gathering.specs.Places.{IsFirst, IsBounded, IsReady, PutsAt, GathersPiece, Keeps, Roomed, count_from};
 
 use crate::unfinished::Unfinished;
 use ballots::Member;
@@ -128,7 +128,7 @@ fn gather(
 ) -> Result<Option<Vec<u8>>, AllocError>
     requires { IsPart piece.now.label piece.now.index piece.now.part.now }
     ensures sealed { IfOk result (λ o. IfSome o (λ packet. IsSealedAs keys.now piece.now.place piece.now.label packet.items)) }
-    ensures gathers { IfOk result (λ o. Gathers keys.now piece.now.place piece.now.label piece.now.index piece.now.part.now slots.old.items slots.new.items (option_map (λ v. v.items) o)) }
+    ensures gathers { IfOk result (λ o. GathersPiece keys.now piece.now slots.old.items slots.new.items (option_map (λ v. v.items) o)) }
     ensures keeps { OnOk result (Keeps piece.now.place piece.now.label slots.old.items slots.new.items) }
     ensures bounded { IsBounded slots.old.items → IsBounded slots.new.items }
 {
@@ -162,7 +162,7 @@ impl Gathering {
         // What is answered was sealed as a whole, with this label and under this key, whatever came before.
         ensures sealed { IfOk result (λ o. IfSome o (λ packet. IsSealedAs keys.now piece.now.place piece.now.label packet.items)) }
         // Each part that comes is there from then on, in whatever order they come, and the last that lacked gives the packet.
-        ensures gathers { IfOk result (λ o. Gathers keys.now piece.now.place piece.now.label piece.now.index piece.now.part.now self.old self.new (option_map (λ v. v.items) o)) }
+        ensures gathers { IfOk result (λ o. GathersPiece keys.now piece.now self.old self.new (option_map (λ v. v.items) o)) }
         // What is known of the others stays, but for one of a member that has begun four.
         ensures keeps { OnOk result (Keeps piece.now.place piece.now.label self.old self.new) }
         // Of no member more than four are kept.

@@ -31,11 +31,11 @@ is_waiting now (Some p) = nat_lt (now - p.since) 1500
 abbrev pub is_anew : RollLook → TellerValue → Bool
 is_anew l t = l.is_quiet && not (t.seen == l.news)
 
--- its counts are asked for now: anew, or for the first to third time in a row
+-- its counts are asked for now: anew, or for the first to sixth time in a row
 abbrev pub is_counts_due : RollLook → TellerValue → Bool
 is_counts_due l t = not (is_waiting l.moment t.pending) && (is_anew l t || (t.is_due && nat_lt (tries_of t.pending) 6))
 
--- the page that is asked for now where no counts are: the lowest that differs, for the first to third time in a row
+-- the page that is asked for now where no counts are: the lowest that differs, for the first to sixth time in a row
 abbrev pub page_due : ℕ → TellerValue → Option ℕ
 page_due now t = if is_waiting now t.pending || (t.is_due || nat_le 6 (tries_of t.pending)) then None else t.heard.lowest
 
