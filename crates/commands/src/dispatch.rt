@@ -5,7 +5,8 @@ ghost use Rattle.std.specs.Io.KnownBytes.{Appends};
 ghost use Rattle.tape_frames.specs.declared.version.Version.{Version as VersionValue};
 ghost use Rattle.command_ends.specs.declared.end.End.TheVariants.{Done};
 ghost use Rattle.arguments.specs.declared.asked.Asked.TheVariants.{Answer, Create, Upgrade};
-ghost use Rattle.commands.specs.Ends.{Answers, Creates};
+ghost use Rattle.commands.specs.Ends.{Answers};
+ghost use Rattle.station_commands.specs.Creations.{CreateEnds};
 
 use crate::console::Console;
 use crate::editing::{run_fit, run_punch, run_spell};
@@ -40,8 +41,9 @@ fn run_check<F: RowFiles, R: Read + Drop, W: Write + Drop, E: Write + Drop>(
         err,
         ..
     } = console;
+    let paths = *paths;
     let order = CheckOrder {
-        paths,
+        paths: &paths,
         table: InputFile::at(rt, paths.table),
         widths: InputFile::at(rt, paths.widths),
         tape: Story::at(rt, paths.tape, input),
@@ -63,8 +65,9 @@ fn run_draw<F: RowFiles, R: Read + Drop, W: Write + Drop, E: Write + Drop>(
         err,
         ..
     } = console;
+    let paths = *paths;
     let order = DrawOrder {
-        paths,
+        paths: &paths,
         table: InputFile::at(rt, paths.table),
         widths: InputFile::at(rt, paths.widths),
         tape: Story::at(rt, paths.tape, input),
@@ -122,9 +125,9 @@ pub fn carry_out<F: RowFiles, R: Read + Drop, W: Write + Drop, E: Write + Drop>(
     asked: &Asked<'_>,
 ) -> End
     ensures answered { (circuit me : ℕ) → (wire : VersionValue) → asked.now ≡ Answer circuit me wire
-        → Answers R.remaining W.contents console.old console.new circuit me wire result }
+        → Answers (R.remaining console.old.input) (W.contents console.old.out) (W.contents console.new.out) circuit me wire result }
     ensures created { (config : _) → (layout : VersionValue) → asked.now ≡ Create config layout
-        → Creates F.leaves W.contents console.old console.new layout result }
+        → CreateEnds F.leaves console.old.row_files.now layout (W.contents console.old.out) (W.contents console.new.out) result }
     ensures over { (path : _) → asked.now ≡ Upgrade path → result ≡ Done → Appends (W.contents console.old.out) (W.contents console.new.out) (codes "layout 2\n") }
 {
     let rt = console.rt;

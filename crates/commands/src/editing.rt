@@ -55,8 +55,9 @@ pub fn run_punch<F: RowFiles, R: Read + Drop, W: Write + Drop, E: Write + Drop>(
         Ok(ligatures) => ligatures,
         Err(error) => return tell_ligatures(error, err),
     };
+    let paths = *paths;
     let order = PunchOrder {
-        paths,
+        paths: &paths,
         table: InputFile::at(rt, paths.table),
         text: Story::at(rt, paths.story, input),
         ligatures: &ligatures,

@@ -39,9 +39,9 @@ impl<R: Settles, N: Wire + Drop> Machine<R, N> {
     }
 }
 
-/// A moment in milliseconds, and the room for what comes in it.
+/// One turn: its moment in milliseconds, and the room for what comes in it.
 #[derive(Drop)]
-pub struct Moment<'a> {
+pub struct ServeTurn<'a> {
     pub at: u64,
     pub intake: &'a mut Intake,
 }
@@ -64,13 +64,13 @@ fn end_after<E: Write>(done: Result<(), Fault<'static>>, err: &mut E) -> End
 /// can't be written; `err` has the fault.
 pub fn serve_turn<R: Settles, N: Wire + Drop, W: Write, E: Write>(
     machine: &mut Machine<R, N>,
-    moment: Moment<'_>,
+    turn: ServeTurn<'_>,
     out: &mut W,
     err: &mut E,
 ) -> End
-    ensures { ServesBy (IsTurn moment.entry.at) result R.Rows R.Settles.is_settled N.passed W.contents machine.old machine.new out.old out.new }
+    ensures { ServesBy (IsTurn turn.entry.at) result R.Rows R.Settles.is_settled N.passed W.contents machine.old machine.new out.old out.new }
 {
-    let Moment { at, intake } = moment;
+    let ServeTurn { at, intake } = turn;
     let printer = Printer {
         alloc: machine.alloc,
         out,

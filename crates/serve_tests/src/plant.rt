@@ -4,7 +4,7 @@ use command_ends::End;
 use exchange::Intake;
 use fixtures::{Given, frames_of};
 use row_groups::Settles;
-use serve_command::{Machine, Moment, ServeTask, serve_run, serve_turn};
+use serve_command::{Machine, ServeTask, ServeTurn, serve_run, serve_turn};
 use station_fixtures::station_over;
 use std::alloc::Global;
 use tape_frames::{Tape, TapeFault};
@@ -129,7 +129,7 @@ impl<R: Settles, N: Wire + Drop> Plant<R, N> {
     /// How one more turn ends. What it prints comes after what was printed before.
     pub fn turn(&mut self, intake: &mut Intake) -> End {
         let at = self.machine.wire.now();
-        let moment = Moment { at, intake };
-        serve_turn(&mut self.machine, moment, &mut self.out, &mut self.err)
+        let turn = ServeTurn { at, intake };
+        serve_turn(&mut self.machine, turn, &mut self.out, &mut self.err)
     }
 }

@@ -2,7 +2,6 @@
 
 ghost use Rattle.std.specs.Prelude.{IfOk};
 ghost use Rattle.station_commands.specs.Wires.{BringsAt, IsHostDoor, sends_at};
-ghost use Rattle.wire.specs.Doors.{BringsAlike, BringsOnly};
 
 use ballots::Member;
 use sealed_door::SealedDoor;
@@ -46,20 +45,14 @@ impl Door for HostDoor {
         }
     }
 
-    fn admit(&mut self, alloc: Global, sender: SocketAddr, bytes: &[u8]) -> Brought
-        ensures brings { BringsOnly (BringsAt self.new sender bytes.now) result }
-        ensures alike { BringsAlike (BringsAt self.old) (BringsAt self.new) }
-    {
+    fn admit(&mut self, alloc: Global, sender: SocketAddr, bytes: &[u8]) -> Brought {
         match self {
             HostDoor::Plain(door) => door.admit(alloc, sender, bytes),
             HostDoor::Sealed(door) => door.admit(alloc, sender, bytes),
         }
     }
 
-    fn send<S: Socket>(&mut self, socket: &S, to: Member, bytes: &[u8]) -> bool
-        ensures sends { sends_at self.old (S.given socket.now) to bytes.now result }
-        ensures alike { BringsAlike (BringsAt self.old) (BringsAt self.new) }
-    {
+    fn send<S: Socket>(&mut self, socket: &S, to: Member, bytes: &[u8]) -> bool {
         match self {
             HostDoor::Plain(door) => door.send(socket, to, bytes),
             HostDoor::Sealed(door) => door.send(socket, to, bytes),

@@ -1,9 +1,7 @@
 //! The wire of the machine that the program runs on.
 
-ghost use Rattle.std.specs.Prelude.{[], ◌∷◌, IfOk, length};
+ghost use Rattle.std.specs.Prelude.{IfOk};
 ghost use Rattle.station_commands.specs.Wires.{IsHostWire, host_passed};
-ghost use Rattle.wire.specs.Arrival.{Fits, came_by};
-ghost use Rattle.wire.specs.Passing.{Passes, sent, told};
 
 use crate::host_door::{HostDoor, door_of};
 use ballots::Member;
@@ -38,40 +36,27 @@ impl<'a> HostWire<'a> {
 impl<'a> Wire for HostWire<'a> {
     ghost passed = { host_passed };
 
-    fn fetch(&mut self) -> bool
-        ensures passes { Passes (host_passed self.old) (host_passed self.new) [] }
-    {
+    fn fetch(&mut self) -> bool {
         self.wire.fetch()
     }
 
-    fn receive(&mut self, buffer: &mut [u8]) -> Arrival
-        ensures fits { Fits result (length buffer.new) }
-        ensures passes { Passes (host_passed self.old) (host_passed self.new) (came_by result buffer.new) }
-    {
+    fn receive(&mut self, buffer: &mut [u8]) -> Arrival {
         self.wire.receive(buffer)
     }
 
-    fn send(&mut self, to: Member, bytes: &[u8]) -> bool
-        ensures passes { Passes (host_passed self.old) (host_passed self.new) (sent to bytes.now ∷ []) }
-    {
+    fn send(&mut self, to: Member, bytes: &[u8]) -> bool {
         self.wire.send(to, bytes)
     }
 
-    fn now(&mut self) -> u64
-        ensures passes { Passes (host_passed self.old) (host_passed self.new) (told result ∷ []) }
-    {
+    fn now(&mut self) -> u64 {
         self.wire.now()
     }
 
-    fn strangers(&mut self, now: u64) -> Option<Strangers>
-        ensures passes { Passes (host_passed self.old) (host_passed self.new) [] }
-    {
+    fn strangers(&mut self, now: u64) -> Option<Strangers> {
         self.wire.strangers(now)
     }
 
-    fn lost(&mut self, now: u64) -> Option<u64>
-        ensures passes { Passes (host_passed self.old) (host_passed self.new) [] }
-    {
+    fn lost(&mut self, now: u64) -> Option<u64> {
         self.wire.lost(now)
     }
 }

@@ -18,7 +18,7 @@ pub returns : goal.returns
 returns g c =
     let k = known g.R.Rows g.R.Settles.is_settled g.N.Wire.passed (prints g.W.Write.contents) in
     let last = c.turn_at-done.new.self in
-    let form = IsTurn c.args.moment.at in
+    let form = IsTurn c.args.turn.at in
     let drove = c.turn_at-done.ensures in
     let was = post c.args.machine.now.station c.args.machine.now.wire c.args.out.now in
     let there = post last.station.now last.wire.now last.sink.out.now in
