@@ -24,23 +24,23 @@ MOST_WORDS = 40
 # how many lines of all pages may hold a longer sentence, and how many words each page may have
 MOST_LONG = 25
 MOST = {
-    "README.md": 1600,
-    "CONTRIBUTING.md": 1200,
-    "docs/COMMANDS.md": 3400,
+    "README.md": 1430,
+    "CONTRIBUTING.md": 1100,
+    "docs/COMMANDS.md": 2830,
     "docs/CRATES.md": 2900,
-    "docs/DECISIONS.md": 2000,
-    "docs/DEFINITIONS.md": 1500,
-    "docs/DRAWING.md": 900,
-    "docs/FORMATS.md": 4250,
-    "docs/GLOSSARY.md": 600,
+    "docs/DECISIONS.md": 1520,
+    "docs/DEFINITIONS.md": 1250,
+    "docs/DRAWING.md": 800,
+    "docs/FORMATS.md": 3400,
+    "docs/GLOSSARY.md": 560,
     "docs/MAP.md": 1400,
     "docs/MEASURED.md": 1150,
-    "docs/NOTATION.md": 650,
-    "docs/OPERATING.md": 2700,
-    "docs/PROOF.md": 1800,
+    "docs/NOTATION.md": 600,
+    "docs/OPERATING.md": 2570,
+    "docs/PROOF.md": 1400,
     "docs/PROVED.md": 6000,
-    "docs/SETTING.md": 1700,
-    "docs/TURN.md": 800,
+    "docs/SETTING.md": 1300,
+    "docs/TURN.md": 830,
 }
 
 # a function, a type or a word of specs/, and then its clauses or fields
