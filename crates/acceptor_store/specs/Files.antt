@@ -1,5 +1,5 @@
 -- Saved rows in a host's file.
-use Rattle.std.specs.Prelude.{◌≡◌, ◌≤◌, Bool, Option, true, false}
+use Rattle.std.specs.Prelude.{◌≡◌, ◌≤◌, Bool, Option, IsTrue, true, false}
 use Rattle.sqlite_disk.specs.declared.Disk.{Ghosts}
 use Rattle.sqlite.specs.declared.FileStore.{FileStore}
 use Rattle.sqlite.specs.declared.Leftover.{Leftover}
@@ -15,13 +15,15 @@ use Rattle.sqlite.specs.Start.{FindsIn}
 use Rattle.sqlite_trees.specs.Tree.{Trees}
 use Rattle.sqlite_trees.specs.View.{doubt}
 use Rattle.row_table.specs.Tables.{layout_schema, no_schema}
+use Rattle.protocol.specs.Versions.{Version}
 use Rattle.saved_rows.specs.Saved.{SameRows}
 use Rattle.saved_rows.specs.declared.identity.Identity.{Identity}
 use Rattle.saved_rows.specs.declared.fault.RowsFault.{RowsFault}
 use Rattle.row_columns.specs.Columns.{saved_in}
 use Rattle.row_columns.specs.FoundTables.{has_any}
+use Rattle.row_columns.specs.Layouts.{made_in}
 use Rattle.row_columns.specs.StationRow.{IsStationOf}
-use Rattle.acceptor_store.specs.Sqlite.{SqliteOf, IsOurs, IsOursAsFound, IsOfStation, rows_layout, saved_of}
+use Rattle.acceptor_store.specs.Sqlite.{SqliteOf, Agrees, HoldsNoRow, IsAtRest, IsOurs, IsOursAsFound, IsOfStation, rows_layout, rows_version, saved_of}
 use Rattle.acceptor_store.specs.Opening.{IsReasonToRefuse, LeavesNothingNew, StaysUnwritten}
 
 -- what the store owes: where the database that the files held has the tables of a layout, and no others, they are its own, in that layout
@@ -61,6 +63,28 @@ pub record MakesItsOwn {D : Type 0} {g : Ghosts D} (start : Image) (s : SqliteOf
   pub ours : (file_state was).now.schema ≡ no_schema → IsOurs s.alone s.was s.found
   -- where the disk has returned what was written, it had when the file was opened
   pub clean : doubt (file_state was).is_clean ≤ doubt (file_state s.conn).is_clean
+
+-- rows that were taken up from the files for the station that is given, if any
+pub record AreTakenUp {D : Type 0} {g : Ghosts D} (start : Image) (given : Option Identity) (s : SqliteOf (FileStore D g)) : Type 0 where
+  pub is_open : HasCleanDisk (file_state s.conn) → IsOurs s.alone s.was s.found → IsTrue (file_state s.conn).is_open
+  pub rests : HasCleanDisk (file_state s.conn) → IsOurs s.alone s.was s.found → IsAtRest over_files s
+  -- what the store owes, told of the files; with what the host owes the rows are those that the files held
+  pub made : TakesItsOwn start s
+  pub rows : HasCleanDisk (file_state s.conn) → IsOurs s.alone s.was s.found → IsTakenUp start s
+  pub agrees : Agrees given s.identity
+  pub fresh : s.upgraded ≡ false
+  pub unstopped : s.stopped ≡ false
+
+-- rows whose tables were made in the files for this station, at this version
+pub record AreMadeIn {D : Type 0} {g : Ghosts D} (start : Image) (i : Identity) (made_at : Version) (s : SqliteOf (FileStore D g)) : Type 0 where
+  pub is_open : HasCleanDisk (file_state s.conn) → IsOurs s.alone s.was s.found → IsTrue (file_state s.conn).is_open
+  pub rests : HasCleanDisk (file_state s.conn) → IsOurs s.alone s.was s.found → IsAtRest over_files s
+  pub made : MakesItsOwn start s
+  pub blank : HasCleanDisk (file_state s.conn) → IsOurs s.alone s.was s.found → HoldsNoRow over_files s
+  pub identity : s.identity ≡ i
+  pub layout : (s.was ≡ made_in made_at) × (s.upgraded ≡ false)
+  pub version : rows_version s ≡ made_at
+  pub unstopped : s.stopped ≡ false
 
 -- the database file alone, without its log, holds the rows and the station, as it reads now and after a crash
 pub record HoldsRowsAlone {D : Type 0} {g : Ghosts D} (s : SqliteOf (FileStore D g)) (files : Files D) : Type 0 where

@@ -3,13 +3,15 @@
 use Rattle.std.specs.Prelude.{◌≡◌, ◌⊎◌, ◌≤◌, ℕ, List, [], ◌∷◌, Result, IfErr, OnOk, IsTrue, false}
 use Rattle.sqlite_trees.specs.declared.store.Store.{Ghosts}
 use Rattle.sqlite_trees.specs.Tree.{Trees}
+use Rattle.sqlite_trees.specs.View.{doubt}
 use Rattle.sqlite.specs.State.{State, HasCleanDisk}
 use Rattle.sqlite.specs.declared.transaction.Transaction.{Transaction}
 use Rattle.row_table.specs.Tables.{Layout, Origin, layout_schema, layout_tree}
 use Rattle.row_table.specs.Tables.Layout.{Second}
 use Rattle.row_table.specs.Rows.{AreRows, SavesIn, Serves}
+use Rattle.row_table.specs.Keeping.{KeptWhereRefused}
 use Rattle.row_table.specs.Staging.{IsStaging}
-use Rattle.row_table.specs.Within.{ActsWithin}
+use Rattle.row_table.specs.Within.{ActsWithin, EndsWhole}
 use Rattle.protocol.specs.Limits.{last_number}
 use Rattle.protocol.specs.Rows.{Row}
 use Rattle.saved_rows.specs.Saved.{Saved, HasPromise}
@@ -78,6 +80,16 @@ abbrev pub CrashesWithAllOrNone : Layout → List (ℕ × Row) → State → Sta
 CrashesWithAllOrNone layout items old new =
     HasCleanDisk new → HasLayout layout old → (db : Trees) → new.may_leave db → old.may_leave db ⊎ PutsEach layout items old.now.trees db
 
+-- an act that puts each of these in one transaction: an Ok has committed them, and a refusal, which speaks of no row, undoes all
+pub record PutsTogether {A : Type 0} (layout : Layout) (items : List (ℕ × Row)) (result : Result A RowsFault) (old new : State) : Type 0 where
+  pub committed : CommitsEach layout items result old new
+  pub opened : WasOpenWhereDone result old new
+  pub crash : CrashesWithAllOrNone layout items old new
+  -- no transaction is left
+  pub ended : new.in_transaction ≡ false
+  pub ends : EndsWhole result old new
+  pub refusal : IfErr result IsRefusal
+
 -- ---- of a connection that serves
 
 -- each was saved, and a crash leaves all of them
@@ -96,6 +108,16 @@ abbrev pub CrashesWithEach : Layout → List (ℕ × Row) → State → State �
 CrashesWithEach layout items old new =
     Serves layout old → HasCleanDisk new → IsTrue old.is_open
     → (db : Trees) → new.may_leave db → (db ≡ old.now.trees) ⊎ PutsEach layout items old.now.trees db
+
+-- an act that saves each of these or none: a refusal, which speaks of no row, has changed nothing
+pub record SavesTogether {A : Type 0} (layout : Layout) (items : List (ℕ × Row)) (result : Result A RowsFault) (old new : State) : Type 0 where
+  pub serves : Serves layout old → Serves layout new
+  pub saved : SavesEach layout items result old new
+  pub err : KeptWhereRefused layout result old new
+  pub crash : CrashesWithEach layout items old new
+  -- no fault of the disk is forgotten
+  pub clean : doubt old.is_clean ≤ doubt new.is_clean
+  pub refusal : IfErr result IsRefusal
 
 -- ---- of rows in a database
 

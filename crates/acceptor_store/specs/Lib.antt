@@ -13,4 +13,5 @@ pub mod Acknowledged
 pub mod Steps
 pub mod Testing
 pub mod Reading
+pub mod Calls
 pub mod Taking

@@ -1,15 +1,20 @@
 -- What is told of a database before its rows are taken up, and of a station's tables as they are made:
 -- `old` is the state of its connection before the call, `new` after it. All of it is said where the disk returned what was written.
-use Rattle.std.specs.Prelude.{◌≡◌, ◌⊎◌, ℕ, Option, Some, None, Result, IfOk, IfErr, OnOk, IsTrue, false}
+use Rattle.std.specs.Prelude.{◌≡◌, ◌≤◌, ◌⊎◌, ℕ, Option, Some, None, Result, IfOk, IfErr, OnOk, IsTrue, false}
 use Rattle.sqlite_trees.specs.Tree.{Trees}
+use Rattle.sqlite_trees.specs.View.{doubt}
 use Rattle.sqlite.specs.State.{State, HasCleanDisk, IsUnchanged}
 use Rattle.row_table.specs.Tables.{Layout, layout_schema, layout_tree, no_schema}
 use Rattle.row_table.specs.Rows.{Serves, WasKept}
-use Rattle.row_table.specs.Station.{HoldsNone, WasMade}
+use Rattle.row_table.specs.Reading.{KeepsTables}
+use Rattle.row_table.specs.Station.{HoldsNone}
+use Rattle.row_table.specs.declared.tables.StationColumns.{StationColumns}
+use Rattle.row_table.specs.declared.layout.Layout.{Layout as LayoutValue}
 use Rattle.saved_rows.specs.declared.identity.Identity.{Identity}
 use Rattle.saved_rows.specs.declared.fault.RowsFault.{RowsFault}
 use Rattle.saved_rows.specs.declared.fault.RowsFault.TheVariants.{WrongSchema}
-use Rattle.row_columns.specs.StationRow.{stored_station, IsStationOf}
+use Rattle.row_columns.specs.Layouts.{layout_of}
+use Rattle.row_columns.specs.StationRow.{stored_station, Agrees, IsStationOf}
 use Rattle.row_columns.specs.Columns.{AreSound}
 use Rattle.acceptor_store.specs.Sqlite.{HoldsRows, IsRefusal, RefusesRows, RefusesToOpen}
 
@@ -73,6 +78,35 @@ abbrev pub RefusesForReason : {A : Type 0} → Option Identity → Result A Rows
 RefusesForReason given result old new =
     HasCleanDisk new → (layout : Layout) → old.now.schema ≡ layout_schema layout → IfErr result (RefusesToOpen layout given old.now.trees)
 
+-- a reading of the row of the station
+pub record ReadsIdentity (result : Result (ℕ × Identity) RowsFault) (old new : State) : Type 0 where
+  pub stored : TellsStation result old new
+  pub refuses : TellsNoStation result old new
+  pub unchanged : LeavesUnchanged result old new
+  pub rests : KeepsAtRest old new
+  -- no transaction begins
+  pub alone : old.in_transaction ≡ false → new.in_transaction ≡ false
+  pub leaves : LeavesNothingNew old new
+  -- no fault of the disk is forgotten
+  pub clean : doubt old.is_clean ≤ doubt new.is_clean
+
+-- an Ok tells the layout of the tables
+abbrev pub TellsLayout : {A E : Type 0} → Result (LayoutValue × A) E → State → Type 0
+TellsLayout result old = (layout : Layout) → old.now.schema ≡ layout_schema layout → IfOk result (λ s. layout_of s.0 ≡ layout)
+
+-- the tests of a database before its rows are taken up for the station that is given, if any: an Ok has its layout and its station
+pub record TakesUp (given : Option Identity) (result : Result (LayoutValue × Identity) RowsFault) (old new : State) : Type 0 where
+  pub laid : TellsLayout result old
+  pub holds : FindsItsRows result old new
+  pub serves : ServesOnceOpened result old new
+  pub agrees : IfOk result (λ s. Agrees given s.1)
+  pub refuses : RefusesForReason given result old new
+  pub unchanged : LeavesUnchanged result old new
+  pub kept : KeepsCommitted old new
+  pub leaves : LeavesNothingNew old new
+  -- no fault of the disk is forgotten
+  pub clean : doubt old.is_clean ≤ doubt new.is_clean
+
 -- ---- a database that has the tables of this layout, and no others
 
 -- an Ok gives the station that is stored, in this layout
@@ -101,22 +135,25 @@ abbrev pub RefusesRowsForReason : {A : Type 0} → Layout → Result A RowsFault
 RefusesRowsForReason layout result old new =
     HasCleanDisk new → old.now.schema ≡ layout_schema layout → IfErr result (RefusesRows layout old.now.trees)
 
+-- a reading of the station that the rows belong to, which is to be the one that is given, if any
+pub record TakesStation (layout : Layout) (given : Option Identity) (result : Result Identity RowsFault) (old new : State) : Type 0 where
+  pub stored : TakesStoredStation layout result old new
+  pub agrees : IfOk result (Agrees given)
+  pub refuses : RefusesStationForReason layout given result old new
+  pub tables : KeepsTables layout result old new
+
+-- a test of all its rows
+pub record TestsRows {A : Type 0} (layout : Layout) (result : Result A RowsFault) (old new : State) : Type 0 where
+  pub sound : FindsRowsSound layout result old new
+  pub serves : ServesOnceTested layout result old new
+  pub refuses : RefusesRowsForReason layout result old new
+  pub tables : KeepsTables layout result old new
+
 -- ---- a database that is empty
 
--- an Ok made the tables of this layout, with the row of this station and no saved row, and committed them
-abbrev pub MakesTables : {A E : Type 0} → Layout → Identity → Result A E → State → State → Type 0
-MakesTables layout i result old new =
-    HasCleanDisk new → old.now.schema ≡ no_schema → OnOk result (WasMade layout i.circuit i.member i.members new)
-
--- the connection serves after an Ok
-abbrev pub ServesOnceMade : {A E : Type 0} → Layout → Result A E → State → State → Type 0
-ServesOnceMade layout result old new = old.now.schema ≡ no_schema → HasCleanDisk new → OnOk result (Serves layout new)
-
--- a crash after an Ok leaves these tables
-abbrev pub LastsOnceMade : {A E : Type 0} → Layout → Identity → Result A E → State → State → Type 0
-LastsOnceMade layout i result old new =
-    HasCleanDisk new → old.now.schema ≡ no_schema
-    → OnOk result ((db : Trees) → new.may_leave db → HoldsNone layout i.circuit i.member i.members db)
+-- the columns of this station
+abbrev pub columns_of_station : Identity → StationColumns
+columns_of_station i = record { circuit = i.circuit; member = i.member; members = i.members }
 
 -- a crash leaves what it could have left before, or these tables with the station and no row
 abbrev pub MakesAllOrNothing : Layout → Identity → State → State → Type 0

@@ -1,11 +1,12 @@
 -- Saved rows that are seen one by one, as they are read.
-use Rattle.std.specs.Prelude.{◌≡◌, ◌⊎◌, ◌++◌, ℕ, Bool, List, [], Option, None, Result, IfOk, IfErr, IfSome, IsSome, IsTrue}
+use Rattle.std.specs.Prelude.{◌≡◌, ◌⊎◌, ◌++◌, ℕ, Bool, false, List, [], Option, None, Result, IfOk, IfErr, IfSome, IsSome, IsTrue}
 use Rattle.std.specs.List.{filter_map}
 use Rattle.sqlite_value.specs.Order.{Row as Columns}
 use Rattle.protocol.specs.Rows.{Row}
 use Rattle.sqlite.specs.State.{State, HasCleanDisk}
 use Rattle.row_table.specs.Tables.{Layout, layout_tree}
 use Rattle.row_table.specs.Rows.{Serves}
+use Rattle.row_table.specs.Reading.{KeepsServing}
 use Rattle.saved_rows.specs.Saved.{Saved, IsListOf}
 use Rattle.saved_rows.specs.declared.fault.RowsFault.{RowsFault}
 use Rattle.row_columns.specs.Columns.{item_in, damage_in, saved_in, AreSound}
@@ -43,6 +44,19 @@ ShowsFront layout saw before after old new =
 -- a refusal speaks of no row
 abbrev pub BlamesNoRow : {A : Type 0} → Layout → Result A RowsFault → State → State → Type 0
 BlamesNoRow layout result old new = Serves layout old → HasCleanDisk new → HoldsSound layout old → IfErr result IsRefusal
+
+-- the rows are shown to a visitor one by one, in order of their numbers, until it has enough
+pub record ShowsRows {V : Type 0} (layout : Layout) (saw : V → V → List (ℕ × Row) → Type 0) (has_enough : V → Type 0)
+    (before after : V) (result : Result Bool RowsFault) (old new : State) : Type 0 where
+  pub seen : ShowsAll layout saw before after result old new
+  -- where these were not all, it wants no more
+  pub enough : IfOk result (λ all. all ≡ false → has_enough after)
+  pub front : ShowsFront layout saw before after old new
+  -- it has seen some rows, and nothing else
+  pub only : (items : List (ℕ × Row)) × saw before after items
+  pub serving : KeepsServing layout result old new
+  -- sound rows are not damaged
+  pub refusal : BlamesNoRow layout result old new
 
 -- ---- of the rows of a listing
 

@@ -1,9 +1,9 @@
 -- Rows that were taken up from a database, or made in one: `was` is the state of its connection before.
-use Rattle.std.specs.Prelude.{◌≡◌, ◌≤◌, Option, IsTrue, true, false}
+use Rattle.std.specs.Prelude.{◌≡◌, ◌≤◌, Option, Result, IfOk, IfErr, IsTrue, true, false}
 use Rattle.sqlite_trees.specs.declared.store.Store.{Ghosts}
 use Rattle.sqlite_trees.specs.Tree.{Trees}
 use Rattle.sqlite_trees.specs.View.{doubt}
-use Rattle.sqlite.specs.State.{State}
+use Rattle.sqlite.specs.State.{State, HasCleanDisk}
 use Rattle.sqlite.specs.Held.{Held, state}
 use Rattle.row_table.specs.Tables.{layout_schema, no_schema}
 use Rattle.protocol.specs.Versions.{Version}
@@ -23,7 +23,7 @@ use Rattle.acceptor_store.specs.declared.faults.FileFault.{FileFault}
 use Rattle.acceptor_store.specs.declared.faults.FileFault.TheVariants as faults
 use Rattle.acceptor_store.specs.Faults.{IsOfTaking, IsOfMaking}
 use Rattle.acceptor_store.specs.Opening.{HasWhatItHad, IsReasonToRefuse, LeavesNothingNew, MakesAllOrNothing, StaysUnwritten}
-use Rattle.acceptor_store.specs.Sqlite.{SqliteOf, Agrees, IsAtRest, IsKept, IsOpen, IsOurs, IsOursAsFound, IsRefusal, HoldsNoRow, rows_version, saved_of}
+use Rattle.acceptor_store.specs.Sqlite.{SqliteOf, Agrees, IsAtRest, IsKept, IsKeptAsFound, IsOpen, IsOurs, IsOursAsFound, IsRefusal, HoldsNoRow, LeavesNoRow, rows_version, saved_of}
 
 module _ {S : Type 0} (g : Ghosts S) where
   -- they were taken up for the station that is given, if any: where they are kept, the rows and the station are those that were stored, and nothing is written
@@ -40,6 +40,7 @@ module _ {S : Type 0} (g : Ghosts S) where
     pub clean : doubt was.is_clean ≤ doubt (state g s.conn).is_clean
     pub crash : IsKept g s → (left : Trees) → (state g s.conn).may_leave left → was.may_leave left
     pub ours : IsOursAsFound was s
+    pub kept : IsKeptAsFound g was s
 
   -- their tables, none of which was there, were made for this station, at this version: where they are kept, they hold no row
   pub record IsMadeFor (i : Identity) (made_at : Version) (was : State) (s : SqliteOf S) : Type 0 where
@@ -54,6 +55,9 @@ module _ {S : Type 0} (g : Ghosts S) where
     pub version : rows_version s ≡ made_at
     pub unstopped : s.stopped ≡ false
     pub clean : doubt was.is_clean ≤ doubt (state g s.conn).is_clean
+    pub crash : IsKept g s → LeavesNoRow g (made_in made_at) i s
+    -- with what the host owes they are kept
+    pub kept : HasCleanDisk (state g s.conn) → was.now.schema ≡ no_schema → IsKept g s
 
   -- they are what was wanted of the database: taken up, or made
   abbrev pub AreAsWanted : Wanted → State → SqliteOf S → Type 0
@@ -96,6 +100,11 @@ module _ {S : Type 0} (g : Ghosts S) where
   abbrev pub RefusesWanted : Wanted → FileFault → Held S → Held S → Type 0
   RefusesWanted (Stored given) fault was now = TellsWhyUntaken given fault was now
   RefusesWanted (Made i version) fault was now = TellsWhyUnmade i (version_of version) fault was now
+
+  -- what was wanted of a database is given, or else it is told why not, and the database comes back
+  pub record GivesWanted (wanted : Wanted) (was : Held S) (result : Result (SqliteOf S) (FileFault × Held S)) : Type 0 where
+    pub given : IfOk result (AreAsWanted g wanted (state g was))
+    pub refused : IfErr result (λ e. RefusesWanted wanted e.0 was e.1)
 
 -- the faults that what was wanted may be refused with
 abbrev pub IsFaultOf : Wanted → FileFault → Type 0

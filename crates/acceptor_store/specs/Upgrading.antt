@@ -1,18 +1,20 @@
 -- What an upgrade leaves of a connection that is at rest on the tables of a station: `old` before the call, `new` after it.
 -- All of it is said where the disk returned what was written.
-use Rattle.std.specs.Prelude.{◌≡◌, List, Result, OnOk, OnErr, IsTrue}
+use Rattle.std.specs.Prelude.{◌≡◌, ◌≤◌, List, Result, IfErr, OnOk, OnErr, IsTrue}
 use Rattle.sqlite_value.specs.Order.{Row as Columns}
 use Rattle.sqlite_trees.specs.declared.store.Store.{Ghosts}
 use Rattle.sqlite_trees.specs.Tree.{Trees}
+use Rattle.sqlite_trees.specs.View.{doubt}
 use Rattle.sqlite.specs.State.{HasCleanDisk}
 use Rattle.sqlite.specs.Held.{Held, state}
 use Rattle.row_table.specs.Tables.{Layout, Origin}
 use Rattle.row_table.specs.Tables.Layout.{First, Second}
 use Rattle.row_table.specs.Rows.{WasKept}
 use Rattle.saved_rows.specs.declared.identity.Identity.{Identity}
+use Rattle.saved_rows.specs.declared.fault.RowsFault.{RowsFault}
 use Rattle.row_columns.specs.Columns.{saved_in}
 use Rattle.row_columns.specs.RowsAsEntries.{HoldsMap}
-use Rattle.acceptor_store.specs.Sqlite.{HoldsAll, Stands, WentOver}
+use Rattle.acceptor_store.specs.Sqlite.{HoldsAll, IsRefusal, Stands, WentOver}
 
 module _ {S : Type 0} (g : Ghosts S) where
   -- an Ok has gone over from this layout to the tables that an upgrade leaves, or found them
@@ -38,6 +40,28 @@ module _ {S : Type 0} (g : Ghosts S) where
       (i : Identity) → Stands g layout old i → IsTrue (state g old).is_open → HasCleanDisk (state g new)
       → (db : Trees) → (state g new).may_leave db → HoldsAll layout i (saved_in layout (state g old).now.trees) db
 
+  -- a connection that stands is refused for no row
+  abbrev pub BlamesNoRowOf : {A : Type 0} → Layout → Result A RowsFault → Held S → Held S → Type 0
+  BlamesNoRowOf layout result old new = (i : Identity) → Stands g layout old i → HasCleanDisk (state g new) → IfErr result IsRefusal
+
+  -- an upgrade from this layout
+  pub record Upgrades {A : Type 0} (layout : Layout) (result : Result A RowsFault) (old new : Held S) : Type 0 where
+    pub over : GoesOver layout result old new
+    pub kept : KeepsAllWhereRefused layout result old new
+    pub crash : CrashesWithSameMap layout old new
+    -- no fault of the disk is forgotten
+    pub clean : doubt (state g old).is_clean ≤ doubt (state g new).is_clean
+    pub refusal : BlamesNoRowOf layout result old new
+
+  -- a test of a layout that is over already
+  pub record TestsUpgraded {A : Type 0} (layout : Layout) (result : Result A RowsFault) (old new : Held S) : Type 0 where
+    pub over : StaysOver layout result old new
+    pub kept : KeepsAllWhereRefused layout result old new
+    pub crash : CrashesWithSameMap layout old new
+    -- no fault of the disk is forgotten
+    pub clean : doubt (state g old).is_clean ≤ doubt (state g new).is_clean
+    pub refusal : IfErr result IsRefusal
+
   -- where a table of entries holds the map of layout 1, an Ok has gone over
   abbrev pub GoesOverWith : {A E : Type 0} → List Columns → Result A E → Held S → Held S → Type 0
   GoesOverWith entries result old new =
@@ -50,3 +74,12 @@ module _ {S : Type 0} (g : Ghosts S) where
       (i : Identity) → Stands g First old i → HoldsMap (saved_in First (state g old).now.trees) entries
       → IsTrue (state g old).is_open → HasCleanDisk (state g new)
       → (db : Trees) → (state g new).may_leave db → HoldsAll First i (saved_in First (state g old).now.trees) db
+
+  -- an upgrade from layout 1 with these entries
+  pub record MovesEntries {A : Type 0} (entries : List Columns) (result : Result A RowsFault) (old new : Held S) : Type 0 where
+    pub over : GoesOverWith entries result old new
+    pub kept : KeepsAllWhereRefused First result old new
+    pub crash : CrashesWithMapOf entries old new
+    -- no fault of the disk is forgotten
+    pub clean : doubt (state g old).is_clean ≤ doubt (state g new).is_clean
+    pub refusal : IfErr result IsRefusal

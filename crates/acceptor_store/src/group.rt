@@ -1,18 +1,15 @@
 //! Rows that are saved together, in one transaction.
 
-ghost use Rattle.std.specs.Prelude.{◌≡◌, ◌≤◌, false, IfErr};
-ghost use Rattle.sqlite_trees.specs.View.{doubt};
+ghost use Rattle.std.specs.Prelude.{◌≡◌, false};
 ghost use Rattle.sqlite.specs.Held.{state};
 ghost use Rattle.row_table.specs.Tables.Layout.{First};
-ghost use Rattle.row_table.specs.Rows.{Serves};
-ghost use Rattle.row_table.specs.Keeping.{KeptWhereRefused, RolledBackWhereRefused, WasOpenWhereRefused};
 ghost use Rattle.protocol.specs.Versions.{One};
-ghost use Rattle.saved_rows.specs.Saved.{HasPromise, RowFits, AreFitting};
-ghost use Rattle.row_groups.specs.Groups.{ArePromised};
+ghost use Rattle.saved_rows.specs.Saved.{HasPromise};
+ghost use Rattle.row_groups.specs.Groups.{AreRowsOf};
 ghost use Rattle.row_columns.specs.Columns.{version_in};
 ghost use Rattle.row_columns.specs.Layouts.{layout_of};
-ghost use Rattle.acceptor_store.specs.Sqlite.{IsRefusal};
-ghost use Rattle.acceptor_store.specs.Grouping.{CommitsEach, CrashesWithAllOrNone, CrashesWithEach, SavesEach, StagesBack, StagesEach, StagesRows, StagesSecond, WasOpenWhereDone};
+ghost use Rattle.acceptor_store.specs.Grouping.{PutsTogether, SavesTogether, StagesBack, StagesEach, StagesRows, StagesSecond};
+ghost use Rattle.acceptor_store.specs.Statements.{CanBeSaved};
 
 use crate::statements::fault_of;
 use ballots::{Number, Row};
@@ -29,8 +26,7 @@ fn put_first<S: Alter>(
     number: Number,
     row: &Row,
 ) -> Result<(), RowsFault>
-    requires promise { HasPromise row.now }
-    requires fits { RowFits One row.now }
+    requires { CanBeSaved One row.now }
     ensures { StagesRows S.Store (StagesBack First number row.now) result tx.old tx.new }
 {
     // Which numbers there are is known once it is read.
@@ -70,8 +66,7 @@ fn put_in<S: Alter>(
     layout: Layout,
     item: &(Number, Row),
 ) -> Result<(), RowsFault>
-    requires promise { HasPromise item.now.1 }
-    requires fits { RowFits (version_in (layout_of layout)) item.now.1 }
+    requires { CanBeSaved (version_in (layout_of layout)) item.now.1 }
     ensures { StagesRows S.Store (StagesBack (layout_of layout) item.now.0 item.now.1) result tx.old tx.new }
 {
     match layout {
@@ -88,8 +83,7 @@ fn put_each<S: Alter>(
     layout: Layout,
     items: &[(Number, Row)],
 ) -> Result<(), RowsFault>
-    requires promised { ArePromised items.now }
-    requires fits { AreFitting (version_in (layout_of layout)) items.now }
+    requires rows { AreRowsOf (version_in (layout_of layout)) items.now }
     ensures { StagesRows S.Store (StagesEach (layout_of layout) items.now) result tx.old tx.new }
 {
     for item in items {
@@ -106,16 +100,8 @@ fn put_all<S: Alter>(
     items: &[(Number, Row)],
 ) -> Result<(), RowsFault>
     requires alone { conn.old.in_transaction ≡ false }
-    requires promised { ArePromised items.now }
-    requires fits { AreFitting (version_in (layout_of layout)) items.now }
-    ensures committed { CommitsEach (layout_of layout) items.now result (state S.Store conn.old) (state S.Store conn.new) }
-    ensures opened { WasOpenWhereDone result (state S.Store conn.old) (state S.Store conn.new) }
-    ensures was_open { WasOpenWhereRefused result (state S.Store conn.old) (state S.Store conn.new) }
-    ensures neither { RolledBackWhereRefused result (state S.Store conn.old) (state S.Store conn.new) }
-    ensures crash { CrashesWithAllOrNone (layout_of layout) items.now (state S.Store conn.old) (state S.Store conn.new) }
-    ensures ended { (state S.Store conn.new).in_transaction ≡ false }
-    ensures clean { doubt (state S.Store conn.old).is_clean ≤ doubt (state S.Store conn.new).is_clean }
-    ensures refusal { IfErr result IsRefusal }
+    requires rows { AreRowsOf (version_in (layout_of layout)) items.now }
+    ensures { PutsTogether (layout_of layout) items.now result (state S.Store conn.old) (state S.Store conn.new) }
 {
     let mut tx = conn.transaction();
     put_each(alloc, &mut tx, layout, items)?;
@@ -132,14 +118,8 @@ pub(crate) fn save_all<S: Alter>(
     layout: Layout,
     items: &[(Number, Row)],
 ) -> Result<(), RowsFault>
-    requires promised { ArePromised items.now }
-    requires fits { AreFitting (version_in (layout_of layout)) items.now }
-    ensures serves { Serves (layout_of layout) (state S.Store conn.old) → Serves (layout_of layout) (state S.Store conn.new) }
-    ensures saved { SavesEach (layout_of layout) items.now result (state S.Store conn.old) (state S.Store conn.new) }
-    ensures err { KeptWhereRefused (layout_of layout) result (state S.Store conn.old) (state S.Store conn.new) }
-    ensures crash { CrashesWithEach (layout_of layout) items.now (state S.Store conn.old) (state S.Store conn.new) }
-    ensures clean { doubt (state S.Store conn.old).is_clean ≤ doubt (state S.Store conn.new).is_clean }
-    ensures refusal { IfErr result IsRefusal }
+    requires rows { AreRowsOf (version_in (layout_of layout)) items.now }
+    ensures { SavesTogether (layout_of layout) items.now result (state S.Store conn.old) (state S.Store conn.new) }
 {
     if !conn.is_autocommit() {
         return Err(RowsFault::Store);

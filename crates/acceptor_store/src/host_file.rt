@@ -1,11 +1,9 @@
 //! Rows in a host's file.
 
-ghost use Rattle.std.specs.Prelude.{◌≡◌, false, None, IsTrue, IfOk, IfErr, IfSome};
+ghost use Rattle.std.specs.Prelude.{◌≡◌, None, IfOk, IfErr, IfSome};
 ghost use Rattle.sqlite_std_file.specs.File.{IsFresh};
-ghost use Rattle.sqlite.specs.State.{HasCleanDisk};
-ghost use Rattle.sqlite.specs.Files.{file_state, over_files};
 ghost use Rattle.sqlite.specs.WalFiles.{image_at};
-ghost use Rattle.acceptor_store.specs.Sqlite.{IsAtRest, IsOurs, IsRefusal, Agrees};
+ghost use Rattle.acceptor_store.specs.Sqlite.{IsRefusal};
 
 use crate::rows_at_path::{Wanted, rows_in_files};
 use crate::sqlite_rows::SqliteRows;
@@ -13,18 +11,24 @@ use crate::statements::fault_of;
 use saved_rows::{Identity, RowsFault};
 use sqlite::{Connection, FileFrom, FileStore, Leftover, Start};
 
-impl<T: Start> SqliteRows<FileStore<FileFrom<T>>> {
-    ghost use Rattle.acceptor_store.specs.Files.{IsTakenUp, TakesItsOwn, RefusesFiles, LeavesUnharmed};
+/// The path of a host's file, and whether a new one has sums, as `Connection::open_from` takes them.
+#[derive(Clone, Copy)]
+pub struct HostPath<'a> {
+    pub path: &'a str,
+    pub new_has_sums: bool,
+}
 
-    /// Opens a file and takes up the rows that it holds, as [`SqliteRows::open`] does. `path`, `new_has_sums`
-    /// and `start` are as for `Connection::open_from`.
+impl<T: Start> SqliteRows<FileStore<FileFrom<T>>> {
+    ghost use Rattle.acceptor_store.specs.Files.{AreTakenUp, RefusesFiles, LeavesUnharmed};
+
+    /// Opens a file and takes up the rows that it holds, as [`SqliteRows::open`] does. `start` is as for
+    /// `Connection::open_from`.
     ///
     /// A file that can't be opened is `Store`, or `OutOfMemory` where memory was refused. With the fault comes
     /// the connection, where the file was opened, or what is left of the files, if anything.
     pub fn open_from(
         rt: &HostRuntime,
-        path: &str,
-        new_has_sums: bool,
+        file: HostPath<'_>,
         start: T,
         given: Option<Identity>,
     ) -> Result<
@@ -35,15 +39,7 @@ impl<T: Start> SqliteRows<FileStore<FileFrom<T>>> {
             Option<Leftover<FileFrom<T>>>,
         ),
     >
-        ensures open { IfOk result (λ s. HasCleanDisk (file_state s.conn) → IsOurs s.alone s.was s.found → IsTrue (file_state s.conn).is_open) }
-        ensures rests { IfOk result (λ s. HasCleanDisk (file_state s.conn) → IsOurs s.alone s.was s.found → IsAtRest over_files s) }
-
-        // What the store owes, told of the file; with what the host owes the rows are those that the file held.
-        ensures made { IfOk result (TakesItsOwn (image_at T.Start)) }
-        ensures rows { IfOk result (λ s. HasCleanDisk (file_state s.conn) → IsOurs s.alone s.was s.found → IsTakenUp (image_at T.Start) s) }
-        ensures given { IfOk result (λ s. Agrees given s.identity) }
-        ensures fresh { IfOk result (λ s. s.upgraded ≡ false) }
-        ensures unstopped { IfOk result (λ s. s.stopped ≡ false) }
+        ensures taken { IfOk result (AreTakenUp (image_at T.Start) given) }
 
         // Why it is refused. No row is written then either; where no database was opened, one that the files held is
         // unharmed, though an empty log may stay beside it.
@@ -51,7 +47,7 @@ impl<T: Start> SqliteRows<FileStore<FileFrom<T>>> {
         ensures refusal { IfErr result (λ e. e.1 ≡ None → IsRefusal e.0) }
         ensures left { IfErr result (λ e. IfSome e.2 (LeavesUnharmed IsFresh)) }
     {
-        let conn = match Connection::open_from(rt, path, new_has_sums, start) {
+        let conn = match Connection::open_from(rt, file.path, file.new_has_sums, start) {
             Ok(conn) => conn,
             Err((error, left)) => return Err((fault_of(&error), None, left)),
         };

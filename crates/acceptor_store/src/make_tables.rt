@@ -1,12 +1,11 @@
 //! The tables of a station that starts.
 
-ghost use Rattle.std.specs.Prelude.{◌≡◌, ◌≤◌, false};
-ghost use Rattle.sqlite_trees.specs.View.{doubt};
+ghost use Rattle.std.specs.Prelude.{◌≡◌, false};
 ghost use Rattle.sqlite.specs.Held.{state};
 ghost use Rattle.tape_frames.specs.Entries.{version_of};
-ghost use Rattle.row_table.specs.Keeping.{RolledBackWhereRefused, WasOpenWhereRefused};
+ghost use Rattle.row_table.specs.Making.{CommitsTables};
 ghost use Rattle.row_columns.specs.Layouts.{made_in};
-ghost use Rattle.acceptor_store.specs.Opening.{LastsOnceMade, MakesAllOrNothing, MakesTables, ServesOnceMade};
+ghost use Rattle.acceptor_store.specs.Opening.{columns_of_station};
 
 use row_table::{StationColumns, create_entry_tables, create_tables};
 use saved_rows::Identity;
@@ -20,13 +19,7 @@ pub(crate) fn make_tables<S: Alter>(
     version: Version,
 ) -> Result<(), Error>
     requires { conn.old.in_transaction ≡ false }
-    ensures made { MakesTables (made_in (version_of version)) identity result (state S.Store conn.old) (state S.Store conn.new) }
-    ensures serves { ServesOnceMade (made_in (version_of version)) result (state S.Store conn.old) (state S.Store conn.new) }
-    ensures lasting { LastsOnceMade (made_in (version_of version)) identity result (state S.Store conn.old) (state S.Store conn.new) }
-    ensures was_open { WasOpenWhereRefused result (state S.Store conn.old) (state S.Store conn.new) }
-    ensures neither { RolledBackWhereRefused result (state S.Store conn.old) (state S.Store conn.new) }
-    ensures crash { MakesAllOrNothing (made_in (version_of version)) identity (state S.Store conn.old) (state S.Store conn.new) }
-    ensures clean { doubt (state S.Store conn.old).is_clean ≤ doubt (state S.Store conn.new).is_clean }
+    ensures { CommitsTables (made_in (version_of version)) (columns_of_station identity) result (state S.Store conn.old) (state S.Store conn.new) }
 {
     let station = StationColumns {
         circuit: u32::from(identity.circuit),

@@ -1,16 +1,13 @@
 //! Saved rows that are shown one by one, as they are read.
 
-ghost use Rattle.std.specs.Prelude.{◌≡◌, ◌⊎◌, ◌≤◌, ◌++◌, ◌∷◌, [], ℕ, false, None, Some, List, IsSome, IfOk, IfErr, refl};
+ghost use Rattle.std.specs.Prelude.{◌≡◌, ◌⊎◌, ◌++◌, ◌∷◌, [], ℕ, false, None, Some, List, IsSome, IfOk, IfErr, refl};
 ghost use Rattle.sqlite_value.specs.Order.{column};
-ghost use Rattle.sqlite_trees.specs.View.{doubt};
 ghost use Rattle.sqlite.specs.Held.{state};
 ghost use Rattle.protocol.specs.Rows.{Row as RowValue};
-ghost use Rattle.row_table.specs.Rows.{Serves};
-ghost use Rattle.row_table.specs.Keeping.{CrashesAsBefore, StaysKept, StaysOpen};
 ghost use Rattle.row_columns.specs.Layouts.{layout_of};
 ghost use Rattle.row_columns.specs.Columns.{row_in, damage_of, item_in};
 ghost use Rattle.acceptor_store.specs.Sqlite.{IsRefusal};
-ghost use Rattle.acceptor_store.specs.Reading.{BlamesNoRow, HasSeen, ShowsAll, ShowsFront};
+ghost use Rattle.acceptor_store.specs.Reading.{HasSeen, ShowsRows};
 
 use crate::statements::fault_of;
 use ballots::{Number, Row};
@@ -128,22 +125,7 @@ pub(crate) fn show_all<S: Alter, V: RowVisitor>(
     layout: Layout,
     visitor: &mut V,
 ) -> Result<bool, RowsFault>
-    ensures serves { Serves (layout_of layout) (state S.Store conn.old) → Serves (layout_of layout) (state S.Store conn.new) }
-    ensures seen { ShowsAll (layout_of layout) V.saw visitor.old visitor.new result (state S.Store conn.old) (state S.Store conn.new) }
-    ensures enough { IfOk result (λ all. all ≡ false → V.has_enough visitor.new) }
-
-    // However it ends, the first rows were seen, or none.
-    ensures front { ShowsFront (layout_of layout) V.saw visitor.old visitor.new (state S.Store conn.old) (state S.Store conn.new) }
-
-    // It has seen some rows, and nothing else.
-    ensures only { (items : List (ℕ × RowValue)) × V.saw visitor.old visitor.new items }
-    ensures open { StaysOpen (layout_of layout) result (state S.Store conn.old) (state S.Store conn.new) }
-    ensures same { StaysKept (layout_of layout) (state S.Store conn.old) (state S.Store conn.new) }
-    ensures crash { CrashesAsBefore (layout_of layout) (state S.Store conn.old) (state S.Store conn.new) }
-    ensures clean { doubt (state S.Store conn.old).is_clean ≤ doubt (state S.Store conn.new).is_clean }
-
-    // Sound rows are not damaged.
-    ensures refusal { BlamesNoRow (layout_of layout) result (state S.Store conn.old) (state S.Store conn.new) }
+    ensures { ShowsRows (layout_of layout) V.saw V.has_enough visitor.old visitor.new result (state S.Store conn.old) (state S.Store conn.new) }
 {
     rising_is_listed();
     rows_rise();

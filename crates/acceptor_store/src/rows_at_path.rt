@@ -1,16 +1,13 @@
 //! Rows in the file at a path, and what is the matter where there are none.
 
-ghost use Rattle.std.specs.Prelude.{◌≡◌, false, IsTrue, IfOk, IfErr};
-ghost use Rattle.sqlite.specs.State.{HasCleanDisk};
-ghost use Rattle.sqlite.specs.Held.{state};
+ghost use Rattle.std.specs.Prelude.{IfOk, IfErr};
 ghost use Rattle.sqlite.specs.Files.{file_state, over_files};
 ghost use Rattle.sqlite.specs.WalFiles.{image_at};
 ghost use Rattle.tape_frames.specs.Entries.{version_of};
 ghost use Rattle.saved_rows.specs.Identity.{IsIdentity};
-ghost use Rattle.row_columns.specs.Layouts.{made_in};
 ghost use Rattle.acceptor_store.specs.Faults.{IsOfMaking, IsOfTaking};
-ghost use Rattle.acceptor_store.specs.Sqlite.{IsAtRest, IsOurs, Agrees, HoldsNoRow, rows_version};
-ghost use Rattle.acceptor_store.specs.Taking.{AreAsWanted, CanBeMade, IsFaultOf, IsMadeFor, OpensAsStored, RefusesWanted, TellsWhyUnmade, TellsWhyUntaken};
+ghost use Rattle.acceptor_store.specs.Taking.{AreAsWanted, CanBeMade, GivesWanted, IsFaultOf};
+ghost use Rattle.acceptor_store.specs.declared.rows_at_path.Wanted.TheVariants.{Stored, Made};
 
 use crate::faults::{FileFault, file_fault_of, test_unmade};
 use crate::given_up::into_files;
@@ -22,6 +19,13 @@ use sqlite_disk::Disk;
 use std::alloc::Global;
 use std::fs;
 use tape_frames::Version;
+
+/// What new tables are made for: a station, at a version.
+#[derive(Clone, Copy)]
+pub struct NewTables {
+    pub identity: Identity,
+    pub version: Version,
+}
 
 /// What is wanted of a database: the rows in it, or new tables.
 #[derive(Clone, Copy)]
@@ -38,8 +42,7 @@ fn take_rows<S: Alter + Drop>(
     conn: Connection<S>,
     given: Option<Identity>,
 ) -> Result<SqliteRows<S>, (FileFault, Connection<S>)>
-    ensures taken { IfOk result (OpensAsStored S.Store given (state S.Store conn)) }
-    ensures refused { IfErr result (λ e. TellsWhyUntaken S.Store given e.0 conn e.1) }
+    ensures { GivesWanted S.Store (Stored given) conn result }
 {
     if has_none(conn.schema()) {
         return Err((FileFault::Unmade, conn));
@@ -58,8 +61,7 @@ fn make_rows<S: Alter + Drop>(
     version: Version,
 ) -> Result<SqliteRows<S>, (FileFault, Connection<S>)>
     requires { IsIdentity identity }
-    ensures made { IfOk result (IsMadeFor S.Store identity (version_of version) (state S.Store conn)) }
-    ensures refused { IfErr result (λ e. TellsWhyUnmade S.Store identity (version_of version) e.0 conn e.1) }
+    ensures { GivesWanted S.Store (Made identity version) conn result }
 {
     match test_unmade(conn.schema()) {
         Ok(()) => {}
@@ -78,8 +80,7 @@ fn wanted_rows<S: Alter + Drop>(
     wanted: Wanted,
 ) -> Result<SqliteRows<S>, (FileFault, Connection<S>)>
     requires { CanBeMade wanted }
-    ensures taken { IfOk result (AreAsWanted S.Store wanted (state S.Store conn)) }
-    ensures refused { IfErr result (λ e. RefusesWanted S.Store wanted e.0 conn e.1) }
+    ensures { GivesWanted S.Store wanted conn result }
 {
     match wanted {
         Wanted::Stored(given) => take_rows(alloc, conn, given),
@@ -95,8 +96,7 @@ pub(crate) fn rows_in_files<D: Disk + Drop>(
     wanted: Wanted,
 ) -> Result<SqliteRows<FileStore<D>>, (FileFault, Connection<FileStore<D>>)>
     requires { CanBeMade wanted }
-    ensures taken { IfOk result (AreAsWanted over_files wanted (file_state conn)) }
-    ensures refused { IfErr result (λ e. RefusesWanted over_files wanted e.0 conn e.1) }
+    ensures { GivesWanted over_files wanted conn result }
 {
     wanted_rows(alloc, conn, wanted)
 }
@@ -121,7 +121,7 @@ fn rows_or_fault<D: Disk + Drop>(
 }
 
 impl<T: Start> SqliteRows<FileStore<FileFrom<T>>> {
-    ghost use Rattle.acceptor_store.specs.Files.{IsTakenUp, TakesItsOwn, MakesItsOwn};
+    ghost use Rattle.acceptor_store.specs.Files.{AreMadeIn, AreTakenUp};
 
     /// Takes up the rows in the file at a path, as [`SqliteRows::open_from`] does, and tells what is the matter where there
     /// are none. A file that is not there is not made, and one without the tables stays without them.
@@ -132,13 +132,7 @@ impl<T: Start> SqliteRows<FileStore<FileFrom<T>>> {
         start: T,
         given: Option<Identity>,
     ) -> Result<SqliteRows<FileStore<FileFrom<T>>>, FileFault>
-        ensures open { IfOk result (λ s. HasCleanDisk (file_state s.conn) → IsOurs s.alone s.was s.found → IsTrue (file_state s.conn).is_open) }
-        ensures rests { IfOk result (λ s. HasCleanDisk (file_state s.conn) → IsOurs s.alone s.was s.found → IsAtRest over_files s) }
-        ensures made { IfOk result (TakesItsOwn (image_at T.Start)) }
-        ensures rows { IfOk result (λ s. HasCleanDisk (file_state s.conn) → IsOurs s.alone s.was s.found → IsTakenUp (image_at T.Start) s) }
-        ensures given { IfOk result (λ s. Agrees given s.identity) }
-        ensures fresh { IfOk result (λ s. s.upgraded ≡ false) }
-        ensures unstopped { IfOk result (λ s. s.stopped ≡ false) }
+        ensures taken { IfOk result (AreTakenUp (image_at T.Start) given) }
         ensures fault { IfErr result IsOfTaking }
     {
         // To the database a missing file is an empty one.
@@ -160,22 +154,14 @@ impl<T: Start> SqliteRows<FileStore<FileFrom<T>>> {
         rt: &HostRuntime,
         path: &str,
         start: T,
-        identity: Identity,
-        version: Version,
+        new: NewTables,
     ) -> Result<SqliteRows<FileStore<FileFrom<T>>>, FileFault>
-        requires { IsIdentity identity }
-        ensures open { IfOk result (λ s. HasCleanDisk (file_state s.conn) → IsOurs s.alone s.was s.found → IsTrue (file_state s.conn).is_open) }
-        ensures rests { IfOk result (λ s. HasCleanDisk (file_state s.conn) → IsOurs s.alone s.was s.found → IsAtRest over_files s) }
-        ensures made { IfOk result (MakesItsOwn (image_at T.Start)) }
-        ensures blank { IfOk result (λ s. HasCleanDisk (file_state s.conn) → IsOurs s.alone s.was s.found → HoldsNoRow over_files s) }
-        ensures identity { IfOk result (λ s. s.identity ≡ identity) }
-        ensures layout { IfOk result (λ s. (s.was ≡ made_in (version_of version)) × (s.upgraded ≡ false)) }
-        ensures version { IfOk result (λ s. rows_version s ≡ version_of version) }
-        ensures unstopped { IfOk result (λ s. s.stopped ≡ false) }
+        requires { IsIdentity new.identity }
+        ensures made { IfOk result (AreMadeIn (image_at T.Start) new.identity (version_of new.version)) }
         ensures fault { IfErr result IsOfMaking }
     {
         match Connection::open_from(rt, path, false, start) {
-            Ok(conn) => rows_or_fault(rt.alloc(), conn, Wanted::Made(identity, version)),
+            Ok(conn) => rows_or_fault(rt.alloc(), conn, Wanted::Made(new.identity, new.version)),
             Err((error, _)) => Err(file_fault_of(&error)),
         }
     }

@@ -2,25 +2,23 @@
 
 ghost use Rattle.std.specs.Prelude.{◌≡◌, ◌≤◌, ◌⊎◌, ℕ, true, false, List, None, Err, IsTrue, IfOk, IfErr, OnOk, OnErr};
 ghost use Rattle.protocol.specs.Rows.{Row as RowValue};
-ghost use Rattle.sqlite_trees.specs.View.{doubt};
-ghost use Rattle.sqlite.specs.State.{HasCleanDisk};
 ghost use Rattle.tape_frames.specs.Entries.{version_of};
-ghost use Rattle.row_table.specs.Tables.{no_schema, layout_schema};
+ghost use Rattle.row_table.specs.Tables.{no_schema};
 ghost use Rattle.saved_rows.specs.Identity.{IsIdentity};
 ghost use Rattle.protocol.specs.Versions.{Two};
 ghost use Rattle.row_columns.specs.FoundTables.{has_any};
-ghost use Rattle.row_columns.specs.StationRow.{IsStationOf};
-ghost use Rattle.row_columns.specs.Layouts.{layout_now, made_in};
+ghost use Rattle.row_columns.specs.Layouts.{layout_now};
 ghost use Rattle.acceptor_store.specs.Sqlite.{rows_layout, rows_version};
+ghost use Rattle.acceptor_store.specs.Calls.{GivesAll, GivesRow, IsCalled, Reads, SavesOrStops, in_database};
 ghost use Rattle.acceptor_store.specs.Reading.{SeesAll, SeesFront};
-ghost use Rattle.row_groups.specs.Groups.{ArePromised, WithAll, WithSome};
-ghost use Rattle.saved_rows.specs.Saved.{SameRows, WithRow, IsListOf, HasPromise, RowFits, AreFitting, Rises};
+ghost use Rattle.row_groups.specs.Groups.{AreRowsOf, PutsAll};
+ghost use Rattle.saved_rows.specs.Saved.{SameRows, WithRow, HasPromise, RowFits, Rises};
 
 use crate::group::save_all;
 use crate::make_tables::make_tables;
 use crate::opening::take_up;
 use crate::reading::{RowVisitor, show_all};
-use crate::statements::{fault_of, list, read, save};
+use crate::statements::{Numbered, fault_of, list, read, save};
 use crate::upgrade::go_over;
 use ballots::{Number, Row};
 use row_columns::{Layout, has_any, layout_now, made_in, version_in};
@@ -99,10 +97,8 @@ fn is_empty(schema: &Schema) -> bool
 }
 
 impl<S: Alter + Drop> SqliteRows<S> {
-    ghost use Rattle.acceptor_store.specs.Sqlite.{IsKept, IsOpen, IsOurs, Stands, saved_of, IsRefusal, Agrees};
-    ghost use Rattle.acceptor_store.specs.Sqlite.{HoldsNoRow, IsAtRest, IsKeptAsFound, IsOursAsFound, LeavesNoOther, LeavesNoRow};
-    ghost use Rattle.acceptor_store.specs.Opening.{HasWhatItHad, IsReasonToRefuse, LeavesNothingNew, MakesAllOrNothing, StaysUnwritten};
-    ghost use Rattle.row_columns.specs.Columns.{saved_in};
+    ghost use Rattle.acceptor_store.specs.Sqlite.{IsAtRest, IsKept, IsOpen, IsOurs, Stands, saved_of};
+    ghost use Rattle.acceptor_store.specs.Taking.{IsMadeFor, OpensAsStored, RefusesStored, RefusesToMake};
     ghost use Rattle.sqlite.specs.Held.{state};
 
     /// Makes the two tables of this version's layout in one transaction: the empty map of this station.
@@ -117,28 +113,13 @@ impl<S: Alter + Drop> SqliteRows<S> {
         version: Version,
     ) -> Result<SqliteRows<S>, (RowsFault, Connection<S>)>
         requires { IsIdentity identity }
-        ensures open { IfOk result (λ s. IsKept S.Store s → IsOpen S.Store s) }
-        ensures blank { IfOk result (λ s. IsKept S.Store s → HoldsNoRow S.Store s) }
-        ensures identity { IfOk result (λ s. s.identity ≡ identity) }
-        ensures layout { IfOk result (λ s. (s.was ≡ made_in (version_of version)) × (s.upgraded ≡ false)) }
-        ensures version { IfOk result (λ s. rows_version s ≡ version_of version) }
-        ensures unstopped { IfOk result (λ s. s.stopped ≡ false) }
-
-        // What the store owes: in an empty database the tables are its own. With what the host owes they are kept.
-        ensures made { IfOk result (λ s. (state S.Store conn).now.schema ≡ no_schema → IsOurs s.alone s.was s.found) }
-        ensures kept { IfOk result (λ s. HasCleanDisk (state S.Store s.conn) → (state S.Store conn).now.schema ≡ no_schema → IsKept S.Store s) }
-        ensures clean { IfOk result (λ s. doubt (state S.Store conn).is_clean ≤ doubt (state S.Store s.conn).is_clean) }
-        ensures crash { IfOk result (λ s. IsKept S.Store s → LeavesNoRow S.Store (made_in (version_of version)) identity s) }
-        ensures rests { IfOk result (λ s. IsKept S.Store s → IsAtRest S.Store s) }
+        ensures made { IfOk result (IsMadeFor S.Store identity (version_of version) (state S.Store conn)) }
 
         // Over a table of saved rows nothing is made, and the database comes back as it was.
         ensures over { IsTrue (has_any (state S.Store conn).now.schema) → result ≡ Err (RowsFault.Store, conn) }
-        ensures unmade { OnOk result (has_any (state S.Store conn).now.schema ≡ false) }
 
         // A refusal changes nothing.
-        ensures refusal { IfErr result (λ e. IsRefusal e.0) }
-        ensures unchanged { IfErr result (λ e. HasWhatItHad (state S.Store conn) (state S.Store e.1)) }
-        ensures crash_err { IfErr result (λ e. MakesAllOrNothing (made_in (version_of version)) identity (state S.Store conn) (state S.Store e.1)) }
+        ensures refused { IfErr result (λ e. RefusesToMake S.Store identity (version_of version) e.0 conn e.1) }
     {
         if !conn.is_autocommit() || has_any(conn.schema()) {
             return Err((RowsFault::Store, conn));
@@ -174,27 +155,10 @@ impl<S: Alter + Drop> SqliteRows<S> {
         mut conn: Connection<S>,
         given: Option<Identity>,
     ) -> Result<SqliteRows<S>, (RowsFault, Connection<S>)>
-        ensures open { IfOk result (λ s. IsKept S.Store s → IsOpen S.Store s) }
-        ensures same { IfOk result (λ s. IsKept S.Store s → SameRows (saved_in s.was (state S.Store conn).now.trees) (saved_of S.Store s)) }
-        ensures unwritten { IfOk result (λ s. IsKept S.Store s → (state S.Store s.conn).now ≡ (state S.Store conn).now) }
-        ensures given { IfOk result (λ s. Agrees given s.identity) }
-        ensures stored { IfOk result (λ s. IsKept S.Store s → IsStationOf s.was s.identity (state S.Store conn).now.trees) }
-        ensures tables { IfOk result (λ s. IsKept S.Store s → (state S.Store conn).now.schema ≡ layout_schema s.was) }
-        ensures fresh { IfOk result (λ s. s.upgraded ≡ false) }
-        ensures unstopped { IfOk result (λ s. s.stopped ≡ false) }
-        ensures clean { IfOk result (λ s. doubt (state S.Store conn).is_clean ≤ doubt (state S.Store s.conn).is_clean) }
-        ensures crash { IfOk result (λ s. IsKept S.Store s → (left : _) → (state S.Store s.conn).may_leave left → (state S.Store conn).may_leave left) }
-        ensures rests { IfOk result (λ s. IsKept S.Store s → IsAtRest S.Store s) }
-
-        // What the store owes: tables as `create` makes them, or an upgrade leaves, are its own. With what the host owes they are kept.
-        ensures made { IfOk result (IsOursAsFound (state S.Store conn)) }
-        ensures kept { IfOk result (IsKeptAsFound S.Store (state S.Store conn)) }
+        ensures taken { IfOk result (OpensAsStored S.Store given (state S.Store conn)) }
 
         // Why it is refused; nothing is changed then either.
-        ensures refuses { IfErr result (λ e. IsReasonToRefuse given e.0 (state S.Store conn) (state S.Store e.1)) }
-        ensures unchanged { IfErr result (λ e. StaysUnwritten (state S.Store conn) (state S.Store e.1)) }
-        ensures crash_err { IfErr result (λ e. LeavesNothingNew (state S.Store conn) (state S.Store e.1)) }
-        ensures clean_err { IfErr result (λ e. doubt (state S.Store conn).is_clean ≤ doubt (state S.Store e.1).is_clean) }
+        ensures refused { IfErr result (λ e. RefusesStored given e.0 (state S.Store conn) (state S.Store e.1)) }
     {
         if !conn.is_autocommit() {
             return Err((RowsFault::Store, conn));
@@ -224,21 +188,7 @@ impl<S: Alter + Drop> SqliteRows<S> {
     /// A refusal is counted: `Store` after a refused `put` or `upgrade`, or where the statement was refused; `OutOfMemory`;
     /// `Damaged` of a row that nobody saves so, as where another wrote to the database.
     pub fn all(&mut self) -> Result<Vec<(Number, Row)>, RowsFault>
-        ensures rows { IsKept S.Store self.new → IfOk result (λ rows. IsListOf (saved_of S.Store self.old) rows.items) }
-        ensures fits { IfOk result (λ rows. AreFitting (rows_version self.old) rows.items) }
-        ensures open { IsKept S.Store self.new → OnOk result (IsOpen S.Store self.new) }
-        ensures same { IsKept S.Store self.new → IsOpen S.Store self.new → SameRows (saved_of S.Store self.old) (saved_of S.Store self.new) }
-        ensures cause { OnErr result (Rises self.old.refusals self.new.refusals) }
-        ensures counts { self.old.refusals ≤ self.new.refusals }
-        ensures was_kept { IsKept S.Store self.new → IsKept S.Store self.old }
-        ensures was_open { IsKept S.Store self.new → IsOpen S.Store self.new → IsOpen S.Store self.old }
-        ensures stopped { IsTrue self.old.stopped → result ≡ Err RowsFault.Store }
-        ensures undamaged { IsKept S.Store self.new → IfErr result IsRefusal }
-        ensures stays { (self.new.stopped ≡ self.old.stopped) × (self.new.identity ≡ self.old.identity) × (self.new.upgraded ≡ self.old.upgraded) }
-
-        // What the store owes stays as it was.
-        ensures ours { (self.new.alone ≡ self.old.alone) × (self.new.was ≡ self.old.was) × (self.new.found ≡ self.old.found) }
-        ensures crash { IsKept S.Store self.new → LeavesNoOther S.Store self.old self.new }
+        ensures { GivesAll S.Store result self.old self.new }
     {
         if self.stopped {
             self.refusals = self.refusals.saturating_add(1);
@@ -267,19 +217,8 @@ impl<S: Alter + Drop> SqliteRows<S> {
 
         // Whoever wrote to the database, it has seen some rows, and nothing else.
         ensures only { (items : List (ℕ × RowValue)) × V.saw visitor.old visitor.new items }
-        ensures open { IsKept S.Store self.new → OnOk result (IsOpen S.Store self.new) }
-        ensures same { IsKept S.Store self.new → IsOpen S.Store self.new → SameRows (saved_of S.Store self.old) (saved_of S.Store self.new) }
-        ensures cause { OnErr result (Rises self.old.refusals self.new.refusals) }
-        ensures counts { self.old.refusals ≤ self.new.refusals }
-        ensures was_kept { IsKept S.Store self.new → IsKept S.Store self.old }
-        ensures was_open { IsKept S.Store self.new → IsOpen S.Store self.new → IsOpen S.Store self.old }
         ensures stopped { IsTrue self.old.stopped → (result ≡ Err RowsFault.Store) × (visitor.new ≡ visitor.old) }
-        ensures undamaged { IsKept S.Store self.new → IfErr result IsRefusal }
-        ensures stays { (self.new.stopped ≡ self.old.stopped) × (self.new.identity ≡ self.old.identity) × (self.new.upgraded ≡ self.old.upgraded) }
-
-        // What the store owes stays as it was.
-        ensures ours { (self.new.alone ≡ self.old.alone) × (self.new.was ≡ self.old.was) × (self.new.found ≡ self.old.found) }
-        ensures crash { IsKept S.Store self.new → LeavesNoOther S.Store self.old self.new }
+        ensures reads { Reads S.Store result self.old self.new }
     {
         if self.stopped {
             self.refusals = self.refusals.saturating_add(1);
@@ -331,8 +270,8 @@ impl<S: Alter + Drop> SqliteRows<S> {
 }
 
 impl<S: Alter + Drop> Rows for SqliteRows<S> {
-    ghost use Rattle.acceptor_store.specs.Sqlite.{IsKept, IsOpen, IsHonest, IsOurs, saved_of, LeavesStation, LeavesAll, IsRefusal, Blames};
-    ghost use Rattle.acceptor_store.specs.Sqlite.{HoldsEither, LeavesEither, LeavesItsStation, LeavesNoOther, LeavesSameRows, LeavesWithRow};
+    ghost use Rattle.acceptor_store.specs.Sqlite.{IsKept, IsOpen, IsHonest, IsOurs, saved_of, LeavesStation, LeavesAll, Blames};
+    ghost use Rattle.acceptor_store.specs.Sqlite.{HoldsEither, LeavesEither, LeavesItsStation, LeavesSameRows, LeavesWithRow};
 
     ghost made = { λ s. IsOurs s.alone s.was s.found };
 
@@ -357,22 +296,7 @@ impl<S: Alter + Drop> Rows for SqliteRows<S> {
     }
 
     fn get(&mut self, number: Number) -> Result<Row, RowsFault>
-        ensures row { IsKept S.Store self.new → IfOk result (λ row. row ≡ saved_of S.Store self.old number) }
-        ensures fits { IfOk result (RowFits (rows_version self.old)) }
-        ensures open { IsKept S.Store self.new → OnOk result (IsOpen S.Store self.new) }
-        ensures same { IsKept S.Store self.new → IsOpen S.Store self.new → SameRows (saved_of S.Store self.old) (saved_of S.Store self.new) }
-        ensures cause { OnErr result (Rises self.old.refusals self.new.refusals) }
-        ensures counts { self.old.refusals ≤ self.new.refusals }
-        ensures was_kept { IsKept S.Store self.new → IsKept S.Store self.old }
-        ensures was_open { IsKept S.Store self.new → IsOpen S.Store self.new → IsOpen S.Store self.old }
-        ensures stopped { IsTrue self.old.stopped → result ≡ Err RowsFault.Store }
-        ensures undamaged { IsKept S.Store self.new → IfErr result IsRefusal }
-        ensures blames { IfErr result (Blames S.Store self.old self.new) }
-        ensures stays { (self.new.stopped ≡ self.old.stopped) × (self.new.identity ≡ self.old.identity) × (self.new.upgraded ≡ self.old.upgraded) }
-
-        // What the store owes stays as it was.
-        ensures ours { (self.new.alone ≡ self.old.alone) × (self.new.was ≡ self.old.was) × (self.new.found ≡ self.old.found) }
-        ensures crash { IsKept S.Store self.new → LeavesNoOther S.Store self.old self.new }
+        ensures { GivesRow S.Store number result self.old self.new }
     {
         if self.stopped {
             self.refusals = self.refusals.saturating_add(1);
@@ -392,24 +316,8 @@ impl<S: Alter + Drop> Rows for SqliteRows<S> {
         requires promise { HasPromise row.now }
         requires fits { RowFits (rows_version self.old) row.now }
         ensures row { IsKept S.Store self.new → OnOk result (WithRow (saved_of S.Store self.old) number row.now (saved_of S.Store self.new)) }
-        ensures open { IsKept S.Store self.new → OnOk result (IsOpen S.Store self.new) }
         ensures either { IsKept S.Store self.new → OnErr result (HoldsEither S.Store number row.now self.old self.new) }
-        ensures cause { OnErr result (Rises self.old.refusals self.new.refusals) }
-        ensures counts { self.old.refusals ≤ self.new.refusals }
-        ensures was_kept { IsKept S.Store self.new → IsKept S.Store self.old }
-        ensures was_open { IsKept S.Store self.new → IsOpen S.Store self.new → IsOpen S.Store self.old }
-
-        // A refused save stops it.
-        ensures stopped { IsTrue self.old.stopped → result ≡ Err RowsFault.Store }
-        ensures stops { OnErr result (IsTrue self.new.stopped) }
-        ensures goes_on { OnOk result (self.new.stopped ≡ self.old.stopped) }
-        ensures undamaged { IfErr result IsRefusal }
-        ensures blames { IfErr result (Blames S.Store self.old self.new) }
-        ensures station { self.new.identity ≡ self.old.identity }
-        ensures layout { self.new.upgraded ≡ self.old.upgraded }
-
-        // What the store owes stays as it was.
-        ensures ours { (self.new.alone ≡ self.old.alone) × (self.new.was ≡ self.old.was) × (self.new.found ≡ self.old.found) }
+        ensures saves { SavesOrStops S.Store result self.old self.new }
 
         // After the Ok a crash leaves this row too; after an Err the rows as they were, or with this one.
         ensures crash_ok { IsKept S.Store self.new → OnOk result (LeavesWithRow S.Store number row.now self.old self.new) }
@@ -423,7 +331,7 @@ impl<S: Alter + Drop> Rows for SqliteRows<S> {
             return Err(RowsFault::Store);
         }
         let layout = layout_now(self.was, self.upgraded);
-        match save(self.alloc, &mut self.conn, layout, number, row) {
+        match save(self.alloc, &mut self.conn, layout, Numbered { number, row }) {
             Ok(()) => Ok(()),
             Err(fault) => {
                 // Whether the row is saved is not known.
@@ -435,25 +343,14 @@ impl<S: Alter + Drop> Rows for SqliteRows<S> {
 
     fn upgrade(&mut self) -> Result<(), RowsFault>
         ensures same { IsKept S.Store self.new → IsOpen S.Store self.new → SameRows (saved_of S.Store self.old) (saved_of S.Store self.new) }
-        ensures open { IsKept S.Store self.new → OnOk result (IsOpen S.Store self.new) }
         ensures two { OnOk result (rows_version self.new ≡ Two) }
         ensures either { OnErr result ((rows_version self.new ≡ rows_version self.old) ⊎ (rows_version self.new ≡ Two)) }
-        ensures cause { OnErr result (Rises self.old.refusals self.new.refusals) }
-        ensures counts { self.old.refusals ≤ self.new.refusals }
-        ensures was_kept { IsKept S.Store self.new → IsKept S.Store self.old }
-        ensures was_open { IsKept S.Store self.new → IsOpen S.Store self.new → IsOpen S.Store self.old }
+        ensures call { IsCalled S.Store result self.old self.new }
 
         // A refused upgrade stops it, and its layout stays.
-        ensures stopped { IsTrue self.old.stopped → result ≡ Err RowsFault.Store }
         ensures stops { OnErr result (IsTrue self.new.stopped × (self.new.upgraded ≡ self.old.upgraded)) }
         ensures goes_on { OnOk result (self.new.stopped ≡ self.old.stopped) }
         ensures upgraded { OnOk result (rows_layout self.new ≡ layout_now self.old.was true) }
-        ensures undamaged { IsKept S.Store self.new → IfErr result IsRefusal }
-        ensures blames { IfErr result (Blames S.Store self.old self.new) }
-        ensures station { self.new.identity ≡ self.old.identity }
-
-        // What the store owes stays as it was.
-        ensures ours { (self.new.alone ≡ self.old.alone) × (self.new.was ≡ self.old.was) × (self.new.found ≡ self.old.found) }
 
         // Whatever comes of it, a crash leaves the station and its map, all in the one layout or all in the other; after the Ok in layout 2.
         ensures crash { IsKept S.Store self.new → IsOpen S.Store self.old → self.old.stopped ≡ false → LeavesAll S.Store self.old self.new }
@@ -480,7 +377,7 @@ impl<S: Alter + Drop> Rows for SqliteRows<S> {
 }
 
 impl<S: Alter + Drop> SavesAll for SqliteRows<S> {
-    ghost use Rattle.acceptor_store.specs.Sqlite.{IsKept, IsOpen, saved_of, IsRefusal, Blames, LeavesItsStation};
+    ghost use Rattle.acceptor_store.specs.Sqlite.{IsKept, LeavesItsStation};
     ghost use Rattle.acceptor_store.specs.Grouping.{HoldsAllOrNone, LeavesAllOrNone, LeavesWithAll};
 
     // After the Ok a crash leaves all of these rows.
@@ -491,31 +388,12 @@ impl<S: Alter + Drop> SavesAll for SqliteRows<S> {
 
     /// All or none, in one transaction.
     fn put_all(&mut self, items: &[(Number, Row)]) -> Result<(), RowsFault>
-        requires promised { ArePromised items.now }
-        requires fits { AreFitting (rows_version self.old) items.now }
-        ensures rows { IsKept S.Store self.new → OnOk result (WithAll (saved_of S.Store self.old) items.now (saved_of S.Store self.new)) }
-        ensures open { IsKept S.Store self.new → OnOk result (IsOpen S.Store self.new) }
-        ensures version { rows_version self.new ≡ rows_version self.old }
+        requires { AreRowsOf (rows_version self.old) items.now }
+        ensures puts { PutsAll (in_database S.Store) result items.now self.old self.new }
         ensures stores { OnOk result (IsKept S.Store self.new → LeavesWithAll S.Store items.now self.old self.new) }
         ensures leaves { IsKept S.Store self.new → LeavesAllOrNone S.Store items.now self.old self.new × LeavesItsStation S.Store self.old self.new }
         ensures all_or_none { IsKept S.Store self.new → OnErr result (HoldsAllOrNone S.Store items.now self.old self.new) }
-        ensures first { IsKept S.Store self.new → OnErr result ((¬ IsOpen S.Store self.new) ⊎ WithSome (saved_of S.Store self.old) items.now (saved_of S.Store self.new)) }
-        ensures cause { OnErr result (Rises self.old.refusals self.new.refusals) }
-        ensures counts { self.old.refusals ≤ self.new.refusals }
-        ensures was_kept { IsKept S.Store self.new → IsKept S.Store self.old }
-        ensures was_open { IsKept S.Store self.new → IsOpen S.Store self.new → IsOpen S.Store self.old }
-
-        // A refused save stops it.
-        ensures stopped { IsTrue self.old.stopped → result ≡ Err RowsFault.Store }
-        ensures stops { OnErr result (IsTrue self.new.stopped) }
-        ensures goes_on { OnOk result (self.new.stopped ≡ self.old.stopped) }
-        ensures undamaged { IfErr result IsRefusal }
-        ensures blames { IfErr result (Blames S.Store self.old self.new) }
-        ensures station { self.new.identity ≡ self.old.identity }
-        ensures layout { self.new.upgraded ≡ self.old.upgraded }
-
-        // What the store owes stays as it was.
-        ensures ours { (self.new.alone ≡ self.old.alone) × (self.new.was ≡ self.old.was) × (self.new.found ≡ self.old.found) }
+        ensures saves { SavesOrStops S.Store result self.old self.new }
     {
         if self.stopped {
             self.refusals = self.refusals.saturating_add(1);
@@ -535,7 +413,7 @@ impl<S: Alter + Drop> SavesAll for SqliteRows<S> {
 
 /// Each save is stored at once.
 impl<S: Alter + Drop> Settles for SqliteRows<S> {
-    ghost use Rattle.std.specs.Prelude.{Ok, refl};
+    ghost use Rattle.std.specs.Prelude.{refl};
     ghost use Rattle.acceptor_store.specs.Sqlite.{saved_of};
 
     ghost stored = { saved_of S.Store };
@@ -544,9 +422,7 @@ impl<S: Alter + Drop> Settles for SqliteRows<S> {
 
     ghost stored_as_read = { λ s settled n. refl };
 
-    fn settle(&mut self) -> Result<(), RowsFault>
-        ensures { (result ≡ Ok tt) × (self.new ≡ self.old) }
-    {
+    fn settle(&mut self) -> Result<(), RowsFault> {
         Ok(())
     }
 }

@@ -1,15 +1,10 @@
 //! The upgrade of the rows of layout 1 to layout 2.
 
-ghost use Rattle.std.specs.Prelude.{◌≤◌, [], IfErr};
-ghost use Rattle.sqlite_trees.specs.View.{doubt};
-ghost use Rattle.sqlite.specs.State.{HasCleanDisk};
-ghost use Rattle.sqlite.specs.Held.{state};
+ghost use Rattle.std.specs.Prelude.{[]};
 ghost use Rattle.row_table.specs.Tables.Layout.{First};
 ghost use Rattle.row_table.specs.Entries.{with_entries};
-ghost use Rattle.saved_rows.specs.declared.identity.Identity.{Identity};
 ghost use Rattle.row_columns.specs.Layouts.{layout_of};
-ghost use Rattle.acceptor_store.specs.Sqlite.{Stands, IsRefusal};
-ghost use Rattle.acceptor_store.specs.Upgrading.{CrashesWithMapOf, CrashesWithSameMap, GoesOver, GoesOverWith, KeepsAllWhereRefused, StaysOver};
+ghost use Rattle.acceptor_store.specs.Upgrading.{MovesEntries, TestsUpgraded, Upgrades};
 
 use crate::statements::{fault_of, list};
 use row_columns::{Layout, entries_for};
@@ -23,11 +18,7 @@ fn move_entries<S: Alter>(
     conn: &mut Connection<S>,
     entries: &[EntryColumns],
 ) -> Result<(), RowsFault>
-    ensures over { GoesOverWith S.Store (with_entries entries.now []) result conn.old conn.new }
-    ensures kept { KeepsAllWhereRefused S.Store First result conn.old conn.new }
-    ensures crash { CrashesWithMapOf S.Store (with_entries entries.now []) conn.old conn.new }
-    ensures clean { doubt (state S.Store conn.old).is_clean ≤ doubt (state S.Store conn.new).is_clean }
-    ensures refusal { IfErr result IsRefusal }
+    ensures { MovesEntries S.Store (with_entries entries.now []) result conn.old conn.new }
 {
     if !conn.is_autocommit() {
         return Err(RowsFault::Store);
@@ -40,11 +31,7 @@ fn move_entries<S: Alter>(
 
 /// Reads and packs all rows of layout 1, and moves them to layout 2.
 fn move_rows<S: Alter>(alloc: Global, conn: &mut Connection<S>) -> Result<(), RowsFault>
-    ensures over { GoesOver S.Store First result conn.old conn.new }
-    ensures kept { KeepsAllWhereRefused S.Store First result conn.old conn.new }
-    ensures crash { CrashesWithSameMap S.Store First conn.old conn.new }
-    ensures clean { doubt (state S.Store conn.old).is_clean ≤ doubt (state S.Store conn.new).is_clean }
-    ensures refusal { (i : Identity) → Stands S.Store First conn.old i → HasCleanDisk (state S.Store conn.new) → IfErr result IsRefusal }
+    ensures { Upgrades S.Store First result conn.old conn.new }
 {
     let items = list(alloc, conn, Layout::First)?;
     let Ok(entries) = entries_for(alloc, items.as_slice()) else {
@@ -55,11 +42,7 @@ fn move_rows<S: Alter>(alloc: Global, conn: &mut Connection<S>) -> Result<(), Ro
 
 /// Tests that a connection still answers what is saved in layout 2. Nothing is written.
 fn test_open<S: Alter>(conn: &mut Connection<S>, layout: Layout) -> Result<(), RowsFault>
-    ensures over { StaysOver S.Store (layout_of layout) result conn.old conn.new }
-    ensures kept { KeepsAllWhereRefused S.Store (layout_of layout) result conn.old conn.new }
-    ensures crash { CrashesWithSameMap S.Store (layout_of layout) conn.old conn.new }
-    ensures clean { doubt (state S.Store conn.old).is_clean ≤ doubt (state S.Store conn.new).is_clean }
-    ensures refusal { IfErr result IsRefusal }
+    ensures { TestsUpgraded S.Store (layout_of layout) result conn.old conn.new }
 {
     match get_row(conn, layout, 1) {
         Ok(_) => Ok(()),
@@ -73,11 +56,7 @@ pub(crate) fn go_over<S: Alter>(
     conn: &mut Connection<S>,
     layout: Layout,
 ) -> Result<(), RowsFault>
-    ensures over { GoesOver S.Store (layout_of layout) result conn.old conn.new }
-    ensures kept { KeepsAllWhereRefused S.Store (layout_of layout) result conn.old conn.new }
-    ensures crash { CrashesWithSameMap S.Store (layout_of layout) conn.old conn.new }
-    ensures clean { doubt (state S.Store conn.old).is_clean ≤ doubt (state S.Store conn.new).is_clean }
-    ensures refusal { (i : Identity) → Stands S.Store (layout_of layout) conn.old i → HasCleanDisk (state S.Store conn.new) → IfErr result IsRefusal }
+    ensures { Upgrades S.Store (layout_of layout) result conn.old conn.new }
 {
     match layout {
         Layout::First => move_rows(alloc, conn),

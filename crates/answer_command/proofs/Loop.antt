@@ -8,7 +8,8 @@ use Rattle.protocol.specs.Versions.{Version}
 use Rattle.protocol.specs.Rows.{Row}
 use Rattle.protocol.specs.Acceptor.{Request, StepsAreOfTheWhole}
 use Rattle.streams.specs.Fronts.{AppendsFront}
-use Rattle.streams.proofs.Fronts.{front_more}
+use Rattle.streams.proofs.Fronts.{front_more, front_of_all}
+use Rattle.streams.proofs.Parts.{front_of}
 use Rattle.answer_command.specs.Asked.{asked_of}
 use Rattle.answer_command.specs.Replies.{answered, rows_after}
 use Rattle.answer_command.specs.AnswerText.{is_blank, heard_after, lines_text, Stands}
@@ -50,6 +51,11 @@ pub stops : StepsAreOfTheWhole → (circuit me : ℕ) (v : Version) (rows : ℕ 
 stops steps circuit me v rows lines line rest old mid new full s front =
     let asked = asked_of circuit me v line in
     front_more old mid new s.done (text_of circuit me v rows line) (lines_text circuit me v (heard_after s.heard asked) rest) (lines_text circuit me v [] lines) s.wrote front (ap (λ (xs : List ℕ). s.done ++ xs) (sym (opened steps circuit me v rows s.heard line rest full s.stands)) ∙ s.all)
+
+-- no memory for the text of a line: of that line nothing was written
+pub unanswered : StepsAreOfTheWhole → (circuit me : ℕ) (v : Version) (rows : ℕ → Row) (lines : List (List ℕ)) (line : List ℕ) (rest : List (List ℕ)) (old new : Option (List ℕ)) → is_blank line ≡ false → Standing circuit me v rows lines (line ∷ rest) old new → AppendsFront old new (lines_text circuit me v [] lines)
+unanswered steps circuit me v rows lines line rest old new full s =
+    stops steps circuit me v rows lines line rest old new new full s (front_of new new [] (text_of circuit me v rows line) (front_of_all new new [] (Appends-nil new)))
 
 abbrev pub texts : List (Bor (List ℕ)) → List (List ℕ)
 texts ls = map (λ l. l.now) ls

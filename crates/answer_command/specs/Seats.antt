@@ -1,14 +1,15 @@
 -- What is asked and answered at a seat: by the acceptor of its circuit and member, in its version.
-use Rattle.std.specs.Prelude.{ℕ, List, [], Result, Ok}
+use Rattle.std.specs.Prelude.{◌≡◌, ℕ, List, [], Result, IfOk, OnOk}
+use Rattle.std.specs.Global.{Vec}
 use Rattle.hex.specs.Hex.{encode_lower}
-use Rattle.protocol.specs.Acceptor.{Request, next_row}
+use Rattle.protocol.specs.Fitting.{BodyFits}
 use Rattle.protocol.specs.Packets.{Packet, Body}
 use Rattle.protocol.specs.Rows.{Row}
 use Rattle.packets.specs.Spelling.{spelling}
-use Rattle.saved_rows.specs.Saved.{WithRow}
+use Rattle.saved_rows.specs.Memory.{MemoryOf, saved}
 use Rattle.tape_frames.specs.Entries.{version_of}
-use Rattle.answer_command.specs.Asked.{Asked, asked_in, asked_of}
-use Rattle.answer_command.specs.Replies.{answered, back}
+use Rattle.answer_command.specs.Asked.{Asked, asked_of}
+use Rattle.answer_command.specs.Replies.{answered, rows_after, back}
 use Rattle.answer_command.specs.AnswerText.{lines_text, answer_text}
 use Rattle.answer_command.specs.declared.line.AcceptorSeat.{AcceptorSeat}
 use Rattle.command_ends.specs.declared.refusal.Refusal.{Refusal}
@@ -21,21 +22,38 @@ asked_at s line = asked_of s.circuit s.me (version_of s.wire) line
 abbrev pub answered_at : AcceptorSeat → (ℕ → Row) → Result Asked Refusal → List ℕ
 answered_at s rows asked = answered s.circuit s.me (version_of s.wire) rows asked
 
--- the text that answers a packet's request
-abbrev pub reply_at : AcceptorSeat → (ℕ → Row) → Packet → Request → List ℕ
-reply_at s rows p request = answered_at s rows (Ok (asked_in p request))
+-- the packet that goes back to the sender of this one
+abbrev pub back_to : AcceptorSeat → Packet → Body → Packet
+back_to s p body = back s.circuit s.me p.from p.number p.ballot body
 
--- the text of what the line asks for
-abbrev pub line_at : AcceptorSeat → (ℕ → Row) → List ℕ → List ℕ
-line_at s rows line = answered_at s rows (asked_at s line)
-
--- the text of a packet that goes back to the sender of this one
+-- its text
 abbrev pub back_at : AcceptorSeat → Packet → Body → List ℕ
-back_at s p body = encode_lower (spelling (version_of s.wire) (back s.circuit s.me p.from p.number p.ballot body))
+back_at s p body = encode_lower (spelling (version_of s.wire) (back_to s p body))
 
--- the row of this number takes the request, and no other changes
-abbrev pub TakesRequest : (ℕ → Row) → ℕ → Request → (ℕ → Row) → Type 0
-TakesRequest rows n request after = WithRow rows n (next_row (rows n) request) after
+-- at a seat a packet with this body was read, over rows of its version
+pub record Reads (s : AcceptorSeat) (rows : MemoryOf) (body : Body) : Type 0 where
+  -- the body is one of the version
+  pub fits : BodyFits (version_of s.wire) body
+  -- and so are the rows
+  pub version : rows.version ≡ version_of s.wire
+
+-- the packet asks for this, of the acceptor at the seat
+pub record Asks (s : AcceptorSeat) (rows : MemoryOf) (p : Packet) (body : Body) : Type 0 where
+  -- this is its body
+  pub kind : p.body ≡ body
+  -- it is for the acceptor
+  pub to : p.to ≡ s.me
+  -- it was read there
+  pub reads : Reads s rows body
+
+-- what is asked at a seat is answered: the rows before and after, and the text
+pub record Answers {E : Type 0} (s : AcceptorSeat) (asked : Result Asked Refusal) (before after : MemoryOf) (result : Result (Vec ℕ) E) : Type 0 where
+  -- the text is the reply, or why it is refused
+  pub text : IfOk result (λ t. t.items ≡ answered_at s (saved before) asked)
+  -- the row of the number that it asks for takes the request, and no other changes
+  pub rows : OnOk result ((n : ℕ) → saved after n ≡ rows_after (saved before) asked n)
+  -- the rows stay in their version
+  pub version : after.version ≡ before.version
 
 -- the texts of lines before which nothing was heard
 abbrev pub lines_at : AcceptorSeat → List (List ℕ) → List ℕ

@@ -1,12 +1,10 @@
 //! The command `answer`: a line out for each line in.
 
-ghost use Rattle.std.specs.Prelude.{◌≡◌, ◌==◌, List, ℕ, [], ◌∷◌, ◌++◌, map, IfOk, OnOk};
+ghost use Rattle.std.specs.Prelude.{◌≡◌, ◌==◌, List, [], ◌∷◌, ◌++◌, map, IfOk};
 ghost use Rattle.std.specs.List.{list_all, slice_split};
 ghost use Rattle.tape_frames.specs.Entries.{version_of};
-ghost use Rattle.saved_rows.specs.Memory.{saved};
-ghost use Rattle.answer_command.specs.Replies.{rows_after};
 ghost use Rattle.answer_command.specs.AnswerText.{is_blank, lines_of, WritesAnswer, WritesAnswerFront};
-ghost use Rattle.answer_command.specs.Seats.{asked_at, line_at, lines_at, answer_at};
+ghost use Rattle.answer_command.specs.Seats.{lines_at, answer_at};
 ghost use Rattle.command_ends.specs.Ends.{IsOfInput};
 ghost use Rattle.command_ends.specs.Writing.{Writes};
 ghost use Rattle.command_ends.specs.declared.end.End.TheVariants.{Done};
@@ -37,22 +35,10 @@ pub struct AnswerOrder<R: Read + Drop> {
     pub input: R,
 }
 
-/// Answers one line that is not blank.
-fn put_line<W: Write>(
-    alloc: Global,
-    seat: &AcceptorSeat,
-    rows: &mut MemoryRows,
-    line: &[u8],
-    out: &mut W,
-) -> Result<(), PutFault>
-    requires { rows.old.version ≡ version_of seat.now.wire }
-    ensures text { Writes result (W.contents out.old) (W.contents out.new) (line_at seat.now (saved rows.old) line.now ++ 10 ∷ []) }
-    ensures rows { OnOk result ((n : ℕ) → saved rows.new n ≡ rows_after (saved rows.old) (asked_at seat.now line.now) n) }
-    ensures version { rows.new.version ≡ rows.old.version }
+/// Writes the text of a line, and ends the line.
+fn put_text<W: Write>(mut text: Vec<u8>, out: &mut W) -> Result<(), PutFault>
+    ensures { Writes result (W.contents out.old) (W.contents out.new) (text.items ++ 10 ∷ []) }
 {
-    let Ok(mut text) = answer_line(alloc, *seat, rows, line) else {
-        return Err(PutFault::OutOfMemory);
-    };
     if text.push(b'\n').is_err() {
         return Err(PutFault::OutOfMemory);
     }
@@ -76,12 +62,16 @@ fn put_lines<W: Write>(
     let mut rows = MemoryRows::at(alloc, seat.wire);
     for line in lines {
         if !is_blank(line) {
-            put_line(alloc, seat, &mut rows, line, out)?;
+            let Ok(text) = answer_line(alloc, *seat, &mut rows, line) else {
+                return Err(PutFault::OutOfMemory);
+            };
+            put_text(text, out)?;
         }
     }
     Ok(())
 }
 
+/// Answers the lines of an input, and hands all of it on.
 fn put_answer<W: Write>(
     alloc: Global,
     seat: &AcceptorSeat,
@@ -90,22 +80,10 @@ fn put_answer<W: Write>(
 ) -> Result<(), PutFault>
     ensures { Writes result (W.contents out.old) (W.contents out.new) (answer_at seat.now input.now) }
 {
-    match lines_of(alloc, input) {
-        Ok(lines) => put_lines(alloc, seat, &lines, out),
-        Err(_) => Err(PutFault::OutOfMemory),
-    }
-}
-
-/// The same, with all of it handed on.
-fn put_and_flush<W: Write>(
-    alloc: Global,
-    seat: &AcceptorSeat,
-    input: &[u8],
-    out: &mut W,
-) -> Result<(), PutFault>
-    ensures { Writes result (W.contents out.old) (W.contents out.new) (answer_at seat.now input.now) }
-{
-    put_answer(alloc, seat, input, out)?;
+    let Ok(lines) = lines_of(alloc, input) else {
+        return Err(PutFault::OutOfMemory);
+    };
+    put_lines(alloc, seat, &lines, out)?;
     match out.flush() {
         Ok(()) => Ok(()),
         Err(_) => Err(PutFault::CannotWrite),
@@ -134,7 +112,7 @@ pub fn answer<R: Read + Drop, W: Write, E: Write>(
         Ok(bytes) => bytes,
         Err(fault) => return Fault::of_input(fault, "-").tell(err),
     };
-    match put_and_flush(alloc, &seat, &bytes, out) {
+    match put_answer(alloc, &seat, &bytes, out) {
         Ok(()) => End::Done,
         Err(fault) => Fault::of_writing(fault).tell(err),
     }

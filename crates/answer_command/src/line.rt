@@ -1,8 +1,8 @@
 //! One line in, one line out.
 
-ghost use Rattle.std.specs.Prelude.{◌≡◌, ◌==◌, ℕ, IsSome, IfOk, OnOk, IsTrue, true, false, Ok, Err, not, ◌&&◌};
+ghost use Rattle.std.specs.Prelude.{◌≡◌, ◌==◌, IsSome, IfOk, OnOk, IsTrue, false, Ok};
 ghost use Rattle.hex.specs.Hex.{encode_lower};
-ghost use Rattle.protocol.specs.Fitting.{BodyFits, Fits};
+ghost use Rattle.protocol.specs.Fitting.{BodyFits};
 ghost use Rattle.protocol.specs.Packets.{Prepare, Accept, Accepted};
 ghost use Rattle.protocol.specs.Rows.{raised};
 ghost use Rattle.protocol.specs.Acceptor.{Prepares, Accepts, is_above};
@@ -12,15 +12,15 @@ ghost use Rattle.messages.specs.Rules.{keeps_rules};
 ghost use Rattle.packets.specs.Spelling.{spelling};
 ghost use Rattle.saved_rows.specs.Saved.{WithRow, RowFits};
 ghost use Rattle.saved_rows.specs.Memory.{saved};
-ghost use Rattle.answer_command.specs.Asked.{asked_of_packet};
-ghost use Rattle.answer_command.specs.Replies.{refused_text, rows_after, back, voted_entry};
-ghost use Rattle.answer_command.specs.Seats.{asked_at, answered_at, reply_at, line_at, back_at, TakesRequest};
+ghost use Rattle.answer_command.specs.Asked.{asked_in, asked_of_packet};
+ghost use Rattle.answer_command.specs.Replies.{refused_text, voted_entry};
+ghost use Rattle.answer_command.specs.Seats.{asked_at, back_to, back_at, Asks, Reads, Answers};
 
 use acceptor::{AcceptAnswer, PrepareAnswer, accept, prepare};
 use ballots::{Ballot, Member, Number, Row};
 use command_ends::Refusal;
 use hex::FromHexError;
-use packets::{BodyRef, PacketRef, decode, encode};
+use packets::{BodyRef, PacketRef, Route, decode, encode};
 use saved_rows::MemoryRows;
 use std::alloc::{AllocError, Global};
 use tape_frames::{EntryRef, Version};
@@ -32,6 +32,13 @@ pub struct AcceptorSeat {
     pub me: Member,
     /// The version that it reads and replies in; at version 2 it reads version 1 too.
     pub wire: Version,
+}
+
+/// A packet that came to a seat.
+#[derive(Clone, Copy)]
+struct HeardPacket<'a> {
+    seat: AcceptorSeat,
+    packet: &'a PacketRef<'a>,
 }
 
 fn refused(alloc: Global, refusal: Refusal) -> Result<Vec<u8>, AllocError>
@@ -55,22 +62,20 @@ fn hex_of(alloc: Global, packet: &PacketRef<'_>, wire: Version) -> Result<Vec<u8
 /// The packet that goes back to the sender.
 fn send_back(
     alloc: Global,
-    seat: AcceptorSeat,
-    packet: &PacketRef<'_>,
+    heard: &HeardPacket<'_>,
     body: BodyRef<'_>,
 ) -> Result<Vec<u8>, AllocError>
-    requires rules { IsTrue (keeps_rules (back seat.circuit seat.me packet.now.from packet.now.number packet.now.ballot (said body))) }
-    requires fits { BodyFits (version_of seat.wire) (said body) }
-    ensures { IfOk result (λ t. t.items ≡ back_at seat packet.now (said body.entry)) }
+    requires rules { IsTrue (keeps_rules (back_to heard.now.seat heard.now.packet.now (said body))) }
+    requires fits { BodyFits (version_of heard.now.seat.wire) (said body) }
+    ensures { IfOk result (λ t. t.items ≡ back_at heard.now.seat heard.now.packet.now (said body.entry)) }
 {
-    match PacketRef::new(
-        seat.circuit,
-        seat.me,
-        packet.from(),
-        packet.number(),
-        packet.ballot(),
-        body,
-    ) {
+    let (seat, packet) = (heard.seat, heard.packet);
+    let route = Route {
+        circuit: seat.circuit,
+        from: seat.me,
+        to: packet.from(),
+    };
+    match PacketRef::new(route, packet.number(), packet.ballot(), body) {
         Some(reply) => hex_of(alloc, &reply, seat.wire),
         None => unreachable!(),
     }
@@ -94,17 +99,13 @@ fn raise(rows: &mut MemoryRows, number: Number, ballot: Ballot) -> Result<(), Al
 #[tactic(auto, using(crate::proofs::History::stays_on_ok))]
 fn answer_prepare(
     alloc: Global,
-    seat: AcceptorSeat,
+    heard: &HeardPacket<'_>,
     rows: &mut MemoryRows,
-    packet: &PacketRef<'_>,
 ) -> Result<Vec<u8>, AllocError>
-    requires kind { packet.now.body ≡ Prepare }
-    requires to { packet.now.to ≡ seat.me }
-    requires version { rows.old.version ≡ version_of seat.wire }
-    ensures text { IfOk result (λ t. t.items ≡ reply_at seat (saved rows.old) packet.now (Prepares packet.now.ballot)) }
-    ensures rows { OnOk result (TakesRequest (saved rows.old) packet.now.number (Prepares packet.now.ballot) (saved rows.new)) }
-    ensures version { rows.new.version ≡ rows.old.version }
+    requires { Asks heard.now.seat rows.old heard.now.packet.now Prepare }
+    ensures { Answers heard.now.seat (Ok (asked_in heard.now.packet.now (Prepares heard.now.packet.now.ballot))) rows.old rows.new result }
 {
+    let packet = heard.packet;
     // The packet's rules are known once its body is read.
     let _rules = packet.body();
     let number = packet.number();
@@ -112,16 +113,14 @@ fn answer_prepare(
     let blank = Row::blank();
     let row = rows.row(number).unwrap_or(&blank);
     match prepare(row, ballot) {
-        PrepareAnswer::Nack { promised } => {
-            send_back(alloc, seat, packet, BodyRef::Nack { promised })
-        }
+        PrepareAnswer::Nack { promised } => send_back(alloc, heard, BodyRef::Nack { promised }),
         PrepareAnswer::Silent => Vec::from_slice(alloc, b"silent"),
         PrepareAnswer::Promise { report } => {
             let report = match report {
                 None => None,
                 Some(vote) => Some(vote.lend()),
             };
-            let text = send_back(alloc, seat, packet, BodyRef::Promise { report })?;
+            let text = send_back(alloc, heard, BodyRef::Promise { report })?;
             raise(rows, number, ballot)?;
             Ok(text)
         }
@@ -132,19 +131,14 @@ fn answer_prepare(
 #[tactic(auto, using(crate::proofs::History::stays_on_ok))]
 fn answer_accept(
     alloc: Global,
-    seat: AcceptorSeat,
+    heard: &HeardPacket<'_>,
     rows: &mut MemoryRows,
-    packet: &PacketRef<'_>,
     entry: &EntryRef<'_>,
 ) -> Result<Vec<u8>, AllocError>
-    requires kind { packet.now.body ≡ Accept (lent_entry entry.now) }
-    requires to { packet.now.to ≡ seat.me }
-    requires fits { Fits (version_of seat.wire) (lent_entry entry.now) }
-    requires version { rows.old.version ≡ version_of seat.wire }
-    ensures text { IfOk result (λ t. t.items ≡ reply_at seat (saved rows.old) packet.now (Accepts packet.now.ballot (lent_entry entry.now))) }
-    ensures rows { OnOk result (TakesRequest (saved rows.old) packet.now.number (Accepts packet.now.ballot (lent_entry entry.now)) (saved rows.new)) }
-    ensures version { rows.new.version ≡ rows.old.version }
+    requires { Asks heard.now.seat rows.old heard.now.packet.now (Accept (lent_entry entry.now)) }
+    ensures { Answers heard.now.seat (Ok (asked_in heard.now.packet.now (Accepts heard.now.packet.now.ballot (lent_entry entry.now)))) rows.old rows.new result }
 {
+    let packet = heard.packet;
     // The packet's rules are known once its body is read.
     let _rules = packet.body();
     let number = packet.number();
@@ -152,12 +146,10 @@ fn answer_accept(
     let blank = Row::blank();
     let row = rows.row(number).unwrap_or(&blank);
     match accept(alloc, row, ballot, entry.lend())? {
-        AcceptAnswer::Nack { promised } => {
-            send_back(alloc, seat, packet, BodyRef::Nack { promised })
-        }
-        AcceptAnswer::Again => send_vote(alloc, seat, packet, row),
+        AcceptAnswer::Nack { promised } => send_back(alloc, heard, BodyRef::Nack { promised }),
+        AcceptAnswer::Again => send_vote(alloc, heard, row),
         AcceptAnswer::Voted { row } => {
-            let text = send_vote(alloc, seat, packet, &row)?;
+            let text = send_vote(alloc, heard, &row)?;
             rows.save(number, row)?;
             Ok(text)
         }
@@ -165,21 +157,16 @@ fn answer_accept(
 }
 
 /// Tells the sender of the row's vote.
-fn send_vote(
-    alloc: Global,
-    seat: AcceptorSeat,
-    packet: &PacketRef<'_>,
-    row: &Row,
-) -> Result<Vec<u8>, AllocError>
-    requires differ { (seat.me == packet.now.from) ≡ false }
+fn send_vote(alloc: Global, heard: &HeardPacket<'_>, row: &Row) -> Result<Vec<u8>, AllocError>
+    requires differ { (heard.now.seat.me == heard.now.packet.now.from) ≡ false }
     requires some { IsSome row.now.vote }
-    requires fits { RowFits (version_of seat.wire) row.now }
-    ensures { IfOk result (λ t. t.items ≡ back_at seat packet.now (Accepted (voted_entry row.now.vote))) }
+    requires fits { RowFits (version_of heard.now.seat.wire) row.now }
+    ensures { IfOk result (λ t. t.items ≡ back_at heard.now.seat heard.now.packet.now (Accepted (voted_entry row.now.vote))) }
 {
     match row.vote() {
         Some(vote) => {
             let entry = vote.entry();
-            send_back(alloc, seat, packet, BodyRef::Accepted { entry })
+            send_back(alloc, heard, BodyRef::Accepted { entry })
         }
         None => unreachable!(),
     }
@@ -187,16 +174,13 @@ fn send_vote(
 
 fn answer_packet(
     alloc: Global,
-    seat: AcceptorSeat,
+    heard: &HeardPacket<'_>,
     rows: &mut MemoryRows,
-    packet: &PacketRef<'_>,
 ) -> Result<Vec<u8>, AllocError>
-    requires fits { BodyFits (version_of seat.wire) packet.now.body }
-    requires version { rows.old.version ≡ version_of seat.wire }
-    ensures text { IfOk result (λ t. t.items ≡ answered_at seat (saved rows.old) (asked_of_packet seat.circuit seat.me (Ok packet.now))) }
-    ensures rows { OnOk result ((n : ℕ) → saved rows.new n ≡ rows_after (saved rows.old) (asked_of_packet seat.circuit seat.me (Ok packet.now)) n) }
-    ensures version { rows.new.version ≡ rows.old.version }
+    requires { Reads heard.now.seat rows.old heard.now.packet.now.body }
+    ensures { Answers heard.now.seat (asked_of_packet heard.now.seat.circuit heard.now.seat.me (Ok heard.now.packet.now)) rows.old rows.new result }
 {
+    let (seat, packet) = (heard.seat, heard.packet);
     if packet.circuit() != seat.circuit {
         return refused(alloc, Refusal::WrongCircuit);
     }
@@ -204,8 +188,8 @@ fn answer_packet(
         return refused(alloc, Refusal::NotForMe);
     }
     match packet.body() {
-        BodyRef::Prepare => answer_prepare(alloc, seat, rows, packet),
-        BodyRef::Accept { entry } => answer_accept(alloc, seat, rows, packet, entry),
+        BodyRef::Prepare => answer_prepare(alloc, heard, rows),
+        BodyRef::Accept { entry } => answer_accept(alloc, heard, rows, entry),
         _ => refused(alloc, Refusal::NotARequest),
     }
 }
@@ -218,9 +202,7 @@ pub fn answer_line(
     line: &[u8],
 ) -> Result<Vec<u8>, AllocError>
     requires { rows.old.version ≡ version_of seat.wire }
-    ensures text { IfOk result (λ t. t.items ≡ line_at seat (saved rows.old) line.now) }
-    ensures rows { OnOk result ((n : ℕ) → saved rows.new n ≡ rows_after (saved rows.old) (asked_at seat line.now) n) }
-    ensures version { rows.new.version ≡ rows.old.version }
+    ensures { Answers seat (asked_at seat line.now) rows.old rows.new result }
 {
     let bytes = match hex::decode(alloc, line) {
         Ok(bytes) => bytes,
@@ -228,7 +210,13 @@ pub fn answer_line(
         Err(_) => return refused(alloc, Refusal::NotHex),
     };
     match decode(&bytes, seat.wire) {
-        Ok(packet) => answer_packet(alloc, seat, rows, &packet),
+        Ok(packet) => {
+            let heard = HeardPacket {
+                seat,
+                packet: &packet,
+            };
+            answer_packet(alloc, &heard, rows)
+        }
         Err(fault) => refused(alloc, Refusal::Packet(fault)),
     }
 }

@@ -19,7 +19,7 @@ use Rattle.catch_up.specs.Lacking.{NoneWentOut, AreLacked, IsOutOf, IsWantOf, Is
 use Rattle.roll_call.specs.RollCall.{RollCallValue}
 use Rattle.catch_up.specs.Calls.{IsAskOf}
 use Rattle.catch_up.specs.Recalling.{IsRecalling, left_in, GoesOnFrom, IsDone}
-use Rattle.catch_up.specs.CatchUp.{CatchUpValue, IsSent, IsLeft, IsNewRecall, IsRecallAgain, IsHealed, IsFirstAsk, IsLastAsk, IsBegun, IsOwnErrand, IsErrandFor, IsNext, next_batch}
+use Rattle.catch_up.specs.CatchUp.{CatchUpValue, IsSent, IsLeft, IsNewRecall, IsRecallAgain, IsHealed, IsFirstAsk, IsLastAsk, NoAsk, IsBegun, IsOwnErrand, IsErrandFor, IsNext, next_batch}
 
 or_none : (a b : Bool) → (a || b) ≡ false → (a ≡ false) × (b ≡ false)
 or_none true b is = absurd (true≢false is)
@@ -166,3 +166,22 @@ last_asked old mid between new now may (Some e) (inl first) rolls flag pages las
     let asked = subst (λ (r : Option RollCallValue). IsAskOf r new.rolls now may (Some last.1.0)) same last.1.1 in
     inr (last.1.0, subst (λ (b : Bool). IsAskOf old.rolls new.rolls now b (Some last.1.0)) pages asked, last.1.2, last.1.3)
 last_asked old mid between new now may (Some e) (inr first) rolls flag pages last = absurd (true≢false (sym first.2 ∙ sym flag ∙ last.0))
+
+-- what is lacked is seen to alike, whatever is known of rolls
+seen_to : (c : CatchUpValue) (rolls : Option RollCallValue) (first : Bool) (wave : Option AskedNumbers) (now : ℕ) (e : Errand) → IsHealed (record c { rolls = rolls; rolls_first = first }) wave now e → IsHealed c wave now e
+seen_to c rolls first wave now (Seek number) healed = healed
+seen_to c rolls first wave now (Send to bytes) healed = healed
+seen_to c rolls first wave now (Tell number to) healed = healed
+
+-- what is lacked is seen to where no ask came first
+pub healed_first :
+    (old mid : CatchUpValue) (wave : Option AskedNumbers) (now : ℕ) (may : Bool) (e : Errand) → IsFirstAsk old mid now may None
+    → mid ≡ record old { rolls = mid.rolls; rolls_first = mid.rolls_first } → may ≡ may_ask_pages old.healing → IsHealed mid wave now e
+    → IsHealed old wave now e × ((old.rolls_first ≡ false) ⊎ NoAsk old now)
+healed_first old mid wave now may e first rest pages healed = (
+  seen_to old mid.rolls mid.rolls_first wave now e (subst (λ (c : CatchUpValue). IsHealed c wave now e) rest healed),
+  elim first [
+    | inl own ↦ inl own.0
+    | inr none ↦ inr (mid.rolls, subst (λ (b : Bool). IsAskOf old.rolls mid.rolls now b None) pages none.1)
+  ],
+)

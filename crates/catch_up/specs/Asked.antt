@@ -1,7 +1,8 @@
 -- What the members of a circuit asked to be told again, and who is told next.
-use Rattle.std.specs.Prelude.{◌≡◌, ℕ, ◌+◌, ◌-◌, ◌^◌, Bool, false, not, ◌&&◌, ◌||◌, nat_lt, nat_le, min, List, [], ◌∷◌, ◌++◌, length, drop, position, replicate, Option, Some, None, slice_index_or, slice_set, if◌then◌else◌}
+use Rattle.std.specs.Prelude.{◌≡◌, ℕ, ◌+◌, ◌-◌, ◌^◌, Bool, not, ◌&&◌, ◌||◌, nat_lt, nat_le, min, List, [], ◌∷◌, ◌++◌, length, drop, position, replicate, Option, Some, None, option_to_list, slice_index_or, slice_set, if◌then◌else◌}
 use Rattle.std.specs.List.{fold}
 use Rattle.healing.specs.Lists.{is_among}
+use Rattle.roll_call.specs.Answers.{is_second_on}
 
 -- a member: the numbers that wait to be told to it, the first asked first; when its present second began; and how many bytes it was
 -- told in it
@@ -34,11 +35,6 @@ asks number s =
     if is_among s.waiting number then s
     else if nat_lt (length s.waiting) 64 then record s { waiting = s.waiting ++ number ∷ [] } else s
 
--- the second that began then is not over
-abbrev pub is_second_on : Option ℕ → ℕ → Bool
-is_second_on None now = false
-is_second_on (Some since) now = nat_lt (now - since) 1000
-
 -- a number waits, and fewer than 1,000,000 bytes were told in the present second
 abbrev pub is_ready : ℕ → AskerValue → Bool
 is_ready now s = nat_lt 0 (length s.waiting) && not (is_second_on s.since now && nat_le 1_000_000 s.told)
@@ -47,6 +43,12 @@ is_ready now s = nat_lt 0 (length s.waiting) && not (is_second_on s.since now &&
 abbrev pub counts : ℕ → ℕ → AskerValue → AskerValue
 counts bytes now s =
     if is_second_on s.since now then record s { told = min (s.told + bytes) (2 ^ 64 - 1) } else record s { since = Some now; told = bytes }
+
+-- the number that waits longest is taken, if one waits
+pub record IsTaken (old new : AskerValue) (number : Option ℕ) : Type 0 where
+  pub first : old.waiting ≡ option_to_list number ++ new.waiting
+  pub none : number ≡ None → old.waiting ≡ []
+  pub rest : new ≡ record old { waiting = new.waiting }
 
 -- the member at a place
 abbrev pub asker_at : ℕ → AskedValue → AskerValue

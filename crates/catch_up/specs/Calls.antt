@@ -1,14 +1,14 @@
 -- What a plant knows of the votes of its circuit, where it knows its own rows.
-use Rattle.std.specs.Prelude.{◌≡◌, ℕ, ◌+◌, Bool, true, false, Option, Some, None, IfSome, slice_index, slice_set, if◌then◌else◌}
+use Rattle.std.specs.Prelude.{◌≡◌, ℕ, Bool, true, false, Option, Some, None, IfSome}
 use Rattle.std.specs.Option.{option_map}
 use Rattle.gone_out.specs.declared.origin.Origin.{Origin}
 use Rattle.gone_out.specs.Numbers.{has}
 use Rattle.node_core.specs.declared.turn.Note.{Note}
 use Rattle.node_core.specs.declared.turn.Note.TheVariants as notes
-use Rattle.rolls.specs.Pages.{page_of}
 use Rattle.rolls.specs.Rolls.{Roll}
 use Rattle.roll_call.specs.Answers.{turn_of}
 use Rattle.roll_call.specs.Asks.{came_at, whole_many}
+use Rattle.roll_call.specs.Held.{IsVoted as HasVoted}
 use Rattle.roll_call.specs.RollCall.{RollCallValue, AsksNext, IsHeard, Replies, after, is_told, is_wanted}
 
 -- it is the plant's own
@@ -23,11 +23,9 @@ KeepsOwn old new = (own : Origin) → IsOwnCall own old → IsOwnCall own new
 abbrev pub came_in : ℕ → Option RollCallValue → Option RollCallValue
 came_in now rolls = option_map (λ (c : RollCallValue). record c { asks = came_at now c.asks }) rolls
 
--- the own row of a number has a vote now, and no other's has one that had none; the number is counted on its page, where it is new
+-- the own row of a number has a vote now, and the rest of what is known stays
 pub record IsVoted (old new : RollCallValue) (number now : ℕ) : Type 0 where
-  pub same : has new.held.votes number ≡ true
-  pub others : (n : ℕ) → ¬ (n ≡ number) → has new.held.votes n ≡ has old.held.votes n
-  pub counts : new.held.counts ≡ (if has old.held.votes number then old.held.counts else slice_set old.held.counts (page_of number) (slice_index old.held.counts (page_of number) + 1))
+  pub held : HasVoted number old.held new.held
   pub rest : new ≡ record old { held = new.held; asks = came_at now old.asks }
 
 abbrev pub IsVotedIn : Option RollCallValue → Option RollCallValue → ℕ → ℕ → Type 0
@@ -101,3 +99,34 @@ told_by_in (Some c) = whole_many c.asks
 abbrev pub dropped_in : Option RollCallValue → ℕ
 dropped_in None = 0
 dropped_in (Some c) = c.answers.dropped
+
+-- a packet came or a vote was saved, and what is known stays the plant's own
+pub record Came (old new : Option RollCallValue) (now : ℕ) : Type 0 where
+  pub came : new ≡ came_in now old
+  pub own : KeepsOwn old new
+
+-- the own row of a number has a vote, which is saved
+pub record Voted (old new : Option RollCallValue) (number now : ℕ) : Type 0 where
+  pub voted : IsVotedIn old new number now
+  pub own : KeepsOwn old new
+
+-- a step about a number was done with this note
+pub record Noted (note : Note) (old new : Option RollCallValue) (number now : ℕ) : Type 0 where
+  pub noted : IsNotedIn (saves_vote note) old new number now
+  pub own : KeepsOwn old new
+
+-- a roll came that is the plant's to hear
+pub record Heard (r : Roll) (old new : Option RollCallValue) : Type 0 where
+  pub heard : new ≡ heard_in r old
+  pub own : KeepsOwn old new
+
+-- the next roll that answers was taken, if there is one
+pub record Answered (old new : Option RollCallValue) (now : ℕ) (r : Option Roll) : Type 0 where
+  pub reply : IsReplyOf old new now r
+  pub own : KeepsOwn old new
+
+-- the next roll that asks was taken, if there is one
+pub record Asked (old new : Option RollCallValue) (now : ℕ) (may : Bool) (r : Option Roll) : Type 0 where
+  pub ask : IsAskOf old new now may r
+  pub own : KeepsOwn old new
+  pub votes : SameVotes old new

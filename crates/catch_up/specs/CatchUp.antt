@@ -1,5 +1,6 @@
 -- What a plant does to catch up.
-use Rattle.std.specs.Prelude.{◌≡◌, ◌⊎◌, ℕ, ◌+◌, ◌^◌, ◌%◌, Bool, true, false, List, Option, Some, None, IfSome}
+use Rattle.std.specs.Prelude.{◌≡◌, ◌⊎◌, ℕ, ◌+◌, ◌^◌, ◌%◌, Bool, true, false, List, Option, Some, None, Result, IfOk, IfSome}
+use Rattle.std.specs.declared.alloc.AllocError.{AllocError}
 use Rattle.gone_out.specs.declared.origin.Origin.{Origin}
 use Rattle.healing.specs.Healing.{HealingValue}
 use Rattle.rolls.specs.Rolls.{Roll}
@@ -12,9 +13,9 @@ use Rattle.catch_up.specs.declared.errand.Errand.{Errand}
 use Rattle.catch_up.specs.declared.errand.Errand.TheVariants.{Send, Tell, Seek}
 use Rattle.catch_up.specs.Asked.{AskedValue, TakesTurn, turn_of}
 use Rattle.catch_up.specs.Own.{OwnValue, GoesOn, asked_again, begun}
-use Rattle.catch_up.specs.Waves.{AreAskedIn, IsWaveOver}
+use Rattle.catch_up.specs.Waves.{AreAskedIn, IsHandedOut, IsWaveOver, missed_in, out_in}
 use Rattle.catch_up.specs.Lacking.{gone_in, may_ask_pages, AllRestIn, AreAwaitedOf, AreLacked, IsToBeSought, SameGone}
-use Rattle.catch_up.specs.Recalling.{IsDone, IsRecalling}
+use Rattle.catch_up.specs.Recalling.{IsDone, IsRecalling, left_in}
 use Rattle.catch_up.specs.Calls.{is_told_in, IsAskOf, IsOwnCall, IsReplyOf, NoReply, SameVotes}
 
 -- the plant; what it lacks, if it is known what went out; what it knows of votes, if it is known what has rows; whether it asks on its
@@ -149,6 +150,27 @@ abbrev pub IsFirstForOthers : CatchUpValue → CatchUpValue → ℕ → Option E
 IsFirstForOthers old new now None = (¬ AreFirst old now) × (new ≡ old)
 IsFirstForOthers old new now (Some errand) = (old.others_first ≡ true) × IsErrandFor old new now (Some errand)
 
+-- what comes of an ask of a roll is so, where memory sufficed; nothing changes but whose turn it is to be asked, and what comes first then
+pub record IsAsking (old new : CatchUpValue) (is_asked : Option Errand → Type 0) (result : Result (Option Errand) AllocError) : Type 0 where
+  pub asked : IfOk result is_asked
+  pub rest : new ≡ record old { rolls = new.rolls; rolls_first = new.rolls_first }
+  pub votes : SameVotes old.rolls new.rolls
+
+-- what comes of a reply to a roll is so, where memory sufficed; nothing changes but what is to be answered, and what comes first then
+pub record IsReplying (old new : CatchUpValue) (is_replied : Option Errand → Type 0) (result : Result (Option Errand) AllocError) : Type 0 where
+  pub replied : IfOk result is_replied
+  pub rest : new ≡ record old { rolls = new.rolls; replies_first = new.replies_first }
+
+-- what comes of an errand for others is so, where memory sufficed; nothing changes but what waits for them, and what comes first then
+pub record IsServing (old new : CatchUpValue) (is_errand : Option Errand → Type 0) (result : Result (Option Errand) AllocError) : Type 0 where
+  pub errand : IfOk result is_errand
+  pub rest : new ≡ record old { asked = new.asked; rolls = new.rolls; replies_first = new.replies_first }
+
+-- a number went out, of which this is known then: it is recalled no longer, nor is it asked for
+abbrev pub out_at : ℕ → Option HealingValue → CatchUpValue → CatchUpValue
+out_at number healing c =
+    record c { healing = healing; recalling = left_in number c.recalling; wave = out_in (gone_in c.healing number) number c.wave }
+
 -- what is done on the plant's own leaves this: what waits for others, the own votes, and what went out
 pub record KeepsOthers (old new : CatchUpValue) : Type 0 where
   pub rest : new ≡ record old { healing = new.healing; rolls = new.rolls; wave = new.wave; batches = new.batches; recalling = new.recalling; rolls_first = new.rolls_first }
@@ -176,6 +198,17 @@ abbrev pub IsNext : CatchUpValue → CatchUpValue → ℕ → Option Errand → 
 IsNext old new now None = Rests old × NoneWaits old now × KeepsOthers (record old { others_first = false }) new
 IsNext old new now (Some errand) = IsOwnNext old new now errand ⊎ IsForOthers old new now (Some errand)
 
+-- whose plant it is, and what went out, stays
+pub record StaysItself (old new : CatchUpValue) : Type 0 where
+  pub own : new.own ≡ old.own
+  pub gone : SameGone old.healing new.healing
+
+-- the next errand is taken, where memory sufficed
+pub record TakesNext (old new : CatchUpValue) (now : ℕ) (result : Result (Option Errand) AllocError) : Type 0 where
+  pub next : IfOk result (IsNext old new now)
+  pub calm : new.is_stirred ≡ old.is_stirred
+  pub stays : StaysItself old new
+
 -- the plant, whether there may be an errand aside
 abbrev pub calm : CatchUpValue → CatchUpValue
 calm c = record c { is_stirred = false }
@@ -185,3 +218,15 @@ pub record IsOver (old new : CatchUpValue) (w : Wave) : Type 0 where
   pub rests : AllRestIn old.healing
   pub told : is_told_in old.rolls ≡ true
   pub wave : IsWaveOver old.wave new.wave w
+
+-- it is taken, if it is told now; the rest stays
+pub record IsWaveTaken (old new : CatchUpValue) (w : Option Wave) : Type 0 where
+  pub over : IfSome w (IsOver old new)
+  pub none : w ≡ None → new ≡ old
+  pub rest : new ≡ record old { wave = new.wave }
+
+-- the numbers that were asked for and not handed out yet are taken; the rest stays
+pub record AreMissedTaken (old new : CatchUpValue) (numbers : List ℕ) : Type 0 where
+  pub missed : numbers ≡ missed_in old.wave
+  pub left : IsHandedOut old.wave new.wave
+  pub rest : new ≡ record old { wave = new.wave }

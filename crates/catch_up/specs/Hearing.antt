@@ -1,5 +1,6 @@
 -- What becomes of a recall or a roll that came.
-use Rattle.std.specs.Prelude.{◌≡◌, ℕ, true, Result, Ok, Err}
+use Rattle.std.specs.Prelude.{◌≡◌, ℕ, true, Result, Ok, Err, OnOk, OnErr}
+use Rattle.recalls.specs.Tickets.{Ticket}
 use Rattle.recalls.specs.Recalls.{Recall}
 use Rattle.rolls.specs.declared.aside.Aside.{Aside}
 use Rattle.rolls.specs.declared.aside.Aside.TheVariants as asides
@@ -8,6 +9,7 @@ use Rattle.catch_up.specs.Asked.{asked_all}
 use Rattle.catch_up.specs.Lacking.{taken_in}
 use Rattle.catch_up.specs.CatchUp.{CatchUpValue}
 use Rattle.catch_up.specs.Held.{IsRollHeard}
+use Rattle.catch_up.specs.Unheard.{checked}
 
 -- a datagram was taken in
 abbrev pub with_taken : CatchUpValue → CatchUpValue
@@ -24,3 +26,9 @@ IsHeard old new (asides.Recall (Ok r)) now (Ok done) = new ≡ with_recall r (wi
 IsHeard old new (asides.Roll (Ok r)) now (Ok done) = IsRollHeard (with_taken old) new r now
 IsHeard old new (asides.Recall (Err fault)) now (Ok done) = ⊥
 IsHeard old new (asides.Roll (Err fault)) now (Ok done) = ⊥
+
+-- by its ticket something is heard, or it is passed over and changes nothing
+pub record IsHeardBy (ticket : Ticket) (old new : CatchUpValue) (is_heard : Type 0) (result : Result (Unit {0}) Unheard) : Type 0 where
+  pub answer : result ≡ checked old.own ticket
+  pub ok : OnOk result is_heard
+  pub err : OnErr result (new ≡ old)

@@ -1,5 +1,6 @@
 -- What becomes of the numbers of a page that a member told, where it was asked for.
-use Rattle.std.specs.Prelude.{◌≡◌, ◌≤◌, ◌⊎◌, ℕ, Bool, true, false, not, ◌&&◌, ◌==◌, Option, Some, None, is_some, if◌then◌else◌}
+use Rattle.std.specs.Prelude.{◌≡◌, ◌≤◌, ◌⊎◌, ℕ, Bool, true, false, not, ◌&&◌, ◌==◌, Option, Some, None, Result, OnOk, is_some, if◌then◌else◌}
+use Rattle.std.specs.declared.alloc.AllocError.{AllocError}
 use Rattle.protocol.specs.Limits.{last_number}
 use Rattle.healing.specs.declared.case.LackedNumber.{LackedNumber}
 use Rattle.healing.specs.declared.news.NumberNews.TheVariants.{Held}
@@ -41,6 +42,11 @@ pub record KeepsRest (old new : CatchUpValue) : Type 0 where
   pub rest : new ≡ record old { healing = new.healing; before = new.before; recalling = new.recalling; wave = new.wave }
   pub own : own_in new.healing ≡ own_in old.healing
   pub collects : collects new.before ≡ collects old.before
+
+-- what was told is so, where memory sufficed, and the rest stays
+pub record IsTaking (old new : CatchUpValue) (is_told : Type 0) (result : Result (Unit {0}) AllocError) : Type 0 where
+  pub held : OnOk result is_told
+  pub keeps : KeepsRest old new
 
 -- a number that a member has a vote of was told
 pub record IsHeldOne (old new : CatchUpValue) (number : ℕ) (t : TellingMember) : Type 0 where

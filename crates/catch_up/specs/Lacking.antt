@@ -1,5 +1,6 @@
 -- What a plant lacks, where it is known what went out there.
-use Rattle.std.specs.Prelude.{◌≡◌, ℕ, ◌+◌, Bool, true, false, not, ◌&&◌, nat_lt, List, [], ◌∷◌, length, min, Option, Some, None, is_some}
+use Rattle.std.specs.Prelude.{◌≡◌, ℕ, ◌+◌, Bool, true, false, not, ◌&&◌, nat_lt, List, [], ◌∷◌, length, min, Option, Some, None, is_some, Result, IfOk, IfSome, OnOk}
+use Rattle.std.specs.declared.alloc.AllocError.{AllocError}
 use Rattle.std.specs.Option.{option_map}
 use Rattle.gone_out.specs.Numbers.{has}
 use Rattle.healing.specs.declared.case.LackedNumber.{LackedNumber}
@@ -89,3 +90,20 @@ AreAwaitedOf (Some h) now numbers = AreAwaited h.cases now numbers
 -- the same, and none of them went out
 abbrev pub IsAwaitedBatch : Option HealingValue → ℕ → List ℕ → Type 0
 IsAwaitedBatch h now batch = AreAwaitedOf h now batch × NoneWentOut h batch
+
+-- one piece of news of a number was told, where memory sufficed; what went out stays, and so does whose plant it is
+pub record IsNewsTold (old new : Option HealingValue) (number : ℕ) (news : NumberNews) (now : ℕ) (result : Result (Unit {0}) AllocError) : Type 0 where
+  pub ok : OnOk result (IsToldOf old new number news now)
+  pub gone : SameGone old new
+  pub own : own_in new ≡ own_in old
+
+-- what the plant wants next was taken; what went out stays
+pub record IsWanting (old new : Option HealingValue) (now : ℕ) (result : Result (Option Want) AllocError) : Type 0 where
+  pub wanted : IfOk result (λ w. IfSome w (IsWantOf old now))
+  pub gone : SameGone old new
+
+-- what is to be asked for once more was taken, if anything is; what went out stays
+pub record IsAskingAgain (old new : Option HealingValue) (now : ℕ) (batch : Option (List ℕ)) : Type 0 where
+  pub awaited : IfSome batch (IsAwaitedBatch old now)
+  pub gone : SameGone old new
+  pub same : batch ≡ None → new ≡ old

@@ -11,5 +11,6 @@ pub mod Recalling
 pub mod Calls
 pub mod Starting
 pub mod CatchUp
+pub mod Told
 pub mod Held
 pub mod Hearing

@@ -1,5 +1,6 @@
 -- What is left to be done about the numbers that a station recalls.
-use Rattle.std.specs.Prelude.{◌≡◌, ◌≤◌, ◌<◌, ◌⊎◌, ℕ, ◌+◌, List, [], ◌∷◌, length, Option, Some, None}
+use Rattle.std.specs.Prelude.{◌≡◌, ◌≤◌, ◌<◌, ◌⊎◌, ℕ, ◌+◌, List, [], ◌∷◌, length, Option, Some, None, Result, IfOk, IfSome, OnErr}
+use Rattle.std.specs.declared.alloc.AllocError.{AllocError}
 use Rattle.protocol.specs.Limits.{most_members}
 use Rattle.gone_out.specs.declared.origin.Origin.{Origin}
 use Rattle.recalls.specs.Recalls.{Recall, Rise}
@@ -65,3 +66,14 @@ GoesOn old new (Some (Send to bytes)) =
 GoesOn old new (Some (Tell number to)) =
     NoneToAsk old × (to ≡ old.origin.member) × (old.left ≡ number ∷ new.left) × (new ≡ record old { left = new.left })
 GoesOn old new (Some (Seek number)) = ⊥
+
+-- the next member was asked, if one is to be; where memory is refused, nothing changed
+pub record IsSending (old new : OwnValue) (result : Result (Option Errand) AllocError) : Type 0 where
+  pub some : IfOk result (λ e. IfSome e (λ errand. GoesOn old new (Some errand)))
+  pub none : IfOk result (λ e. e ≡ None → NoneToAsk old × (new ≡ old))
+  pub err : OnErr result (new ≡ old)
+
+-- what comes next was done; where memory is refused, nothing changed
+pub record IsGoingOn (old new : OwnValue) (result : Result (Option Errand) AllocError) : Type 0 where
+  pub ok : IfOk result (GoesOn old new)
+  pub err : OnErr result (new ≡ old)

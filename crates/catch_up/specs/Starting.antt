@@ -24,6 +24,19 @@ first_case own known gone now n = if has known.rows n && not (has gone n) then f
 abbrev pub AreFirst : ℕ → Known → List Bool → ℕ → HealingValue → Type 0
 AreFirst own known gone now h = (n : ℕ) → 1 ≤ n → n ≤ last_number → case_at h n ≡ first_case own known gone now n
 
+-- what is known of a number at the start was told, if it has a row
+pub record IsRowTold (known : Known) (number now : ℕ) (old new : HealingValue) : Type 0 where
+  pub same : case_at new number ≡ first_case old.own known old.gone now number
+  pub others : (n : ℕ) → ¬ (n ≡ number) → case_at new n ≡ case_at old n
+  pub gone : new.gone ≡ old.gone
+  pub own : new.own ≡ old.own
+
+-- what is known of all numbers at the start was told
+pub record AreRowsTold (known : Known) (now : ℕ) (old new : HealingValue) : Type 0 where
+  pub rows : AreFirst old.own known old.gone now new
+  pub gone : new.gone ≡ old.gone
+  pub own : new.own ≡ old.own
+
 -- what is lacked, by what has rows and what went out: nothing, where one of them is not known
 abbrev pub StartsFrom : ℕ → Option Known → Option (List Bool) → ℕ → Option HealingValue → Type 0
 StartsFrom own None went now h = h ≡ None

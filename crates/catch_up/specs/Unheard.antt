@@ -1,15 +1,15 @@
 -- Why a recall or a roll is passed over, and the texts that stand for it.
 use Rattle.std.specs.Prelude.{◌==◌, ℕ, not, nat_lt, List, Result, Ok, Err, codes, if◌then◌else◌}
 use Rattle.gone_out.specs.declared.origin.Origin.{Origin}
-use Rattle.recalls.specs.Recalls.{Recall}
+use Rattle.recalls.specs.Tickets.{Ticket}
+use Rattle.recalls.specs.Recalls.{ticket_of}
 use Rattle.recalls.specs.declared.fault.RecallFault.{RecallFault}
 use Rattle.recalls.specs.declared.fault.RecallFault.TheVariants as faults
-use Rattle.rolls.specs.Rolls.{Roll}
+use Rattle.rolls.specs.Rolls.{ticket_of as roll_ticket}
 use Rattle.rolls.specs.declared.fault.RollFault.{RollFault}
 use Rattle.rolls.specs.declared.fault.RollFault.TheVariants as roll_faults
 use Rattle.rolls.specs.declared.aside.Aside.{Aside}
 use Rattle.rolls.specs.declared.aside.Aside.TheVariants as asides
-use Rattle.catch_up.specs.declared.unheard.Route.{Route}
 use Rattle.catch_up.specs.declared.unheard.Unheard.{Unheard}
 use Rattle.catch_up.specs.declared.unheard.Unheard.TheVariants.{Bad, BadRoll, WrongCircuit, NotForMe, Stranger}
 
@@ -46,24 +46,17 @@ text_of WrongCircuit = codes "wrong-circuit"
 text_of NotForMe = codes "not-for-me"
 text_of Stranger = codes "stranger"
 
--- of which circuit a recall or a roll is, from which member, and to which
-abbrev pub recall_way : Recall → Route
-recall_way r = record { circuit = r.circuit; from = r.from; to = r.to }
-
-abbrev pub roll_way : Roll → Route
-roll_way r = record { circuit = r.circuit; from = r.from; to = r.to }
-
--- whether what came is of this circuit, to this station, from a member; and the first reason where it is not
-abbrev pub checked : Origin → Route → Result (Unit {0}) Unheard
-checked own way =
-    if not (way.circuit == own.circuit) then Err WrongCircuit
-    else if not (way.to == own.member) then Err NotForMe
-    else if nat_lt own.count way.from then Err Stranger
+-- whether what came is of this circuit, to this station, from a member, by its ticket; and the first reason where it is not
+abbrev pub checked : Origin → Ticket → Result (Unit {0}) Unheard
+checked own h =
+    if not (h.circuit == own.circuit) then Err WrongCircuit
+    else if not (h.to == own.member) then Err NotForMe
+    else if nat_lt own.count h.from then Err Stranger
     else Ok tt
 
 -- what becomes of a recall or a roll that came, by how it was read
 abbrev pub heard_by : Origin → Aside → Result (Unit {0}) Unheard
 heard_by own (asides.Recall (Err fault)) = Err (Bad fault)
-heard_by own (asides.Recall (Ok r)) = checked own (recall_way r)
+heard_by own (asides.Recall (Ok r)) = checked own (ticket_of r)
 heard_by own (asides.Roll (Err fault)) = Err (BadRoll fault)
-heard_by own (asides.Roll (Ok r)) = checked own (roll_way r)
+heard_by own (asides.Roll (Ok r)) = checked own (roll_ticket r)

@@ -1,8 +1,8 @@
 //! What the members asked to be told again. Each has its place, and they take turns.
 
-ghost use Rattle.std.specs.Prelude.{◌≡◌, ◌<◌, ◌≤◌, IfOk, IfSome, length, position, replicate};
+ghost use Rattle.std.specs.Prelude.{◌≡◌, ◌<◌, ◌≤◌, IfOk, IfSome, length, position};
 ghost use Rattle.catch_up.specs.Values.{AreNumbers};
-ghost use Rattle.catch_up.specs.Asked.{asked_all, asked_one, is_ready, nobody, nothing_asked, TakesTurn, told_to, turn_of};
+ghost use Rattle.catch_up.specs.Asked.{asked_all, asked_one, is_ready, nothing_asked, TakesTurn, told_to, turn_of};
 
 use crate::asker::RecallAsker;
 use ballots::{MOST_MEMBERS, Member, Number};
@@ -30,17 +30,6 @@ impl Model for RecallQueue {
     ghost invariant = { λ a. (length a.askers.items ≡ 15) × (a.next ≤ 15) };
 }
 
-/// Members that asked for nothing.
-fn new_askers(alloc: Global) -> Result<Vec<RecallAsker>, AllocError>
-    ensures { IfOk result (λ v. v.items ≡ replicate 15 nobody) }
-{
-    let mut askers = Vec::new(alloc);
-    for _ in 0..MOST_MEMBERS {
-        askers.push(RecallAsker::new())?;
-    }
-    Ok(askers)
-}
-
 /// The first place of a member that is ready.
 fn first_of(askers: &[RecallAsker], now: u64) -> Option<usize>
     ensures place { result ≡ position (is_ready now) askers.now }
@@ -54,8 +43,12 @@ impl RecallQueue {
     pub(crate) fn new(alloc: Global) -> Result<RecallQueue, AllocError>
         ensures { IfOk result (λ a. a ≡ nothing_asked) }
     {
+        let mut askers = Vec::new(alloc);
+        for _ in 0..MOST_MEMBERS {
+            askers.push(RecallAsker::new())?;
+        }
         Ok(RecallQueue {
-            askers: new_askers(alloc)?,
+            askers,
             next: 0,
             dropped: 0,
         })

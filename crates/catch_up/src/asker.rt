@@ -1,15 +1,13 @@
 //! What one member asked to be told again.
 
-ghost use Rattle.std.specs.Prelude.{◌≡◌, ◌++◌, [], None, option_to_list};
-ghost use Rattle.catch_up.specs.Asked.{asks, counts, has_place, is_ready, is_second_on, nobody};
+ghost use Rattle.std.specs.Prelude.{◌≡◌};
+ghost use Rattle.catch_up.specs.Asked.{IsTaken, asks, counts, has_place, is_ready, nobody};
 
 use crate::values::{Values, is_among, take_first};
 use arrayvec::ArrayVec;
 use ballots::Number;
+use roll_call::is_second_on;
 use std::marker::Model;
-
-/// How long a second is, in milliseconds.
-const SECOND: u64 = 1000;
 
 /// How many bytes a member is told in a second before it waits for the next.
 const MOST_BYTES: u64 = 1_000_000;
@@ -63,28 +61,16 @@ impl RecallAsker {
         true
     }
 
-    /// Whether the second that began last is not over yet.
-    fn is_second_on(&self, now: u64) -> bool
-        ensures { result ≡ is_second_on self.now.since now }
-    {
-        match self.since {
-            Some(since) => now.saturating_sub(since) < SECOND,
-            None => false,
-        }
-    }
-
     /// Whether a number waits that may be told now.
     pub(crate) fn is_ready(&self, now: u64) -> bool
         ensures { result ≡ is_ready now self.now }
     {
-        !self.waiting.is_empty() && !(self.is_second_on(now) && self.told >= MOST_BYTES)
+        !self.waiting.is_empty() && !(is_second_on(self.since, now) && self.told >= MOST_BYTES)
     }
 
     /// Takes the number that waits longest.
     pub(crate) fn take(&mut self) -> Option<Number>
-        ensures first { self.old.waiting ≡ option_to_list result ++ self.new.waiting }
-        ensures none { result ≡ None → self.old.waiting ≡ [] }
-        ensures rest { self.new ≡ record self.old { waiting = self.new.waiting } }
+        ensures { IsTaken self.old self.new result }
     {
         take_first(&mut self.waiting)
     }
@@ -93,7 +79,7 @@ impl RecallAsker {
     pub(crate) fn count(&mut self, bytes: usize, now: u64)
         ensures { self.new ≡ counts bytes now self.old }
     {
-        if !self.is_second_on(now) {
+        if !is_second_on(self.since, now) {
             self.since = Some(now);
             self.told = 0;
         }

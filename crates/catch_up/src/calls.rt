@@ -1,7 +1,7 @@
 //! What a plant knows of the votes of its circuit, where it knows its own rows.
 
 ghost use Rattle.std.specs.Prelude.{◌≡◌};
-ghost use Rattle.catch_up.specs.Calls.{IsAskOf, IsForMe, IsNotedIn, IsReplyOf, IsVotedIn, KeepsOwn, SameVotes, came_in, dropped_in, heard_in, is_told_in, is_wanted_in, saves_vote, told_by_in};
+ghost use Rattle.catch_up.specs.Calls.{Answered, Asked, Came, Heard, IsForMe, Noted, Voted, dropped_in, is_told_in, is_wanted_in, told_by_in};
 
 use ballots::Number;
 use node_core::Note;
@@ -10,8 +10,7 @@ use rolls::Roll;
 
 /// A packet came or a vote was saved.
 pub(crate) fn came(rolls: &mut Option<RollCall>, now: u64)
-    ensures came { rolls.new ≡ came_in now rolls.old }
-    ensures own { KeepsOwn rolls.old rolls.new }
+    ensures { Came rolls.old rolls.new now }
 {
     if let Some(rolls) = rolls {
         rolls.came(now);
@@ -20,8 +19,7 @@ pub(crate) fn came(rolls: &mut Option<RollCall>, now: u64)
 
 /// The own row of a number has a vote, which is saved.
 fn voted(rolls: &mut Option<RollCall>, number: Number, now: u64)
-    ensures voted { IsVotedIn rolls.old rolls.new number now }
-    ensures own { KeepsOwn rolls.old rolls.new }
+    ensures { Voted rolls.old rolls.new number now }
 {
     if let Some(rolls) = rolls {
         rolls.voted(number);
@@ -31,8 +29,7 @@ fn voted(rolls: &mut Option<RollCall>, number: Number, now: u64)
 
 /// A step about a number was done with this note: where it saved a vote, the number is among the own votes.
 pub(crate) fn note_vote(rolls: &mut Option<RollCall>, number: Number, note: &Note, now: u64)
-    ensures noted { IsNotedIn (saves_vote note.now) rolls.old rolls.new number now }
-    ensures own { KeepsOwn rolls.old rolls.new }
+    ensures { Noted note.now rolls.old rolls.new number now }
 {
     match note {
         Note::Proposed { .. } | Note::Voted { .. } => voted(rolls, number, now),
@@ -54,8 +51,7 @@ pub(crate) fn is_wanted(rolls: &Option<RollCall>, roll: &Roll) -> bool
 #[tactic(auto, using(crate::proofs::Keeping::after_own))]
 pub(crate) fn hear(rolls: &mut Option<RollCall>, roll: &Roll)
     requires { IsForMe rolls.old roll.now }
-    ensures heard { rolls.new ≡ heard_in roll.now rolls.old }
-    ensures own { KeepsOwn rolls.old rolls.new }
+    ensures { Heard roll.now rolls.old rolls.new }
 {
     if let Some(rolls) = rolls {
         rolls.hear(roll);
@@ -64,8 +60,7 @@ pub(crate) fn hear(rolls: &mut Option<RollCall>, roll: &Roll)
 
 /// The next roll that answers.
 pub(crate) fn reply(rolls: &mut Option<RollCall>, now: u64) -> Option<Roll>
-    ensures reply { IsReplyOf rolls.old rolls.new now result }
-    ensures own { KeepsOwn rolls.old rolls.new }
+    ensures { Answered rolls.old rolls.new now result }
 {
     match rolls {
         Some(rolls) => rolls.reply(now),
@@ -75,9 +70,7 @@ pub(crate) fn reply(rolls: &mut Option<RollCall>, now: u64) -> Option<Roll>
 
 /// The next roll that asks.
 pub(crate) fn question(rolls: &mut Option<RollCall>, now: u64, may_ask_pages: bool) -> Option<Roll>
-    ensures ask { IsAskOf rolls.old rolls.new now may_ask_pages result }
-    ensures own { KeepsOwn rolls.old rolls.new }
-    ensures votes { SameVotes rolls.old rolls.new }
+    ensures { Asked rolls.old rolls.new now may_ask_pages result }
 {
     match rolls {
         Some(rolls) => rolls.question(now, may_ask_pages),

@@ -1,16 +1,13 @@
 //! What a plant does to catch up.
 
-ghost use Rattle.std.specs.Prelude.{◌≡◌, ◌&&◌, ◌||◌, ◌+◌, ◌-◌, ◌^◌, None, IfOk, IfSome, OnOk, is_some, min};
-ghost use Rattle.healing.specs.declared.news.NumberNews.TheVariants.{Closed};
-ghost use Rattle.catch_up.specs.News.{all_news, packet_news};
+ghost use Rattle.std.specs.Prelude.{◌≡◌, ◌&&◌, ◌||◌, ◌+◌, ◌-◌, ◌^◌, None, IfOk, is_some, min};
 ghost use Rattle.catch_up.specs.Asked.{nothing_asked, told_to};
 ghost use Rattle.catch_up.specs.Before.{IsBegunBefore, handed_out, left_before, settled_before};
-ghost use Rattle.catch_up.specs.Lacking.{AreToldOf, IsOutOf, IsToldOf, SameGone, gone_in, taken_in};
-ghost use Rattle.catch_up.specs.Recalling.{left_in};
-ghost use Rattle.catch_up.specs.Calls.{IsNotedIn, came_in, dropped_in, is_told_in, saves_vote, told_by_in};
+ghost use Rattle.catch_up.specs.Lacking.{IsOutOf, gone_in, taken_in};
+ghost use Rattle.catch_up.specs.Calls.{dropped_in, is_told_in, told_by_in};
 ghost use Rattle.catch_up.specs.Starting.{AsksFrom, CallsFrom, StartsWith};
-ghost use Rattle.catch_up.specs.Waves.{IsHandedOut, missed_in, out_in};
-ghost use Rattle.catch_up.specs.CatchUp.{IsOver};
+ghost use Rattle.catch_up.specs.CatchUp.{AreMissedTaken, IsWaveTaken, out_at};
+ghost use Rattle.catch_up.specs.Told.{HasCome, IsDeclined, IsStepTold};
 
 use crate::asked::RecallQueue;
 use crate::before::Before;
@@ -132,9 +129,7 @@ impl CatchUp {
     ///
     /// Out of memory. What is known of numbers is then as before.
     pub fn came(&mut self, packet: PacketHead, now: u64) -> Result<(), AllocError>
-        ensures ok { OnOk result (IsToldOf (taken_in self.old.healing) self.new.healing packet.number (packet_news packet) now) }
-        ensures rest { self.new ≡ record self.old { healing = self.new.healing; rolls = came_in now self.old.rolls } }
-        ensures gone { SameGone self.old.healing self.new.healing }
+        ensures { HasCome packet self.old self.new now result }
     {
         take_in(&mut self.healing);
         calls::came(&mut self.rolls, now);
@@ -166,10 +161,7 @@ impl CatchUp {
         opened: bool,
         now: u64,
     ) -> Result<(), AllocError>
-        ensures ok { OnOk result (AreToldOf self.old.healing self.new.healing number (all_news note.now opened) now) }
-        ensures rolls { IsNotedIn (saves_vote note.now) self.old.rolls self.new.rolls number now }
-        ensures rest { self.new ≡ record self.old { healing = self.new.healing; rolls = self.new.rolls } }
-        ensures gone { SameGone self.old.healing self.new.healing }
+        ensures { IsStepTold (record { number = number; note = note.now; opened = opened }) self.old self.new now result }
     {
         calls::note_vote(&mut self.rolls, number, note, now);
         if let Some(news) = news_of(*note) {
@@ -194,9 +186,7 @@ impl CatchUp {
     ///
     /// Out of memory. What is known of numbers is then as before.
     pub fn declined(&mut self, number: Number, now: u64) -> Result<(), AllocError>
-        ensures ok { OnOk result (IsToldOf self.old.healing self.new.healing number Closed now) }
-        ensures rest { self.new ≡ record self.old { healing = self.new.healing } }
-        ensures gone { SameGone self.old.healing self.new.healing }
+        ensures { IsDeclined number self.old self.new now result }
     {
         tell(&mut self.healing, number, NumberNews::Closed, now)
     }
@@ -204,7 +194,7 @@ impl CatchUp {
     /// A number went out here: it is never asked for again.
     pub fn went_out(&mut self, number: Number)
         ensures out { IsOutOf self.old.healing self.new.healing number }
-        ensures rest { self.new ≡ record self.old { healing = self.new.healing; recalling = left_in number self.old.recalling; wave = out_in (gone_in self.old.healing number) number self.old.wave } }
+        ensures rest { self.new ≡ out_at number self.new.healing self.old }
     {
         let was_out = has_gone_out(&self.healing, number);
         leave(&mut self.healing, number);
@@ -259,9 +249,7 @@ impl CatchUp {
     /// The numbers that were asked for the first time since nothing was lacked last, and that were not handed out yet: at most 64. Those of
     /// a batch rise.
     pub fn take_missed(&mut self) -> ArrayVec<u32, 64>
-        ensures missed { result.items ≡ missed_in self.old.wave }
-        ensures left { IsHandedOut self.old.wave self.new.wave }
-        ensures rest { self.new ≡ record self.old { wave = self.new.wave } }
+        ensures { AreMissedTaken self.old self.new result.items }
     {
         missed_of(&mut self.wave)
     }
@@ -269,9 +257,7 @@ impl CatchUp {
     /// What became of the numbers that were asked for, once nothing is lacked any more and a majority told its votes; it is over then, and
     /// the next begins with the next number that is asked for. `None` where nothing was asked for. Where memory is refused it comes later.
     pub fn take_wave(&mut self) -> Option<Wave>
-        ensures over { IfSome result (IsOver self.old self.new) }
-        ensures none { result ≡ None → self.new ≡ self.old }
-        ensures rest { self.new ≡ record self.old { wave = self.new.wave } }
+        ensures { IsWaveTaken self.old self.new result }
     {
         if is_busy(&self.healing) || !calls::is_told(&self.rolls) {
             return None;

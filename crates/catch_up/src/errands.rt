@@ -5,8 +5,7 @@ ghost use Rattle.catch_up.specs.Own.{asked_again, begun};
 ghost use Rattle.catch_up.specs.Errands.{IsGoodErrand};
 ghost use Rattle.catch_up.specs.Lacking.{NoneWentOut, SameGone};
 ghost use Rattle.catch_up.specs.Waves.{AreAskedIn};
-ghost use Rattle.catch_up.specs.Calls.{SameVotes};
-ghost use Rattle.catch_up.specs.CatchUp.{IsAsked, IsBegun, IsErrandFor, IsFirstAsk, IsFirstForOthers, IsFirstReply, IsHealed, IsLastAsk, IsNext, IsOwnErrand, IsReplied, IsSent, KeepsOthers, Rests, calm, next_batch};
+ghost use Rattle.catch_up.specs.CatchUp.{IsAsked, IsBegun, IsErrandFor, IsFirstAsk, IsFirstForOthers, IsAsking, IsFirstReply, IsHealed, IsLastAsk, IsNext, IsOwnErrand, IsReplied, IsReplying, IsSent, IsServing, KeepsOthers, Rests, StaysItself, TakesNext, calm, next_batch};
 
 use crate::calls;
 use crate::catch_up::CatchUp;
@@ -24,7 +23,7 @@ fn sent(alloc: Global, roll: &Roll) -> Result<Errand, AllocError>
     ensures { IfOk result (IsSent roll.now) }
 {
     Ok(Errand::Send {
-        to: roll.to(),
+        to: roll.ticket().to(),
         bytes: rolls::encode(alloc, roll)?,
     })
 }
@@ -74,9 +73,7 @@ impl CatchUp {
 
     /// The next ask of a roll; of pages only where they may be asked for.
     fn ask(&mut self, now: u64, may_ask_pages: bool) -> Result<Option<Errand>, AllocError>
-        ensures asked { IfOk result (IsAsked self.old self.new now may_ask_pages) }
-        ensures rest { self.new ≡ record self.old { rolls = self.new.rolls; rolls_first = self.new.rolls_first } }
-        ensures votes { SameVotes self.old.rolls self.new.rolls }
+        ensures { IsAsking self.old self.new (IsAsked self.old self.new now may_ask_pages) result }
     {
         let Some(roll) = calls::question(&mut self.rolls, now, may_ask_pages) else {
             return Ok(None);
@@ -87,9 +84,7 @@ impl CatchUp {
 
     /// The next ask of a roll, where those come first.
     fn first_ask(&mut self, now: u64, may_ask_pages: bool) -> Result<Option<Errand>, AllocError>
-        ensures asked { IfOk result (IsFirstAsk self.old self.new now may_ask_pages) }
-        ensures rest { self.new ≡ record self.old { rolls = self.new.rolls; rolls_first = self.new.rolls_first } }
-        ensures votes { SameVotes self.old.rolls self.new.rolls }
+        ensures { IsAsking self.old self.new (IsFirstAsk self.old self.new now may_ask_pages) result }
     {
         if self.rolls_first {
             self.ask(now, may_ask_pages)
@@ -100,9 +95,7 @@ impl CatchUp {
 
     /// The next ask of a roll, where those do not come first.
     fn last_ask(&mut self, now: u64, may_ask_pages: bool) -> Result<Option<Errand>, AllocError>
-        ensures asked { IfOk result (IsLastAsk self.old self.new now may_ask_pages) }
-        ensures rest { self.new ≡ record self.old { rolls = self.new.rolls; rolls_first = self.new.rolls_first } }
-        ensures votes { SameVotes self.old.rolls self.new.rolls }
+        ensures { IsAsking self.old self.new (IsLastAsk self.old self.new now may_ask_pages) result }
     {
         if self.rolls_first {
             Ok(None)
@@ -147,8 +140,7 @@ impl CatchUp {
 
     /// The next reply to a roll.
     fn reply(&mut self, now: u64) -> Result<Option<Errand>, AllocError>
-        ensures replied { IfOk result (IsReplied self.old self.new now) }
-        ensures rest { self.new ≡ record self.old { rolls = self.new.rolls; replies_first = self.new.replies_first } }
+        ensures { IsReplying self.old self.new (IsReplied self.old self.new now) result }
     {
         let Some(roll) = calls::reply(&mut self.rolls, now) else {
             return Ok(None);
@@ -159,8 +151,7 @@ impl CatchUp {
 
     /// The next reply to a roll, where those come first.
     fn first_reply(&mut self, now: u64) -> Result<Option<Errand>, AllocError>
-        ensures replied { IfOk result (IsFirstReply self.old self.new now) }
-        ensures rest { self.new ≡ record self.old { rolls = self.new.rolls; replies_first = self.new.replies_first } }
+        ensures { IsReplying self.old self.new (IsFirstReply self.old self.new now) result }
     {
         if self.replies_first {
             self.reply(now)
@@ -171,8 +162,7 @@ impl CatchUp {
 
     /// The next errand for others: a reply to a roll, or a vote that is told, by turns.
     fn errand_for_others(&mut self, now: u64) -> Result<Option<Errand>, AllocError>
-        ensures errand { IfOk result (IsErrandFor self.old self.new now) }
-        ensures rest { self.new ≡ record self.old { asked = self.new.asked; rolls = self.new.rolls; replies_first = self.new.replies_first } }
+        ensures { IsServing self.old self.new (IsErrandFor self.old self.new now) result }
     {
         if let Some(errand) = self.first_reply(now)? {
             return Ok(Some(errand));
@@ -186,8 +176,7 @@ impl CatchUp {
 
     /// The next errand for others, where those come first.
     fn first_for_others(&mut self, now: u64) -> Result<Option<Errand>, AllocError>
-        ensures errand { IfOk result (IsFirstForOthers self.old self.new now) }
-        ensures rest { self.new ≡ record self.old { asked = self.new.asked; rolls = self.new.rolls; replies_first = self.new.replies_first } }
+        ensures { IsServing self.old self.new (IsFirstForOthers self.old self.new now) result }
     {
         if self.others_first {
             self.errand_for_others(now)
@@ -198,10 +187,7 @@ impl CatchUp {
 
     /// The next errand of those whose turn it is, or else of the others.
     fn errand(&mut self, now: u64, waits: bool) -> Result<Option<Errand>, AllocError>
-        ensures next { IfOk result (IsNext self.old self.new now) }
-        ensures calm { self.new.is_stirred ≡ self.old.is_stirred }
-        ensures own { self.new.own ≡ self.old.own }
-        ensures gone { SameGone self.old.healing self.new.healing }
+        ensures { TakesNext self.old self.new now result }
     {
         if let Some(errand) = self.first_for_others(now)? {
             self.others_first = false;
@@ -229,8 +215,7 @@ impl CatchUp {
         ensures next { IfOk result (IsNext (calm self.old) (calm self.new) now) }
         ensures stirred { IfOk result (λ e. self.new.is_stirred ≡ is_some e) }
         ensures rests { OnErr result (self.new.is_stirred ≡ false) }
-        ensures own { self.new.own ≡ self.old.own }
-        ensures gone { SameGone self.old.healing self.new.healing }
+        ensures stays { StaysItself self.old self.new }
     {
         self.is_stirred = false;
         let errand = self.errand(now, waits)?;

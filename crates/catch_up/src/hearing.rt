@@ -2,14 +2,16 @@
 
 ghost use Rattle.std.specs.Prelude.{◌≡◌, true, OnErr, OnOk, is_some};
 ghost use Rattle.roll_call.specs.RollCall.{IsHeard as IsHeardRoll};
-ghost use Rattle.catch_up.specs.Unheard.{checked, heard_by, recall_way, roll_way};
-ghost use Rattle.catch_up.specs.Held.{AreTaken, IsHeldOf, IsHeldOne, IsPageHeld, IsRollHeard, KeepsRest, page_in};
-ghost use Rattle.catch_up.specs.Hearing.{IsHeard, with_recall};
+ghost use Rattle.recalls.specs.Recalls.{ticket_of};
+ghost use Rattle.rolls.specs.Rolls.{ticket_of as roll_ticket};
+ghost use Rattle.catch_up.specs.Unheard.{heard_by};
+ghost use Rattle.catch_up.specs.Held.{AreTaken, IsHeldOf, IsHeldOne, IsPageHeld, IsRollHeard, IsTaking, KeepsRest, page_in};
+ghost use Rattle.catch_up.specs.Hearing.{IsHeard, IsHeardBy, with_recall};
 
 use crate::calls;
 use crate::catch_up::CatchUp;
 use crate::lacking::{is_new, take_in, tell};
-use crate::unheard::{Unheard, check, roll_way_of, way_of};
+use crate::unheard::{Unheard, check};
 use ballots::{Member, Number};
 use healing::NumberNews;
 use recalls::Recall;
@@ -27,8 +29,7 @@ impl CatchUp {
     /// A member told that it has a vote of a number. It is lacked, unless it went out; in the first start that keeps what went out, a
     /// number that is not known here went out before.
     fn hold(&mut self, number: Number, telling: &TellingMember) -> Result<(), AllocError>
-        ensures held { OnOk result (IsHeldOne self.old self.new number telling.now) }
-        ensures keeps { KeepsRest self.old self.new }
+        ensures { IsTaking self.old self.new (IsHeldOne self.old self.new number telling.now) result }
     {
         if self.before.collects() && is_new(&self.healing, number) {
             self.before.add(number);
@@ -51,8 +52,7 @@ impl CatchUp {
         votes: &Votes,
         telling: &TellingMember,
     ) -> Result<(), AllocError>
-        ensures held { OnOk result (IsHeldOf self.old self.new value votes.now telling.now) }
-        ensures keeps { KeepsRest self.old self.new }
+        ensures { IsTaking self.old self.new (IsHeldOf self.old self.new value votes.now telling.now) result }
     {
         match Number::new(value) {
             Some(number) if votes.contains(number) => self.hold(number, telling),
@@ -62,8 +62,7 @@ impl CatchUp {
 
     /// The numbers of a page that a member told.
     fn hold_all(&mut self, votes: &Votes, telling: &TellingMember) -> Result<(), AllocError>
-        ensures held { OnOk result (IsPageHeld self.old self.new votes.now telling.now) }
-        ensures keeps { KeepsRest self.old self.new }
+        ensures { IsTaking self.old self.new (IsPageHeld self.old self.new votes.now telling.now) result }
     {
         let first = PAGE_NUMBERS * u32::from(votes.page().get());
         for place in 0..PAGE_NUMBERS {
@@ -81,7 +80,7 @@ impl CatchUp {
         if !calls::is_wanted(&self.rolls, roll) {
             return Ok(());
         }
-        let member = roll.from();
+        let member = roll.ticket().from();
         match roll.body() {
             RollBody::Page(votes) => self.hold_all(
                 votes,
@@ -109,23 +108,19 @@ impl CatchUp {
 
     /// A roll came.
     fn hear_roll(&mut self, roll: &Roll, now: u64) -> Result<(), Unheard>
-        ensures result { result ≡ checked self.old.own (roll_way roll.now) }
-        ensures ok { OnOk result (IsRollHeard self.old self.new roll.now now) }
-        ensures err { OnErr result (self.new ≡ self.old) }
+        ensures { IsHeardBy (roll_ticket roll.now) self.old self.new (IsRollHeard self.old self.new roll.now now) result }
     {
-        check(self.own, roll_way_of(roll))?;
+        check(self.own, roll.ticket())?;
         self.take_roll(roll, now);
         Ok(())
     }
 
     /// A recall came.
     fn hear_recall(&mut self, recall: &Recall) -> Result<(), Unheard>
-        ensures result { result ≡ checked self.old.own (recall_way recall.now) }
-        ensures ok { OnOk result (self.new ≡ with_recall recall.now self.old) }
-        ensures err { OnErr result (self.new ≡ self.old) }
+        ensures { IsHeardBy (ticket_of recall.now) self.old self.new (self.new ≡ with_recall recall.now self.old) result }
     {
-        check(self.own, way_of(recall))?;
-        self.asked.ask(recall.from(), recall.numbers());
+        check(self.own, recall.ticket())?;
+        self.asked.ask(recall.ticket().from(), recall.numbers());
         self.is_stirred = true;
         Ok(())
     }

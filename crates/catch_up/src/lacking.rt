@@ -1,7 +1,7 @@
 //! What a plant lacks, where it is known what went out there.
 
-ghost use Rattle.std.specs.Prelude.{◌≡◌, None, false, IfOk, IfSome, OnOk, is_some};
-ghost use Rattle.catch_up.specs.Lacking.{AllRestIn, IsAwaitedBatch, IsOutOf, IsToldOf, IsWantOf, SameGone, case_of, gone_in, is_new_in, may_ask_pages, own_in, taken_in};
+ghost use Rattle.std.specs.Prelude.{◌≡◌, false, is_some};
+ghost use Rattle.catch_up.specs.Lacking.{AllRestIn, IsAskingAgain, IsNewsTold, IsOutOf, IsWanting, case_of, gone_in, is_new_in, may_ask_pages, taken_in};
 
 use ballots::Number;
 use healing::{Batch, Healing, NumberNews, Want};
@@ -26,9 +26,7 @@ pub(crate) fn tell(
     news: NumberNews,
     now: u64,
 ) -> Result<(), AllocError>
-    ensures ok { OnOk result (IsToldOf healing.old healing.new number news now) }
-    ensures gone { SameGone healing.old healing.new }
-    ensures own { own_in healing.new ≡ own_in healing.old }
+    ensures { IsNewsTold healing.old healing.new number news now result }
 {
     match healing {
         Some(healing) => healing.tell(number, news, now),
@@ -101,8 +99,7 @@ pub(crate) fn want(
     now: u64,
     waits: bool,
 ) -> Result<Option<Want>, AllocError>
-    ensures wanted { IfOk result (λ w. IfSome w (IsWantOf healing.old now)) }
-    ensures gone { SameGone healing.old healing.new }
+    ensures { IsWanting healing.old healing.new now result }
 {
     match healing {
         Some(healing) => healing.next(now, waits),
@@ -112,9 +109,7 @@ pub(crate) fn want(
 
 /// What is recalled and to be asked for once more: nothing while datagrams wait, which may tell it.
 pub(crate) fn again(healing: &mut Option<Healing>, now: u64, waits: bool) -> Option<Batch>
-    ensures awaited { IfSome result (IsAwaitedBatch healing.old now) }
-    ensures gone { SameGone healing.old healing.new }
-    ensures same { result ≡ None → healing.new ≡ healing.old }
+    ensures { IsAskingAgain healing.old healing.new now result }
 {
     if waits {
         return None;

@@ -1,14 +1,14 @@
 //! What is left to be done about the numbers that the station recalls.
 
-ghost use Rattle.std.specs.Prelude.{◌≡◌, ◌≤◌, IfOk, IfSome, OnErr, Some, None, []};
-ghost use Rattle.catch_up.specs.Own.{GoesOn, IsFirstOther, IsOther, NoneToAsk, asked_again, begun, left_by, recall_to};
+ghost use Rattle.std.specs.Prelude.{◌≡◌, ◌≤◌, IfSome, None, []};
+ghost use Rattle.catch_up.specs.Own.{GoesOn, IsFirstOther, IsGoingOn, IsOther, IsSending, NoneToAsk, asked_again, begun, left_by, recall_to};
 
 use crate::errand::Errand;
 use crate::values::{Values, copied, take_first, without};
 use ballots::{Member, Number};
 use gone_out::Origin;
 use healing::Batch;
-use recalls::Recall;
+use recalls::{Recall, Ticket};
 use std::alloc::{AllocError, Global};
 use std::marker::Model;
 
@@ -84,9 +84,9 @@ impl OwnRecalls {
     pub(crate) fn leave(&mut self, number: Number)
         ensures { self.new ≡ left_by number self.old }
     {
-        let numbers = without(self.numbers.as_slice(), number.get());
+        let numbers = without(&self.numbers, number.get());
         self.numbers = numbers;
-        let left = without(self.left.as_slice(), number.get());
+        let left = without(&self.left, number.get());
         self.left = left;
     }
 
@@ -101,14 +101,13 @@ impl OwnRecalls {
             member,
             ..
         } = self.origin;
-        Recall::new(circuit, member, to, self.asked, self.numbers.as_slice())
+        let ticket = Ticket::new(circuit, member, to, self.asked)?;
+        Recall::new(ticket, self.numbers.as_slice())
     }
 
     /// The next member is asked, if one is left and a number is.
     fn send(&mut self, alloc: Global) -> Result<Option<Errand>, AllocError>
-        ensures some { IfOk result (λ e. IfSome e (λ errand. GoesOn self.old self.new (Some errand))) }
-        ensures none { IfOk result (λ e. e ≡ None → NoneToAsk self.old × (self.new ≡ self.old)) }
-        ensures err { OnErr result (self.new ≡ self.old) }
+        ensures { IsSending self.old self.new result }
     {
         let Some(to) = other_from(self.origin, self.next) else {
             return Ok(None);
@@ -137,8 +136,7 @@ impl OwnRecalls {
 
     /// The next errand, if one is left. Where memory is refused, nothing has changed.
     pub(crate) fn next(&mut self, alloc: Global) -> Result<Option<Errand>, AllocError>
-        ensures ok { IfOk result (λ e. GoesOn self.old self.new e) }
-        ensures err { OnErr result (self.new ≡ self.old) }
+        ensures { IsGoingOn self.old self.new result }
     {
         match self.send(alloc)? {
             Some(errand) => Ok(Some(errand)),

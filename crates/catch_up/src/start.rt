@@ -3,7 +3,7 @@
 ghost use Rattle.std.specs.Prelude.{◌≡◌, ℕ, None, IfOk, OnOk};
 ghost use Rattle.protocol.specs.Limits.{last_number};
 ghost use Rattle.healing.specs.Healing.{case_at};
-ghost use Rattle.catch_up.specs.Starting.{AreFirst, AsksFrom, CallsFrom, StartsWith, first_case};
+ghost use Rattle.catch_up.specs.Starting.{AreRowsTold, AsksFrom, CallsFrom, IsRowTold, StartsWith};
 
 use crate::wave::AskedNumbers;
 use ballots::Number;
@@ -38,10 +38,7 @@ fn tell_row(
     now: u64,
 ) -> Result<(), AllocError>
     requires { case_at healing.old number ≡ None }
-    ensures same { OnOk result (case_at healing.new number ≡ first_case healing.old.own known.now healing.old.gone now number) }
-    ensures others { OnOk result ((n : ℕ) → ¬ (n ≡ number) → case_at healing.new n ≡ case_at healing.old n) }
-    ensures gone { OnOk result (healing.new.gone ≡ healing.old.gone) }
-    ensures own { OnOk result (healing.new.own ≡ healing.old.own) }
+    ensures { OnOk result (IsRowTold known.now number now healing.old healing.new) }
 {
     if !known.rows.contains(number) {
         return Ok(());
@@ -53,9 +50,7 @@ fn tell_row(
 /// What is known at the start of the numbers that have a row and did not go out.
 fn tell_rows(healing: &mut Healing, known: &Known, now: u64) -> Result<(), AllocError>
     requires { (n : ℕ) → case_at healing.old n ≡ None }
-    ensures rows { OnOk result (AreFirst healing.old.own known.now healing.old.gone now healing.new) }
-    ensures gone { OnOk result (healing.new.gone ≡ healing.old.gone) }
-    ensures own { OnOk result (healing.new.own ≡ healing.old.own) }
+    ensures { OnOk result (AreRowsTold known.now now healing.old healing.new) }
 {
     for before in 0..Number::LAST {
         let Some(number) = Number::new(before + 1) else {

@@ -1,12 +1,11 @@
 //! Why a recall or a roll that came is passed over.
 
 ghost use Rattle.std.specs.Prelude.{◌≡◌};
-ghost use Rattle.catch_up.specs.Unheard.{checked, fault_text, recall_way, roll_fault_text, roll_way, text_of};
+ghost use Rattle.catch_up.specs.Unheard.{checked, fault_text, roll_fault_text, text_of};
 
-use ballots::Member;
 use gone_out::Origin;
-use recalls::{Recall, RecallFault};
-use rolls::{Roll, RollFault};
+use recalls::{RecallFault, Ticket};
+use rolls::RollFault;
 
 /// Why a recall or a roll that came is passed over; in this order.
 #[derive(Clone, Copy, PartialEq, Eq)]
@@ -71,48 +70,19 @@ impl Unheard {
     }
 }
 
-/// Of which circuit something is that came, from which member, and to which.
-#[derive(Clone, Copy)]
-pub(crate) struct Route {
-    pub(crate) circuit: u16,
-    pub(crate) from: Member,
-    pub(crate) to: Member,
-}
-
-/// The way of a recall.
-pub(crate) fn way_of(recall: &Recall) -> Route
-    ensures { result ≡ recall_way recall.now }
+/// Whether what came is of this circuit, to this station, from a member, by its ticket.
+pub(crate) fn check(own: Origin, ticket: &Ticket) -> Result<(), Unheard>
+    ensures checked { result ≡ checked own ticket.now }
+    ensures apart { ¬ (ticket.now.from ≡ ticket.now.to) }
 {
-    Route {
-        circuit: recall.circuit(),
-        from: recall.from(),
-        to: recall.to(),
-    }
-}
-
-/// The way of a roll.
-pub(crate) fn roll_way_of(roll: &Roll) -> Route
-    ensures way { result ≡ roll_way roll.now }
-    ensures apart { ¬ (result.from ≡ result.to) }
-{
-    Route {
-        circuit: roll.circuit(),
-        from: roll.from(),
-        to: roll.to(),
-    }
-}
-
-/// Whether what came is of this circuit, to this station, from a member.
-pub(crate) fn check(own: Origin, way: Route) -> Result<(), Unheard>
-    ensures { result ≡ checked own way }
-{
-    if way.circuit != own.circuit {
+    let to = ticket.to().get();
+    if ticket.circuit() != own.circuit {
         return Err(Unheard::WrongCircuit);
     }
-    if way.to.get() != own.member.get() {
+    if to != own.member.get() {
         return Err(Unheard::NotForMe);
     }
-    if way.from.get() > own.count {
+    if ticket.from().get() > own.count {
         return Err(Unheard::Stranger);
     }
     Ok(())

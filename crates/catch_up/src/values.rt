@@ -43,12 +43,11 @@ fn add_other(numbers: &mut Values, each: u32, number: u32)
 }
 
 /// These numbers, except this one.
-pub(crate) fn without(numbers: &[u32], number: u32) -> Values
-    requires { length numbers.now ≤ 64 }
-    ensures { result.items ≡ without number numbers.now }
+pub(crate) fn without(numbers: &Values, number: u32) -> Values
+    ensures { result.items ≡ without number numbers.now.items }
 {
     let mut rest = ArrayVec::new();
-    for each in numbers {
+    for each in numbers.as_slice() {
         add_other(&mut rest, *each, number);
     }
     rest

@@ -5,7 +5,7 @@ ghost use Rattle.gone_out.specs.Files.{IsNumber};
 ghost use Rattle.gone_out.specs.Numbers.{has, IsEmpty};
 ghost use Rattle.healing.specs.Lists.{is_among};
 ghost use Rattle.catch_up.specs.Values.{AreNumbers};
-ghost use Rattle.catch_up.specs.Waves.{AreAskedIn, IsHandedOut, IsNothingAsked, IsWaveOver, all_kept, kept, missed_in, new_ones, out_in, out_of, wave_of, has_asked, has_asked_in};
+ghost use Rattle.catch_up.specs.Waves.{AreAsked, AreAskedIn, IsHandedOut, IsNothingAsked, IsWaveOver, all_kept, kept, missed_in, new_ones, out_in, out_of, wave_of, has_asked, has_asked_in};
 
 use crate::values::{Values, copied};
 use arrayvec::ArrayVec;
@@ -118,9 +118,7 @@ impl AskedNumbers {
     pub(crate) fn ask(&mut self, batch: &[u32])
         requires few { length batch.now ≤ 64 }
         requires numbers { AreNumbers batch.now }
-        ensures numbers { (n : ℕ) → has self.new.numbers n ≡ (has self.old.numbers n || is_among batch.now n) }
-        ensures missed { self.new.missed.items ≡ all_kept (new_ones self.old.numbers batch.now) self.old.missed.items }
-        ensures released { self.new.released ≡ self.old.released }
+        ensures { AreAsked self.old self.new batch.now }
     {
         let new = new_of(batch, &self.numbers);
         keep_all(&mut self.missed, new.as_slice());
@@ -140,8 +138,7 @@ impl AskedNumbers {
     pub(crate) fn take_missed(&mut self) -> Values
         ensures missed { result.items ≡ self.old.missed.items }
         ensures left { self.new.missed.items ≡ [] }
-        ensures numbers { self.new.numbers ≡ self.old.numbers }
-        ensures released { self.new.released ≡ self.old.released }
+        ensures rest { self.new ≡ record self.old { missed = self.new.missed } }
     {
         let missed = copied(self.missed.as_slice());
         self.missed = ArrayVec::new();

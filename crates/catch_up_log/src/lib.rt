@@ -8,7 +8,6 @@ mod line;
 mod missed;
 mod missing;
 mod ranges;
-mod seconds;
 mod setting;
 mod unheards;
 mod unnoted;

@@ -9,10 +9,10 @@ ghost use Rattle.catch_up_log.specs.Missed.{AddsTo, IsWith, TellsMissed, TellsNu
 
 use crate::line::CatchUpLine;
 use crate::ranges::text_of;
-use crate::seconds::is_time;
-use crate::writing::{tell_line, tell_no_memory};
+use crate::writing::tell_line;
 use ballots::Number;
 use gone_out::Numbers;
+use plant_log::{is_time, tell_no_memory};
 use std::alloc::Global;
 use std::io::Write;
 

@@ -4,8 +4,9 @@ ghost use Rattle.catch_up_log.specs.Missing.{TellsMissing};
 
 use crate::line::CatchUpLine;
 use crate::ranges::text_of;
-use crate::writing::{tell_line, tell_no_memory};
+use crate::writing::tell_line;
 use gone_out::Numbers;
+use plant_log::tell_no_memory;
 use std::alloc::Global;
 use std::io::Write;
 

@@ -6,8 +6,8 @@ ghost use Rattle.catch_up_log.specs.Passing.{counted, is_unheard_told, no_unhear
 ghost use Rattle.catch_up_log.specs.Words.{unheard_text};
 
 use crate::line::CatchUpLine;
-use crate::seconds::is_time;
 use crate::writing::tell_line;
+use plant_log::is_time;
 use std::alloc::Global;
 use std::io::Write;
 

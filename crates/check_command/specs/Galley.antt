@@ -10,6 +10,9 @@ use Rattle.slug_reader.specs.Meanings.{Meanings}
 use Rattle.line_check.specs.declared.slug.Slug.{Slug}
 use Rattle.line_check.specs.Sets.{Sets}
 use Rattle.line_check.specs.Galley.{galley_of}
+use Rattle.command_ends.specs.Ends.{IsOfInput}
+use Rattle.command_ends.specs.declared.end.End.{End}
+use Rattle.command_ends.specs.declared.end.End.TheVariants.{Done}
 use Rattle.check_command.specs.declared.galley.CheckOrder.{CheckOrder}
 
 -- the tape sets as slugs, and their galley was written
@@ -35,3 +38,9 @@ abbrev pub Checks : {R S T : Type 0} → (R → Option (List ℕ)) → (S → Op
     → Option (List ℕ) → Option (List ℕ) → Type 0
 Checks in_table in_widths in_tape order old new =
     order.listing ≡ false → WritesGalley (in_table order.table) (in_widths order.widths) (in_tape order.tape) old new
+
+-- `check` ends by a fault of an input, the output or memory; or well, and then it has written what it was asked for
+pub record CheckEnds {R S T : Type 0} (in_table : R → Option (List ℕ)) (in_widths : S → Option (List ℕ)) (in_tape : T → Option (List ℕ)) (order : CheckOrder R S T)
+    (old new : Option (List ℕ)) (end : End) : Type 0 where
+  pub done : end ≡ Done → Checks in_table in_widths in_tape order old new
+  pub ends : IsOfInput end

@@ -2,10 +2,8 @@
 
 ghost use Rattle.std.specs.Prelude.{◌≡◌, OnOk};
 ghost use Rattle.code_table.specs.Tables.{mean};
-ghost use Rattle.check_command.specs.Galley.{Checks, IsSetAs};
-ghost use Rattle.command_ends.specs.Ends.{IsOfInput};
+ghost use Rattle.check_command.specs.Galley.{Checks, CheckEnds, IsSetAs};
 ghost use Rattle.command_ends.specs.Giving.{Gives};
-ghost use Rattle.command_ends.specs.declared.end.End.TheVariants.{Done};
 
 use command_ends::{End, Fault, PutFault, TapePaths, read_table, read_tape, read_widths};
 use line_check::{SetError, Setting, galley, set};
@@ -92,8 +90,7 @@ pub fn check<R: Read + Drop, S: Read + Drop, T: Read + Drop, W: Write, E: Write>
     out: &mut W,
     err: &mut E,
 ) -> End
-    ensures done { result ≡ Done → Checks R.remaining S.remaining T.remaining order.entry (W.contents out.old) (W.contents out.new) }
-    ensures ends { IsOfInput result }
+    ensures { CheckEnds R.remaining S.remaining T.remaining order.entry (W.contents out.old) (W.contents out.new) result }
 {
     match checked(alloc, order, out) {
         Ok(()) => End::Done,

@@ -11,14 +11,13 @@ use Rattle.tape_drawing.specs.declared.page.DrawingForm.{DrawingForm}
 use Rattle.tape_drawing.specs.declared.page.DrawingForm.TheVariants as pages
 use Rattle.tape_drawing.specs.Meanings.{meaning_word, mark_word, mark_style}
 use Rattle.tape_drawing.specs.Texts.{page_lead, svg_lead}
-use Rattle.tape_drawing.specs.Shapes.{Paper, Words, Fitted, shape_text, pair_text, count_text, escaped, holes_text}
-use Rattle.code_chart.specs.declared.cells.ChartSpot.{ChartSpot}
+use Rattle.tape_drawing.specs.Shapes.{Paper, Words, Fitted, shape_text, pair_text, count_text, group_text, escaped, holes_text}
 use Rattle.code_chart.specs.declared.cells.Sheet.{Sheet}
 use Rattle.code_chart.specs.declared.said.MeaningSpan.{MeaningSpan}
 use Rattle.code_chart.specs.declared.said.MeaningSpan.TheVariants as spans
 use Rattle.code_chart.specs.declared.said.MeaningNote.{MeaningNote}
 use Rattle.code_chart.specs.Cells.{Said, Cell, said, cell, chart}
-use Rattle.code_chart.specs.Texts.{style, svg_middle, svg_style_lead, svg_ground, first_legend, second_legend, third_legend, fourth_legend, page_style_lead, page_style_end, page_legend, page_end}
+use Rattle.code_chart.specs.Texts.{style, svg_middle, svg_style_lead, svg_ground, cell_legend, sign_legend, function_legend, quad_legend, page_style_lead, page_style_end, page_legend, page_end}
 
 -- the upper left corner of a cell
 abbrev pub corner : ℕ → Point
@@ -74,9 +73,9 @@ abbrev pub said_text : Point → Option Said → List ℕ
 said_text at None = nothing_text at
 said_text at (Some said) = name_text at said.meaning ++ told_text at said.told
 
--- what is said by a sheet of a meaning of the frame at a spot, where there is one
-abbrev pub said_by : Sheet → ChartSpot → Option Meaning → List ℕ
-said_by sheet spot meaning = said_text spot.at (option_map (said sheet.widths.now (mean sheet.table.now) spot.frame) meaning)
+-- what is said by a sheet of a meaning of a frame, where there is one
+abbrev pub said_by : Sheet → ℕ → Point → Option Meaning → List ℕ
+said_by sheet frame at meaning = said_text at (option_map (said sheet.widths.now (mean sheet.table.now) frame) meaning)
 
 -- the card of a cell, red where there is no meaning
 abbrev pub card_lead : Option Meaning → List ℕ
@@ -95,15 +94,13 @@ unfoldable pub number_text : ℕ → Point → List ℕ
 number_text frame at =
     lead_text (codes "<text class='n' x='") (record { x = at.x + 15; y = at.y + 76 }) ++ (count_text (codes "'>") frame ++ codes "</text>\n")
 
--- what begins a cell: a group of a document, and a drawing of a page
-unfoldable pub group_text : ℕ → List ℕ
-group_text frame = count_text (codes "<g id='frame") frame ++ codes "'>\n"
-
+-- what begins the drawing of a cell in a page
 unfoldable pub view_text : ℕ → Point → List ℕ
 view_text frame at = (count_text (codes "<svg id='frame") frame ++ pair_text (codes "' viewBox='") at.x (codes " ") at.y) ++ codes " 100 84'>\n"
 
+-- what begins a cell: a group of a document, and a drawing of a page
 abbrev pub open_text : DrawingForm → ℕ → Point → List ℕ
-open_text pages.Svg frame at = group_text frame
+open_text pages.Svg frame at = group_text (codes "<g id='frame") frame
 open_text pages.Html frame at = view_text frame at
 
 abbrev pub close_text : DrawingForm → List ℕ
@@ -147,8 +144,8 @@ title_words table widths = table ++ (codes ", with the widths of " ++ widths)
 -- the head of a document
 unfoldable pub legend_text : List ℕ
 legend_text =
-    shape_text (Words styles.Head 20 52 first_legend) ++ (shape_text (Words styles.Head 20 70 second_legend)
-    ++ (shape_text (Words styles.Head 20 88 third_legend) ++ shape_text (Words styles.Head 20 104 fourth_legend)))
+    shape_text (Words styles.Head 20 52 cell_legend) ++ (shape_text (Words styles.Head 20 70 sign_legend)
+    ++ (shape_text (Words styles.Head 20 88 function_legend) ++ shape_text (Words styles.Head 20 104 quad_legend)))
 
 unfoldable pub svg_open : List ℕ → List ℕ
 svg_open title = svg_lead ++ (svg_middle ++ (escaped title ++ svg_style_lead))

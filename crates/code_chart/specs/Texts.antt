@@ -18,20 +18,20 @@ unfoldable pub svg_ground : List ℕ
 svg_ground = codes "</style>\n<rect class='z' width='100%' height='100%'/>\n"
 
 -- how a cell reads
-unfoldable pub first_legend : List ℕ
-first_legend = codes "In each cell the holes, level 0 on top, and the number | above the meaning unshifted, below it the meaning shifted, each with its width in units"
+unfoldable pub cell_legend : List ℕ
+cell_legend = codes "In each cell the holes, level 0 on top, and the number | above the meaning unshifted, below it the meaning shifted, each with its width in units"
 
 -- what is marked
-unfoldable pub second_legend : List ℕ
-second_legend = codes "red: no meaning, or a matrix without a width | = 5: combination 5 means the same, unshifted or shifted"
+unfoldable pub sign_legend : List ℕ
+sign_legend = codes "red: no meaning, or a matrix without a width | = 5: combination 5 means the same, unshifted or shifted"
 
 -- what the marks of functions stand for
-unfoldable pub third_legend : List ℕ
-third_legend = codes "SB spaceband | SH shift | UN unshift | EL elevate, which ends a line | RT return | UR upper rail | LR lower rail"
+unfoldable pub function_legend : List ℕ
+function_legend = codes "SB spaceband | SH shift | UN unshift | EL elevate, which ends a line | RT return | UR upper rail | LR lower rail"
 
 -- what the others stand for
-unfoldable pub fourth_legend : List ℕ
-fourth_legend = codes "QL QC QR quad left, center, right | TH EN EM thin, en, em space | IG ignored"
+unfoldable pub quad_legend : List ℕ
+quad_legend = codes "QL QC QR quad left, center, right | TH EN EM thin, en, em space | IG ignored"
 
 -- the end of the title of a page, and what begins its style
 unfoldable pub page_style_lead : List ℕ

@@ -4,14 +4,14 @@ ghost use Rattle.std.specs.Prelude.{◌≡◌, ◌++◌, ◌<◌, ◌≤◌, OnO
 ghost use Rattle.code_table.specs.Tables.{mean};
 ghost use Rattle.code_table.specs.declared.case.Case.TheVariants as cases;
 ghost use Rattle.code_chart.specs.Cells.{cell, chart};
-ghost use Rattle.code_chart.specs.Document.{corner, lead_text, units_text, between_text, lacking_text, span_text, shared_text, twin_text, name_text, nothing_text, told_text, said_by, card_lead, card_text, paper_text, number_text, group_text, view_text, open_text, close_text, title_text, ground_text, both_text, cell_at, cell_text, cells_text};
+ghost use Rattle.code_chart.specs.Document.{corner, lead_text, units_text, between_text, lacking_text, span_text, shared_text, twin_text, name_text, nothing_text, told_text, said_by, card_lead, card_text, paper_text, number_text, view_text, open_text, close_text, title_text, ground_text, cell_at, cell_text, cells_text};
 
 use crate::said::{MeaningNote, MeaningSpan, tell};
 use code_table::{Case, CodeTable, Meaning};
 use std::alloc::AllocError;
 use tape_drawing::{
-    DrawingForm, Point, Room, Style, add_count, add_escaped, add_fitted, add_holes, add_pair,
-    add_paper, add_words, mark_style, mark_word, meaning_word,
+    DrawingForm, Point, Room, Style, add_count, add_escaped, add_fitted, add_group, add_holes,
+    add_pair, add_paper, add_words, mark_style, mark_word, meaning_word,
 };
 use widths::Widths;
 
@@ -23,11 +23,19 @@ pub struct Sheet<'a> {
     pub widths: &'a Widths,
 }
 
+/// A combination and where what is said of it stands, on a sheet that is not too wide or high.
+#[derive(Clone, Copy)]
+struct ChartSpot {
+    frame: u8,
+    at: Point,
+    ghost known: { frame < 64 },
+    ghost on_sheet: { (at.x ≤ 1000) × (at.y ≤ 3000) },
+}
+
 /// The upper left corner of a cell.
 fn corner(frame: u8) -> Point
-    requires { frame < 64 }
     ensures value { result ≡ corner frame }
-    ensures small { (result.x ≤ 1000) × (result.y ≤ 1000) }
+    ensures small { (result.x ≤ 1000) × (result.y ≤ 2900) }
 {
     Point {
         x: 20 + 100 * u64::from(frame % 8),
@@ -73,10 +81,10 @@ fn add_lacking(text: &mut Vec<u8>, at: Point) -> Result<(), AllocError>
 }
 
 /// Adds how wide a meaning is, or that it lacks a width.
-fn add_span(text: &mut Vec<u8>, at: Point, span: MeaningSpan) -> Result<(), AllocError>
-    requires { (at.x ≤ 1100) × (at.y ≤ 1100) }
-    ensures { OnOk result (text.new.items ≡ text.old.items ++ span_text at span) }
+fn add_span(text: &mut Vec<u8>, spot: ChartSpot, span: MeaningSpan) -> Result<(), AllocError>
+    ensures { OnOk result (text.new.items ≡ text.old.items ++ span_text spot.at span) }
 {
+    let at = spot.at;
     let beside = Point {
         x: at.x + 66,
         y: at.y,
@@ -106,13 +114,12 @@ fn add_shared(text: &mut Vec<u8>, at: Point, other: u8) -> Result<(), AllocError
 }
 
 /// The same, where there is one.
-fn add_twin(text: &mut Vec<u8>, at: Point, twin: Option<u8>) -> Result<(), AllocError>
-    requires { (at.x ≤ 1100) × (at.y ≤ 1100) }
-    ensures { OnOk result (text.new.items ≡ text.old.items ++ twin_text at twin) }
+fn add_twin(text: &mut Vec<u8>, spot: ChartSpot, twin: Option<u8>) -> Result<(), AllocError>
+    ensures { OnOk result (text.new.items ≡ text.old.items ++ twin_text spot.at twin) }
 {
     let below = Point {
-        x: at.x + 30,
-        y: at.y + 12,
+        x: spot.at.x + 30,
+        y: spot.at.y + 12,
     };
     match twin {
         Some(other) => add_shared(text, below, other),
@@ -121,15 +128,14 @@ fn add_twin(text: &mut Vec<u8>, at: Point, twin: Option<u8>) -> Result<(), Alloc
 }
 
 /// Adds the name of a matrix, or the letters of a function.
-fn add_name(text: &mut Vec<u8>, at: Point, meaning: &Meaning) -> Result<(), AllocError>
-    requires { (at.x ≤ 1100) × (at.y ≤ 1100) }
-    ensures { OnOk result (text.new.items ≡ text.old.items ++ name_text at meaning.now) }
+fn add_name(text: &mut Vec<u8>, spot: ChartSpot, meaning: &Meaning) -> Result<(), AllocError>
+    ensures { OnOk result (text.new.items ≡ text.old.items ++ name_text spot.at meaning.now) }
 {
     let word = mark_word(Some(meaning));
     let style = mark_style(Some(meaning));
     let middle = Point {
-        x: at.x + 46,
-        y: at.y,
+        x: spot.at.x + 46,
+        y: spot.at.y,
     };
     if word.len() >= 4 {
         let room = Room {
@@ -144,36 +150,27 @@ fn add_name(text: &mut Vec<u8>, at: Point, meaning: &Meaning) -> Result<(), Allo
 
 /// Adds the mark of a combination without a meaning.
 #[tactic(auto, unfolding(crate::specs::Document::nothing_text))]
-fn add_nothing(text: &mut Vec<u8>, at: Point) -> Result<(), AllocError>
-    requires { (at.x ≤ 1100) × (at.y ≤ 1100) }
-    ensures { OnOk result (text.new.items ≡ text.old.items ++ nothing_text at) }
+fn add_nothing(text: &mut Vec<u8>, spot: ChartSpot) -> Result<(), AllocError>
+    ensures { OnOk result (text.new.items ≡ text.old.items ++ nothing_text spot.at) }
 {
     let middle = Point {
-        x: at.x + 46,
-        y: at.y,
+        x: spot.at.x + 46,
+        y: spot.at.y,
     };
     let below = Point {
-        x: at.x + 30,
-        y: at.y + 12,
+        x: spot.at.x + 30,
+        y: spot.at.y + 12,
     };
     add_words(text, Style::Unknown, middle, b"?")?;
     add_words(text, Style::Fault, below, b"no meaning")
 }
 
 /// Adds what is told of a meaning.
-fn add_told(text: &mut Vec<u8>, at: Point, told: MeaningNote) -> Result<(), AllocError>
-    requires { (at.x ≤ 1100) × (at.y ≤ 1100) }
-    ensures { OnOk result (text.new.items ≡ text.old.items ++ told_text at told) }
+fn add_told(text: &mut Vec<u8>, spot: ChartSpot, told: MeaningNote) -> Result<(), AllocError>
+    ensures { OnOk result (text.new.items ≡ text.old.items ++ told_text spot.at told) }
 {
-    add_span(text, at, told.span)?;
-    add_twin(text, at, told.twin)
-}
-
-/// A combination and where what is said of it stands.
-#[derive(Clone, Copy)]
-struct ChartSpot {
-    frame: u8,
-    at: Point,
+    add_span(text, spot, told.span)?;
+    add_twin(text, spot, told.twin)
 }
 
 /// Adds what is said of a meaning of a frame.
@@ -183,16 +180,15 @@ fn add_said(
     spot: ChartSpot,
     meaning: Option<&Meaning>,
 ) -> Result<(), AllocError>
-    requires { (spot.at.x ≤ 1100) × (spot.at.y ≤ 1100) }
-    ensures { OnOk result (text.new.items ≡ text.old.items ++ said_by sheet.now spot (option_copied meaning.entry)) }
+    ensures { OnOk result (text.new.items ≡ text.old.items ++ said_by sheet.now spot.frame spot.at (option_copied meaning.entry)) }
 {
     match meaning {
         Some(meaning) => {
             let told = tell(sheet.table, sheet.widths, spot.frame, meaning);
-            add_name(text, spot.at, meaning)?;
-            add_told(text, spot.at, told)
+            add_name(text, spot, meaning)?;
+            add_told(text, spot, told)
         }
-        None => add_nothing(text, spot.at),
+        None => add_nothing(text, spot),
     }
 }
 
@@ -217,46 +213,35 @@ fn add_card(text: &mut Vec<u8>, meaning: Option<&Meaning>, at: Point) -> Result<
 
 /// Adds the paper of a combination with its holes.
 #[tactic(auto, unfolding(crate::specs::Document::paper_text))]
-fn add_strip(text: &mut Vec<u8>, frame: u8, at: Point) -> Result<(), AllocError>
-    requires { (frame < 64) × (at.x ≤ 1000) × (at.y ≤ 1000) }
-    ensures { OnOk result (text.new.items ≡ text.old.items ++ paper_text frame at) }
+fn add_strip(text: &mut Vec<u8>, spot: ChartSpot) -> Result<(), AllocError>
+    ensures { OnOk result (text.new.items ≡ text.old.items ++ paper_text spot.frame spot.at) }
 {
     let paper = Point {
-        x: at.x + 6,
-        y: at.y + 6,
+        x: spot.at.x + 6,
+        y: spot.at.y + 6,
     };
     let column = Point {
-        x: at.x + 15,
-        y: at.y + 6,
+        x: spot.at.x + 15,
+        y: spot.at.y + 6,
     };
     add_paper(text, paper, 1)?;
     text.extend_from_slice(b"<path d='")?;
-    add_holes(text, frame, column)?;
+    add_holes(text, spot.frame, column)?;
     text.extend_from_slice(b"'/>\n")
 }
 
 /// Adds its number below them.
 #[tactic(auto, unfolding(crate::specs::Document::number_text))]
-fn add_frame_number(text: &mut Vec<u8>, frame: u8, at: Point) -> Result<(), AllocError>
-    requires { (at.x ≤ 1000) × (at.y ≤ 1000) }
-    ensures { OnOk result (text.new.items ≡ text.old.items ++ number_text frame at) }
+fn add_frame_number(text: &mut Vec<u8>, spot: ChartSpot) -> Result<(), AllocError>
+    ensures { OnOk result (text.new.items ≡ text.old.items ++ number_text spot.frame spot.at) }
 {
     let below = Point {
-        x: at.x + 15,
-        y: at.y + 76,
+        x: spot.at.x + 15,
+        y: spot.at.y + 76,
     };
     add_lead(text, "<text class='n' x='", below)?;
-    add_count(text, "'>", u64::from(frame))?;
+    add_count(text, "'>", u64::from(spot.frame))?;
     text.extend_from_slice(b"</text>\n")
-}
-
-/// Adds what begins the group of a cell.
-#[tactic(auto, unfolding(crate::specs::Document::group_text))]
-fn add_group(text: &mut Vec<u8>, number: u64) -> Result<(), AllocError>
-    ensures { OnOk result (text.new.items ≡ text.old.items ++ group_text number) }
-{
-    add_count(text, "<g id='frame", number)?;
-    text.extend_from_slice(b"'>\n")
 }
 
 /// Adds what begins the drawing of a cell.
@@ -274,7 +259,7 @@ fn add_open(text: &mut Vec<u8>, page: DrawingForm, frame: u8, at: Point) -> Resu
     ensures { OnOk result (text.new.items ≡ text.old.items ++ open_text page frame at) }
 {
     match page {
-        DrawingForm::Svg => add_group(text, u64::from(frame)),
+        DrawingForm::Svg => add_group(text, "<g id='frame", u64::from(frame)),
         DrawingForm::Html => add_view(text, u64::from(frame), at),
     }
 }
@@ -309,23 +294,23 @@ fn add_title(
 
 /// Adds the words of a cell, its card, its holes and its number.
 #[tactic(auto, using(crate::proofs::Chart::meaning_in_cell))]
-fn add_ground(text: &mut Vec<u8>, sheet: &Sheet<'_>, frame: u8, at: Point) -> Result<(), AllocError>
-    requires { (frame < 64) × (at.x ≤ 1000) × (at.y ≤ 1000) }
-    ensures { OnOk result (text.new.items ≡ text.old.items ++ ground_text (cell sheet.now.widths.now (mean sheet.now.table.now) frame) at) }
+fn add_ground(text: &mut Vec<u8>, sheet: &Sheet<'_>, spot: ChartSpot) -> Result<(), AllocError>
+    ensures { OnOk result (text.new.items ≡ text.old.items ++ ground_text (cell sheet.now.widths.now (mean sheet.now.table.now) spot.frame) spot.at) }
 {
-    let unshift = sheet.table.meaning(Case::Unshift, frame);
-    let shift = sheet.table.meaning(Case::Shift, frame);
-    add_title(text, frame, unshift, shift)?;
-    add_card(text, unshift, at)?;
-    add_strip(text, frame, at)?;
-    add_frame_number(text, frame, at)
+    let unshift = sheet.table.meaning(Case::Unshift, spot.frame);
+    let shift = sheet.table.meaning(Case::Shift, spot.frame);
+    add_title(text, spot.frame, unshift, shift)?;
+    add_card(text, unshift, spot.at)?;
+    add_strip(text, spot)?;
+    add_frame_number(text, spot)
 }
 
-/// Adds both meanings of a cell.
-fn add_both(text: &mut Vec<u8>, sheet: &Sheet<'_>, frame: u8, at: Point) -> Result<(), AllocError>
-    requires { (frame < 64) × (at.x ≤ 1000) × (at.y ≤ 1000) }
-    ensures { OnOk result (text.new.items ≡ text.old.items ++ both_text (cell sheet.now.widths.now (mean sheet.now.table.now) frame) at) }
+/// Adds a cell.
+fn add_cell(text: &mut Vec<u8>, sheet: &Sheet<'_>, frame: u8) -> Result<(), AllocError>
+    requires { frame < 64 }
+    ensures { OnOk result (text.new.items ≡ text.old.items ++ cell_text sheet.now.page (cell sheet.now.widths.now (mean sheet.now.table.now) frame)) }
 {
+    let at = corner(frame);
     let above = ChartSpot {
         frame,
         at: Point {
@@ -340,24 +325,12 @@ fn add_both(text: &mut Vec<u8>, sheet: &Sheet<'_>, frame: u8, at: Point) -> Resu
             y: at.y + 60,
         },
     };
-    add_said(
-        text,
-        sheet,
-        above,
-        sheet.table.meaning(Case::Unshift, frame),
-    )?;
-    add_said(text, sheet, below, sheet.table.meaning(Case::Shift, frame))
-}
-
-/// Adds a cell.
-fn add_cell(text: &mut Vec<u8>, sheet: &Sheet<'_>, frame: u8) -> Result<(), AllocError>
-    requires { frame < 64 }
-    ensures { OnOk result (text.new.items ≡ text.old.items ++ cell_text sheet.now.page (cell sheet.now.widths.now (mean sheet.now.table.now) frame)) }
-{
-    let at = corner(frame);
+    let unshift = sheet.table.meaning(Case::Unshift, frame);
+    let shift = sheet.table.meaning(Case::Shift, frame);
     add_open(text, sheet.page, frame, at)?;
-    add_ground(text, sheet, frame, at)?;
-    add_both(text, sheet, frame, at)?;
+    add_ground(text, sheet, ChartSpot { frame, at })?;
+    add_said(text, sheet, above, unshift)?;
+    add_said(text, sheet, below, shift)?;
     add_close(text, sheet.page)
 }
 

@@ -8,8 +8,8 @@ ghost use Rattle.code_chart.specs.Document.{title_words, legend_text, svg_open, 
 
 use crate::cells::{Sheet, add_cells};
 use crate::texts::{
-    first_legend, fourth_legend, page_end, page_legend, page_style_end, page_style_lead,
-    second_legend, style, svg_ground, svg_middle, svg_style_lead, third_legend,
+    cell_legend, function_legend, page_end, page_legend, page_style_end, page_style_lead,
+    quad_legend, sign_legend, style, svg_ground, svg_middle, svg_style_lead,
 };
 use code_table::CodeTable;
 use std::alloc::{AllocError, Global};
@@ -48,25 +48,25 @@ fn add_legend(text: &mut Vec<u8>) -> Result<(), AllocError>
         text,
         Style::Head,
         Point { x: 20, y: 52 },
-        first_legend().as_bytes(),
+        cell_legend().as_bytes(),
     )?;
     add_words(
         text,
         Style::Head,
         Point { x: 20, y: 70 },
-        second_legend().as_bytes(),
+        sign_legend().as_bytes(),
     )?;
     add_words(
         text,
         Style::Head,
         Point { x: 20, y: 88 },
-        third_legend().as_bytes(),
+        function_legend().as_bytes(),
     )?;
     add_words(
         text,
         Style::Head,
         Point { x: 20, y: 104 },
-        fourth_legend().as_bytes(),
+        quad_legend().as_bytes(),
     )
 }
 

@@ -1,7 +1,7 @@
 //! The texts of a chart that are always the same.
 
 ghost use Rattle.std.specs.Prelude.{◌≡◌};
-ghost use Rattle.code_chart.specs.Texts.{style, svg_middle, svg_style_lead, svg_ground, first_legend, second_legend, third_legend, fourth_legend, page_style_lead, page_style_end, page_legend, page_end};
+ghost use Rattle.code_chart.specs.Texts.{style, svg_middle, svg_style_lead, svg_ground, cell_legend, sign_legend, function_legend, quad_legend, page_style_lead, page_style_end, page_legend, page_end};
 
 /// How a chart looks.
 #[tactic(auto, unfolding(crate::specs::Texts::style))]
@@ -60,33 +60,33 @@ pub fn svg_ground() -> &'static str
 }
 
 /// How a cell reads.
-#[tactic(auto, unfolding(crate::specs::Texts::first_legend))]
-pub fn first_legend() -> &'static str
-    ensures { result.now ≡ first_legend }
+#[tactic(auto, unfolding(crate::specs::Texts::cell_legend))]
+pub fn cell_legend() -> &'static str
+    ensures { result.now ≡ cell_legend }
 {
     "In each cell the holes, level 0 on top, and the number | above the meaning unshifted, below it the meaning shifted, each with its width in units"
 }
 
 /// What is marked.
-#[tactic(auto, unfolding(crate::specs::Texts::second_legend))]
-pub fn second_legend() -> &'static str
-    ensures { result.now ≡ second_legend }
+#[tactic(auto, unfolding(crate::specs::Texts::sign_legend))]
+pub fn sign_legend() -> &'static str
+    ensures { result.now ≡ sign_legend }
 {
     "red: no meaning, or a matrix without a width | = 5: combination 5 means the same, unshifted or shifted"
 }
 
 /// What the marks of functions stand for.
-#[tactic(auto, unfolding(crate::specs::Texts::third_legend))]
-pub fn third_legend() -> &'static str
-    ensures { result.now ≡ third_legend }
+#[tactic(auto, unfolding(crate::specs::Texts::function_legend))]
+pub fn function_legend() -> &'static str
+    ensures { result.now ≡ function_legend }
 {
     "SB spaceband | SH shift | UN unshift | EL elevate, which ends a line | RT return | UR upper rail | LR lower rail"
 }
 
 /// What the others stand for.
-#[tactic(auto, unfolding(crate::specs::Texts::fourth_legend))]
-pub fn fourth_legend() -> &'static str
-    ensures { result.now ≡ fourth_legend }
+#[tactic(auto, unfolding(crate::specs::Texts::quad_legend))]
+pub fn quad_legend() -> &'static str
+    ensures { result.now ≡ quad_legend }
 {
     "QL QC QR quad left, center, right | TH EN EM thin, en, em space | IG ignored"
 }

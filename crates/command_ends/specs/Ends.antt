@@ -81,3 +81,8 @@ IsOfRows Memory = Unit {0}
 -- a command line that is none, or want of memory
 abbrev pub IsOfUsage : End → Type 0
 IsOfUsage end = (end ≡ Usage) ⊎ (end ≡ Memory)
+
+-- a command ends by a fault as this says, and not well
+pub record EndsBy (by given : End) : Type 0 where
+  pub end : given ≡ by
+  pub fails : ¬ (given ≡ ends.Done)

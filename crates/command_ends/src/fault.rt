@@ -1,8 +1,8 @@
 //! The faults that a person reads on standard error.
 
 ghost use Rattle.std.specs.Prelude.{◌≡◌};
-ghost use Rattle.command_ends.specs.Ends.{end_of, end_of_rows, end_of_step, IsOfInput, IsOfRows, IsOfWriting};
-ghost use Rattle.command_ends.specs.declared.end.End.TheVariants.{Done, Input};
+ghost use Rattle.command_ends.specs.Ends.{end_of, end_of_rows, end_of_step, IsOfInput, IsOfRows, IsOfWriting, EndsBy};
+ghost use Rattle.command_ends.specs.declared.end.End.TheVariants.{Input};
 
 use crate::cause_words::{CauseText, RefusalText};
 use crate::end::End;
@@ -183,8 +183,7 @@ impl<'a> Fault<'a> {
 
     /// How a command ends by this fault.
     pub fn end(&self) -> End
-        ensures end { result ≡ end_of self.now }
-        ensures fails { ¬ (result ≡ Done) }
+        ensures { EndsBy (end_of self.now) result }
     {
         match self {
             Fault::OutOfMemory => End::Memory,
@@ -197,8 +196,7 @@ impl<'a> Fault<'a> {
 
     /// Writes the text, and gives the end. That the writer fails is ignored.
     pub fn tell<E: Write>(&self, err: &mut E) -> End
-        ensures end { result ≡ end_of self.now }
-        ensures fails { ¬ (result ≡ Done) }
+        ensures { EndsBy (end_of self.now) result }
     {
         let _ = writeln!(err, "{self}");
         self.end()

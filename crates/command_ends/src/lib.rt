@@ -1,7 +1,8 @@
-//! How a command ends: its exit status, the faults that a person reads, and the files and releases that commands share.
+//! How a command ends: its exit status, the faults that a person reads, and the files, releases and columns that commands share.
 #![tactic(auto)]
 
 mod cause_words;
+mod columns;
 mod end;
 mod entry_texts;
 mod fault;
@@ -12,6 +13,7 @@ mod releases;
 mod sources;
 
 pub use cause_words::{CauseText, RefusalText};
+pub use columns::{put_blanks, put_digits, put_left, put_number};
 pub use end::End;
 pub use entry_texts::entry_text;
 pub use fault::{Fault, PutFault};

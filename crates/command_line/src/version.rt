@@ -1,35 +1,25 @@
 //! Which version of the program this is.
 
-ghost use Rattle.std.specs.Prelude.{◌≡◌, OnOk, OnErr, IfErr, codes};
+ghost use Rattle.std.specs.Prelude.{◌≡◌, OnOk, OnErr, IfErr};
 ghost use Rattle.std.specs.Io.KnownBytes.{Appends};
 ghost use Rattle.streams.specs.Fronts.{AppendsFront};
-ghost use Rattle.command_ends.specs.Ends.{IsOfInput};
-ghost use Rattle.command_ends.specs.declared.end.End.TheVariants.{Done};
 ghost use Rattle.command_ends.specs.declared.fault.Fault.TheVariants.{CannotWrite};
+ghost use Rattle.command_line.specs.Version.{version_text, PrintsVersion};
 
 use command_ends::{End, Fault};
 use std::io::Write;
 use streams::put_all;
 
-/// Writes the version.
+/// Writes the version, and hands it on.
 fn put_version<'a, W: Write>(out: &mut W) -> Result<(), Fault<'a>>
-    ensures ok { OnOk result (Appends (W.contents out.old) (W.contents out.new) (codes "circuitd 0.3.0\n")) }
-    ensures err { OnErr result (AppendsFront (W.contents out.old) (W.contents out.new) (codes "circuitd 0.3.0\n")) }
+    ensures ok { OnOk result (Appends (W.contents out.old) (W.contents out.new) version_text) }
+    ensures err { OnErr result (AppendsFront (W.contents out.old) (W.contents out.new) version_text) }
     ensures fault { IfErr result (λ fault. fault ≡ CannotWrite) }
 {
     match put_all(out, b"circuitd 0.3.0\n") {
-        Ok(()) => Ok(()),
-        Err(_) => Err(Fault::CannotWrite),
+        Ok(()) => {}
+        Err(_) => return Err(Fault::CannotWrite),
     }
-}
-
-/// The same, with all of it handed on.
-fn hand_on_version<'a, W: Write>(out: &mut W) -> Result<(), Fault<'a>>
-    ensures ok { OnOk result (Appends (W.contents out.old) (W.contents out.new) (codes "circuitd 0.3.0\n")) }
-    ensures err { OnErr result (AppendsFront (W.contents out.old) (W.contents out.new) (codes "circuitd 0.3.0\n")) }
-    ensures fault { IfErr result (λ fault. fault ≡ CannotWrite) }
-{
-    put_version(out)?;
     match out.flush() {
         Ok(()) => Ok(()),
         Err(_) => Err(Fault::CannotWrite),
@@ -39,11 +29,9 @@ fn hand_on_version<'a, W: Write>(out: &mut W) -> Result<(), Fault<'a>>
 /// Prints the program's name and its version. Where the output can't be written, `err` has that fault.
 #[tactic(auto, using(streams::proofs::Fronts::front_of_all))]
 pub fn print_version<W: Write, E: Write>(out: &mut W, err: &mut E) -> End
-    ensures done { result ≡ Done → Appends (W.contents out.old) (W.contents out.new) (codes "circuitd 0.3.0\n") }
-    ensures front { AppendsFront (W.contents out.old) (W.contents out.new) (codes "circuitd 0.3.0\n") }
-    ensures ends { IsOfInput result }
+    ensures { PrintsVersion (W.contents out.old) (W.contents out.new) result }
 {
-    match hand_on_version(out) {
+    match put_version(out) {
         Ok(()) => End::Done,
         Err(fault) => fault.tell(err),
     }

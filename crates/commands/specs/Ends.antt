@@ -1,12 +1,26 @@
--- How `answer` ends.
+-- How `answer` and `create` end, where they are asked for.
 use Rattle.std.specs.Prelude.{◌≡◌, ℕ, List, Option}
 use Rattle.tape_frames.specs.Entries.{version_of}
 use Rattle.tape_frames.specs.declared.version.Version.{Version}
 use Rattle.answer_command.specs.AnswerText.{WritesAnswer, WritesAnswerFront}
 use Rattle.command_ends.specs.declared.end.End.{End}
 use Rattle.command_ends.specs.declared.end.End.TheVariants.{Done}
+use Rattle.saved_rows.specs.declared.identity.Identity.{Identity}
+use Rattle.arguments.specs.declared.asked.Asked.{Asked}
+use Rattle.arguments.specs.declared.asked.Asked.TheVariants.{Answer, Create}
+use Rattle.station_commands.specs.Creations.{CreateEnds}
 
 -- `answer` writes its answers to what comes in: all of them where it ends well, and the first of them however it ends
 pub record Answers (input before after : Option (List ℕ)) (circuit me : ℕ) (wire : Version) (end : End) : Type 0 where
   pub done : end ≡ Done → WritesAnswer circuit me (version_of wire) input before after
   pub front : WritesAnswerFront circuit me (version_of wire) input before after
+
+-- where it is asked to answer as one acceptor of a circuit, in a version, that is what is done
+abbrev pub AnswersAsked : Asked → Option (List ℕ) → Option (List ℕ) → Option (List ℕ) → End → Type 0
+AnswersAsked asked input before after end =
+    (circuit me : ℕ) (wire : Version) → asked ≡ Answer circuit me wire → Answers input before after circuit me wire end
+
+-- where it is asked to create a row file in a layout, that is what is done
+abbrev pub CreatesAsked : {F : Type 0} → Asked → (F → List ℕ → Identity → Version → Type 0) → F → Option (List ℕ) → Option (List ℕ) → End → Type 0
+CreatesAsked asked leaves files before after end =
+    (config : _) (layout : Version) → asked ≡ Create config layout → CreateEnds leaves files layout before after end

@@ -1,12 +1,10 @@
 //! Each command, run over the files that its words name.
 
-ghost use Rattle.std.specs.Prelude.{◌≡◌, ℕ, codes};
+ghost use Rattle.std.specs.Prelude.{◌≡◌, codes};
 ghost use Rattle.std.specs.Io.KnownBytes.{Appends};
-ghost use Rattle.tape_frames.specs.declared.version.Version.{Version as VersionValue};
 ghost use Rattle.command_ends.specs.declared.end.End.TheVariants.{Done};
-ghost use Rattle.arguments.specs.declared.asked.Asked.TheVariants.{Answer, Create, Upgrade};
-ghost use Rattle.commands.specs.Ends.{Answers};
-ghost use Rattle.station_commands.specs.Creations.{CreateEnds};
+ghost use Rattle.arguments.specs.declared.asked.Asked.TheVariants.{Upgrade};
+ghost use Rattle.commands.specs.Ends.{AnswersAsked, CreatesAsked};
 
 use crate::console::Console;
 use crate::editing::{run_fit, run_punch, run_spell};
@@ -124,10 +122,8 @@ pub fn carry_out<F: RowFiles, R: Read + Drop, W: Write + Drop, E: Write + Drop>(
     console: &mut Console<'_, F, R, W, E>,
     asked: &Asked<'_>,
 ) -> End
-    ensures answered { (circuit me : ℕ) → (wire : VersionValue) → asked.now ≡ Answer circuit me wire
-        → Answers (R.remaining console.old.input) (W.contents console.old.out) (W.contents console.new.out) circuit me wire result }
-    ensures created { (config : _) → (layout : VersionValue) → asked.now ≡ Create config layout
-        → CreateEnds F.leaves console.old.row_files.now layout (W.contents console.old.out) (W.contents console.new.out) result }
+    ensures answered { AnswersAsked asked.now (R.remaining console.old.input) (W.contents console.old.out) (W.contents console.new.out) result }
+    ensures created { CreatesAsked asked.now F.leaves console.old.row_files.now (W.contents console.old.out) (W.contents console.new.out) result }
     ensures over { (path : _) → asked.now ≡ Upgrade path → result ≡ Done → Appends (W.contents console.old.out) (W.contents console.new.out) (codes "layout 2\n") }
 {
     let rt = console.rt;

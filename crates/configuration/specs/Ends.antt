@@ -1,6 +1,8 @@
 -- How a command ends by a configuration that is none.
+use Rattle.std.specs.Prelude.{◌≡◌}
+use Rattle.command_ends.specs.Ends.{IsOfInput}
 use Rattle.command_ends.specs.declared.end.End.{End}
-use Rattle.command_ends.specs.declared.end.End.TheVariants.{Input, Memory}
+use Rattle.command_ends.specs.declared.end.End.TheVariants.{Done, Input, Memory}
 use Rattle.configuration.specs.declared.fault.ConfigFault.{ConfigFault}
 use Rattle.configuration.specs.declared.fault.ConfigFault.TheVariants.{NotToml, Missing, WrongType, OutOfRange, BadStation, NoAddress, OutOfMemory}
 
@@ -13,3 +15,9 @@ end_of_config (OutOfRange key) = Input
 end_of_config (BadStation entry) = Input
 end_of_config (NoAddress entry) = Input
 end_of_config OutOfMemory = Memory
+
+-- a command that takes no configuration for this fault ends so: by an input or for want of memory, and never well
+pub record EndsByConfig (fault : ConfigFault) (given : End) : Type 0 where
+  pub end : given ≡ end_of_config fault
+  pub cause : IsOfInput given
+  pub fails : ¬ (given ≡ Done)

@@ -1,4 +1,5 @@
 pub mod Addresses
+pub mod Documents
 pub mod Ends
 pub mod Faults
 pub mod Hosts

@@ -1,18 +1,18 @@
 -- A configuration as a TOML document gives it, or its first fault.
-use Rattle.std.specs.Prelude.{◌≡◌, ℕ, Bool, List, length, string_bytes, Option, Some, None, option_map, Result, Ok, Err, nat_le}
+use Rattle.std.specs.Prelude.{◌≡◌, ◌⊎◌, ℕ, Bool, List, length, string_bytes, Option, Some, None, option_map, Result, Ok, Err, IfOk, IfErr, nat_le}
 use Rattle.protocol.specs.Limits.{most_members}
 use Rattle.toml.specs.Data.{Members}
 use Rattle.wire.specs.declared.address.Address.{Address}
 use Rattle.configuration.specs.Keys.{◌>>=◌, holds, number_at, Paths, FolderPaths, folder_paths, three_paths, paths_in, folders_in, catches_up_in, wire_in, entries_at}
 use Rattle.configuration.specs.Hosts.{Finds, AreFound}
-use Rattle.configuration.specs.Stations.{Found, read_stations}
+use Rattle.configuration.specs.Stations.{Found, IsCircuit, read_stations}
 use Rattle.configuration.specs.declared.config.Config.{Config}
 use Rattle.configuration.specs.declared.config.FilePaths.{FilePaths}
 use Rattle.configuration.specs.declared.config.Own.{Own}
 use Rattle.configuration.specs.declared.config.WorkFolders.{WorkFolders}
 use Rattle.configuration.specs.declared.fault.ConfigKey.TheVariants.{Circuit, Member}
 use Rattle.configuration.specs.declared.fault.ConfigFault.{ConfigFault}
-use Rattle.configuration.specs.declared.fault.ConfigFault.TheVariants.{NotToml, OutOfRange}
+use Rattle.configuration.specs.declared.fault.ConfigFault.TheVariants.{NotToml, OutOfRange, OutOfMemory}
 
 -- what a configuration says: the circuit, the own member, the paths of three files and, where it names them, of two folders, with what
 -- holds of what comes into them, whether the station catches up by itself, the path of the file of keys where its wire is sealed, and the
@@ -86,8 +86,16 @@ unfoldable pub read_config : Found → Option Members → Result ConfigFile Conf
 read_config found None = Err NotToml
 read_config found (Some file) = read_file found file
 
--- what a document that was read says, with what may have been found for its hosts
-pub record IsReadFrom (finds : Finds) (document : Option Members) (config : ConfigFile) : Type 0 where
+-- the configuration is what is to be read, and its stations are a circuit; or the fault is the one that is to be told, or memory was
+-- refused
+pub record IsReadAs (read : Result ConfigFile ConfigFault) (result : Result Config ConfigFault) : Type 0 where
+  pub ok : IfOk result (λ config. read ≡ Ok (file_of config))
+  pub circuit : IfOk result (λ config. IsCircuit config.member config.stations.items)
+  pub err : IfErr result (λ fault. (fault ≡ OutOfMemory) ⊎ (read ≡ Err fault))
+
+-- a configuration is what a document says that was read, with what may have been found for its hosts, and its stations are a circuit
+pub record IsReadFrom (finds : Finds) (document : Option Members) (config : Config) : Type 0 where
   pub found : Found
   pub looked_up : AreFound finds document found
-  pub read : read_config found document ≡ Ok config
+  pub read : read_config found document ≡ Ok (file_of config)
+  pub circuit : IsCircuit config.member config.stations.items

@@ -1,12 +1,11 @@
 //! The configuration of a station, read from TOML.
 
-ghost use Rattle.std.specs.Prelude.{◌≡◌, ◌⊎◌, Some, None, Ok, Err, IfOk, IfErr, option_map, nat_le, string_bytes};
+ghost use Rattle.std.specs.Prelude.{◌≡◌, IfOk, option_map, nat_le, string_bytes};
 ghost use Rattle.toml.specs.Parse.{parse_document};
 ghost use Rattle.toml.specs.View.{table_view};
+ghost use Rattle.configuration.specs.Documents.{IsDocumentOf};
 ghost use Rattle.configuration.specs.Keys.{lent_paths};
-ghost use Rattle.configuration.specs.Reading.{file_from, file_of, paths_of, read_file, read_config};
-ghost use Rattle.configuration.specs.Stations.{IsCircuit};
-ghost use Rattle.configuration.specs.declared.fault.ConfigFault.TheVariants.{NotToml, OutOfMemory};
+ghost use Rattle.configuration.specs.Reading.{file_from, file_of, paths_of, read_file, read_config, IsReadAs};
 
 use crate::fault::{ConfigFault, ConfigKey};
 use crate::keys::{
@@ -57,8 +56,7 @@ pub struct Config {
 
 /// The document of a text.
 pub(crate) fn document_of(alloc: Global, text: &str) -> Result<Table, ConfigFault>
-    ensures ok { IfOk result (λ document. parse_document text.now ≡ Some (table_view document)) }
-    ensures err { IfErr result (λ fault. (fault ≡ OutOfMemory) ⊎ ((fault ≡ NotToml) × (parse_document text.now ≡ None))) }
+    ensures { IsDocumentOf text.now result }
 {
     toml::table_from_str(alloc, text).map_err(|error| {
         if error.is_memory() {
@@ -191,9 +189,7 @@ fn has_station(count: usize, member: Member) -> bool
 /// The configuration of a document.
 #[tactic(auto, unfolding(crate::specs::Reading::read_file))]
 fn read_file(alloc: Global, found: &[Option<[u8; 4]>], file: &Table) -> Result<Config, ConfigFault>
-    ensures ok { IfOk result (λ c. read_file found.now (table_view file.now) ≡ Ok (file_of c)) }
-    ensures circuit { IfOk result (λ c. IsCircuit c.member c.stations.items) }
-    ensures err { IfErr result (λ fault. (fault ≡ OutOfMemory) ⊎ (read_file found.now (table_view file.now) ≡ Err fault)) }
+    ensures { IsReadAs (read_file found.now (table_view file.now)) result }
 {
     let circuit = circuit_at(file)?;
     let member = member_at(file)?;
@@ -227,9 +223,7 @@ impl Config {
     /// or the configuration not be made for want of memory.
     #[tactic(auto, unfolding(crate::specs::Reading::read_config))]
     pub fn read(alloc: Global, text: &str, found: &[Option<[u8; 4]>]) -> Result<Config, ConfigFault>
-        ensures ok { IfOk result (λ c. read_config found.now (parse_document text.now) ≡ Ok (file_of c)) }
-        ensures circuit { IfOk result (λ c. IsCircuit c.member c.stations.items) }
-        ensures err { IfErr result (λ fault. (fault ≡ OutOfMemory) ⊎ (read_config found.now (parse_document text.now) ≡ Err fault)) }
+        ensures { IsReadAs (read_config found.now (parse_document text.now)) result }
     {
         let file = document_of(alloc, text)?;
         read_file(alloc, found, &file)

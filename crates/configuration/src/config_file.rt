@@ -4,7 +4,7 @@ ghost use Rattle.std.specs.Prelude.{◌≡◌, IfOk, IfErr, IfSome};
 ghost use Rattle.toml.specs.Parse.{parse_document};
 ghost use Rattle.command_ends.specs.Ends.{IsOfInput};
 ghost use Rattle.command_ends.specs.declared.end.End.TheVariants.{Done};
-ghost use Rattle.configuration.specs.Reading.{file_of, IsReadFrom};
+ghost use Rattle.configuration.specs.Reading.{IsReadFrom};
 ghost use Rattle.configuration.specs.Stations.{IsCircuit};
 
 use crate::config::Config;
@@ -16,8 +16,7 @@ use std::io::{Read, Write};
 
 /// The configuration of a text. What isn't UTF-8 is not TOML.
 fn config_of<H: Hosts>(alloc: Global, hosts: &H, bytes: &[u8]) -> Result<Config, ConfigFault>
-    ensures ok { IfOk result (λ c. IsReadFrom (H.finds hosts.now) (parse_document bytes.now) (file_of c)) }
-    ensures circuit { IfOk result (λ c. IsCircuit c.member c.stations.items) }
+    ensures { IfOk result (IsReadFrom (H.finds hosts.now) (parse_document bytes.now)) }
 {
     let Some(text) = text_of(bytes) else {
         return Err(ConfigFault::NotToml);
@@ -44,7 +43,7 @@ pub fn read_config<R: Read + Drop, H: Hosts, E: Write>(
     file: ConfigInput<'_, R>,
     err: &mut E,
 ) -> Result<Config, End>
-    ensures ok { IfOk result (λ c. IfSome (R.remaining file.entry.input) (λ text. IsReadFrom (H.finds hosts.now) (parse_document text) (file_of c))) }
+    ensures ok { IfOk result (λ c. IfSome (R.remaining file.entry.input) (λ text. IsReadFrom (H.finds hosts.now) (parse_document text) c)) }
     ensures circuit { IfOk result (λ c. IsCircuit c.member c.stations.items) }
     ensures err { IfErr result (λ end. IsOfInput end × ¬ (end ≡ Done)) }
 {

@@ -20,11 +20,14 @@ const LAST_PORT: u16 = 65535;
 /// An entry of the stations.
 #[derive(Clone, Copy)]
 pub(crate) struct StationEntry<'a> {
+    /// Of how many members the circuit is.
+    pub(crate) members: u16,
     /// Its place among them, from 1.
     pub(crate) place: usize,
     /// What was found for the name of its host, if it has one.
     pub(crate) found: Option<[u8; 4]>,
     pub(crate) value: &'a Value,
+    ghost few: { members ≤ most_members },
 }
 
 /// The whole number at the key, from the least to the most.
@@ -70,24 +73,22 @@ fn ip_in(entry: &StationEntry<'_>, keys: &Table) -> Result<[u8; 4], ConfigFault>
     }
 }
 
-/// The member of an entry, one of so many.
-fn member_in(entry: &Table, members: u16) -> Option<Member>
-    requires { members ≤ most_members }
-    ensures { result ≡ number_in (codes "member") 1 members (table_view entry.now) }
+/// The member of an entry with these keys, one of the circuit's.
+fn member_in(entry: &StationEntry<'_>, keys: &Table) -> Option<Member>
+    ensures { result ≡ number_in (codes "member") 1 entry.now.members (table_view keys.now) }
 {
-    let number = number_in(entry, "member", 1, members)?;
+    let number = number_in(keys, "member", 1, entry.members)?;
     Member::new(number as u8)
 }
 
-/// The address of an entry: a table with the keys `member`, which is one of so many, `port`, and `ip` or `host`.
+/// The address of an entry: a table with the keys `member`, which is one of the circuit's, `port`, and `ip` or `host`.
 #[tactic(auto, unfolding(crate::specs::Stations::address_of))]
-pub(crate) fn address_of(members: u16, entry: &StationEntry<'_>) -> Result<Address, ConfigFault>
-    requires { members ≤ most_members }
-    ensures { result ≡ address_of members entry.now.place entry.now.found (view entry.now.value.now) }
+pub(crate) fn address_of(entry: &StationEntry<'_>) -> Result<Address, ConfigFault>
+    ensures { result ≡ address_of entry.now.members entry.now.place entry.now.found (view entry.now.value.now) }
 {
     let bad = ConfigFault::BadStation(entry.place);
     let keys = entry.value.as_table().ok_or(bad)?;
-    let member = member_in(keys, members).ok_or(bad)?;
+    let member = member_in(entry, keys).ok_or(bad)?;
     let port = number_in(keys, "port", 1, LAST_PORT).ok_or(bad)?;
     let ip = ip_in(entry, keys)?;
     Ok(Address { member, ip, port })

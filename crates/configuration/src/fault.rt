@@ -1,9 +1,7 @@
 //! Why a configuration is none.
 
 ghost use Rattle.std.specs.Prelude.{◌≡◌};
-ghost use Rattle.command_ends.specs.Ends.{IsOfInput};
-ghost use Rattle.command_ends.specs.declared.end.End.TheVariants.{Done};
-ghost use Rattle.configuration.specs.Ends.{end_of_config};
+ghost use Rattle.configuration.specs.Ends.{EndsByConfig};
 ghost use Rattle.configuration.specs.Keys.{name_of};
 ghost use Rattle.configuration.specs.declared.fault.ConfigFault.TheVariants.{OutOfMemory};
 
@@ -122,9 +120,7 @@ impl fmt::Display for ConfigFault {
 impl ConfigFault {
     /// Writes the text, and gives the end. That the writer fails is ignored.
     pub fn tell<E: Write>(self, err: &mut E) -> End
-        ensures end { result ≡ end_of_config self }
-        ensures cause { IsOfInput result }
-        ensures fails { ¬ (result ≡ Done) }
+        ensures { EndsByConfig self result }
     {
         let _ = writeln!(err, "{self}");
         match self {

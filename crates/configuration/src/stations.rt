@@ -29,15 +29,10 @@ fn is_taken(earlier: &[Address], address: &Address) -> bool
 
 /// The address of an entry, where none of the earlier is at odds with it.
 #[tactic(auto, unfolding(crate::specs::Stations::read_entry))]
-fn read_entry(
-    members: u16,
-    earlier: &[Address],
-    entry: &StationEntry<'_>,
-) -> Result<Address, ConfigFault>
-    requires { members ≤ most_members }
-    ensures { result ≡ read_entry members earlier.now entry.now.place entry.now.found (view entry.now.value.now) }
+fn read_entry(earlier: &[Address], entry: &StationEntry<'_>) -> Result<Address, ConfigFault>
+    ensures { result ≡ read_entry entry.now.members earlier.now entry.now.place entry.now.found (view entry.now.value.now) }
 {
-    let address = address_of(members, entry)?;
+    let address = address_of(entry)?;
     if is_taken(earlier, &address) {
         return Err(ConfigFault::BadStation(entry.place));
     }
@@ -68,11 +63,12 @@ fn read_entries(
     let mut addresses = Vec::with_capacity(alloc, entries.len())?;
     for (index, value) in entries.iter().enumerate() {
         let entry = StationEntry {
+            members,
             place: index + 1,
             found: found_at(found, index),
             value,
         };
-        let address = read_entry(members, &addresses, &entry)?;
+        let address = read_entry(&addresses, &entry)?;
         addresses.push(address)?;
     }
     Ok(addresses)

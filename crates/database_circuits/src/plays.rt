@@ -1,12 +1,10 @@
 //! A circuit over databases that is played from its beginning.
 
-ghost use Rattle.std.specs.Prelude.{◌≡◌, ◌≤◌, IfOk, IfErr, length, map};
+ghost use Rattle.std.specs.Prelude.{◌≤◌, IfOk, length};
 ghost use Rattle.protocol.specs.Limits.{most_members};
 ghost use Rattle.tape_frames.specs.Entries.{version_of};
-ghost use Rattle.world.specs.Founding.{AreAt, AreNewlyMade, given_of};
-ghost use Rattle.world.specs.Playing.{IsUnplayed, Plays};
+ghost use Rattle.world.specs.Playing.{HaveRows, WasPlayed};
 ghost use Rattle.world.specs.Reach.{Agreed};
-ghost use Rattle.world.specs.Taking.{StopsAt};
 
 use acceptor_store::SqliteRows;
 use code_table::CodeTable;
@@ -26,9 +24,7 @@ fn with_databases(
 ) -> Result<Vec<(CodeTable, Widths, SqliteRows<MemStore>)>, AllocError>
     requires many { length members.items ≤ count }
     requires few { count ≤ most_members }
-    ensures new { IfOk result (λ v. AreNewlyMade ⟦<SqliteRows<MemStore> as Rows>⟧ v.items) }
-    ensures at { IfOk result (λ v. AreAt ⟦<SqliteRows<MemStore> as Rows>⟧.version (λ _. version_of version) v.items) }
-    ensures given { IfOk result (λ v. map given_of v.items ≡ members.items) }
+    ensures { IfOk result (λ v. HaveRows ⟦<SqliteRows<MemStore> as Rows>⟧ (version_of version) members.items v.items) }
 {
     let alloc = *members.allocator();
     let mut parts = Vec::with_capacity(alloc, members.len())?;
@@ -63,9 +59,7 @@ pub fn play_in_databases(
     members: Vec<(CodeTable, Widths)>,
     steps: &[Step],
 ) -> Result<Played<SqliteRows<MemStore>>, PlayFault>
-    ensures unplayed { IfErr result (IsUnplayed (length members.items)) }
-    ensures plays { IfOk result (λ p. Plays ⟦<SqliteRows<MemStore> as Rows>⟧ circuit members.items (λ _. version_of version) steps.now p.world p.run) }
-    ensures stops { IfOk result (λ p. IfErr p.run (StopsAt steps.now p.world)) }
+    ensures played { WasPlayed ⟦<SqliteRows<MemStore> as Rows>⟧ circuit members.items (version_of version) steps.now result }
     ensures agreed { IfOk result (λ p. Agreed ⟦<SqliteRows<MemStore> as Rows>⟧ p.world) }
 {
     let alloc = *members.allocator();

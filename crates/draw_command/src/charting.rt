@@ -1,8 +1,7 @@
 //! The command `chart`: the chart of a code table and widths.
 
-ghost use Rattle.std.specs.Prelude.{IfOk, IfErr};
 ghost use Rattle.draw_command.specs.Charting.{IsCharted, Charts};
-ghost use Rattle.command_ends.specs.Ends.{end_of, IsOfInput};
+ghost use Rattle.command_ends.specs.Giving.{Gives};
 
 use crate::drawing::put_text;
 use code_chart::{ChartOrder, draw_chart};
@@ -47,8 +46,7 @@ fn charted<'a, R: Read + Drop, S: Read + Drop>(
     alloc: Global,
     order: ChartingOrder<'a, R, S>,
 ) -> Result<Vec<u8>, Fault<'a>>
-    ensures ok { IfOk result (λ text. IsCharted order.entry text.items) }
-    ensures ends { IfErr result (λ e. IsOfInput (end_of e)) }
+    ensures { Gives result (λ text. IsCharted order.entry text.items) }
 {
     let ChartingOrder {
         paths,

@@ -1,8 +1,10 @@
 -- What becomes of a sink while its station takes steps, as a type that is one says it, and what has to hold of that.
-use Rattle.std.specs.Prelude.{ℕ, List, [], ◌∷◌, ◌++◌, Result, Ok, Err}
+use Rattle.std.specs.Prelude.{ℕ, List, [], ◌∷◌, ◌++◌, Result, Ok, Err, OnOk, OnErr, IfErr}
 use Rattle.protocol.specs.Refusals.{Call, Offering, Seeking, Falling_due, Receiving, Recalling}
 use Rattle.station.specs.declared.answer.Answer.{Answer}
 use Rattle.refusals.specs.declared.refusal.StepRefusal.{StepRefusal}
+use Rattle.command_ends.specs.Ends.{IsOfWriting}
+use Rattle.command_ends.specs.declared.fault.Fault.{Fault}
 use Rattle.exchange.specs.Events.{Event, Aside, asked, aside, stored, took}
 
 -- a search, what is due and what comes need nothing of a sink; an offer may
@@ -20,6 +22,20 @@ ByAnswer fate may old new answer = (call : Call) → may old call → fate old n
 -- this became of it once that step was stored
 abbrev pub ByStored : {S : Type 0} → (S → S → List Event → Type 0) → (S → Call → Type 0) → S → S → Answer → Type 0
 ByStored fate may old new answer = (call : Call) → may old call → fate old new (took call (Ok answer) ∷ stored (Ok tt) ∷ [])
+
+-- up to this result a sink kept in mind what a step did: it lived through the step, or came as far with it, since it could not be written
+pub record IsNoted {S : Type 0} (lived front : S → S → List Event → Type 0) (may : S → Call → Type 0) (old new : S) (answer : Answer)
+    (result : Result (Unit {0}) Fault) : Type 0 where
+  pub ok : OnOk result (ByAnswer lived may old new answer)
+  pub err : OnErr result (ByAnswer front may old new answer)
+  pub fault : IfErr result IsOfWriting
+
+-- the same of a step that was stored, and what it released is taken
+pub record IsTaken {S : Type 0} (lived front : S → S → List Event → Type 0) (may : S → Call → Type 0) (old new : S) (answer : Answer)
+    (result : Result (Unit {0}) Fault) : Type 0 where
+  pub ok : OnOk result (ByStored lived may old new answer)
+  pub err : OnErr result (ByStored front may old new answer)
+  pub fault : IfErr result IsOfWriting
 
 -- what has to hold of what a sink lived through, and how far it came
 pub record Fates {S : Type 0} (lived front : S → S → List Event → Type 0) (may : S → Call → Type 0) : Type 0 where

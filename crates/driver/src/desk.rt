@@ -1,10 +1,9 @@
 //! What a station that stays up does beside what comes and what is due.
 
-ghost use Rattle.std.specs.Prelude.{List, [], ◌∷◌, ℕ, IfErr, IfSome, Ok, OnErr, OnOk};
+ghost use Rattle.std.specs.Prelude.{List, [], ◌∷◌, ℕ, IfSome, Ok};
 ghost use Rattle.exchange.specs.Events.{stored};
-ghost use Rattle.command_ends.specs.Ends.{IsOfWriting};
 ghost use Rattle.driver.specs.Calls.{call_of};
-ghost use Rattle.driver.specs.Fates.{ByAnswer};
+ghost use Rattle.driver.specs.Fates.{IsNoted};
 ghost use Rattle.driver.specs.Todos.{IsGoodTodo};
 
 use crate::calls::Call;
@@ -74,9 +73,7 @@ pub trait Desk: Sink {
         step: &TakenStep,
         log: &mut Log<'_, E>,
     ) -> Result<(), Fault<'static>>
-        ensures ok { OnOk result (ByAnswer Self.lived Self.may self.old self.new step.now.answer) }
-        ensures err { OnErr result (ByAnswer Self.front Self.may self.old self.new step.now.answer) }
-        ensures fault { IfErr result IsOfWriting }
+        ensures noted { IsNoted Self.lived Self.front Self.may self.old self.new step.now.answer result }
         ensures still { is_still self.old self.new };
 
     /// What these steps released goes outside, at a moment: what they saved is stored, and their datagrams are sent. They are those that were

@@ -1,7 +1,6 @@
 //! The turns of a station that stays up: one work after the other, in the order of `pace`, until the run is over.
 
 ghost use Rattle.std.specs.Prelude.{◌≡◌, [], OnOk, true};
-ghost use Rattle.wire.specs.Passing.{Passes};
 ghost use Rattle.exchange.specs.Events.{ended};
 ghost use Rattle.driver.specs.Replies.{IsAskedBy, awaited, reply_of};
 ghost use Rattle.driver.specs.Driving.{Anyhow, AtClock, Drove, DroveBehind, fate_of, known, post_of};
@@ -26,16 +25,6 @@ use station::{Answer, Station, StepRefusal};
 use std::alloc::Global;
 use std::io::Write;
 use wire::Wire;
-
-/// Takes in what waits at the wire, and tells of strangers and of what found no place; whether a datagram waits in memory.
-fn find<N: Wire, E: Write>(wire: &mut N, now: u64, log: &mut Log<'_, E>) -> bool
-    ensures { Passes (N.passed wire.old) (N.passed wire.new) [] }
-{
-    let is_waiting = wire.fetch();
-    tell_strangers(wire, now, log.err);
-    tell_lost(wire, now, log.err);
-    is_waiting
-}
 
 /// What a work finds: the moment in milliseconds, and whether a datagram waits in memory.
 #[derive(Clone, Copy)]
@@ -198,7 +187,8 @@ impl<'a, R: Settles, N: Wire, S: Desk> Driver<'a, R, N, S> {
         }
     }
 
-    /// The work that comes next, behind those that share its save; whether the run is over.
+    /// Takes in what waits at the wire, tells of strangers and of what found no place, and does the work that comes next, behind those that
+    /// share its save; whether the run is over.
     fn step<E: Write>(
         &mut self,
         group: &mut Group,
@@ -207,7 +197,9 @@ impl<'a, R: Settles, N: Wire, S: Desk> Driver<'a, R, N, S> {
         ensures { DroveBehind (AtClock IsNextWork) result R.Rows R.Settles.is_settled N.passed S.Sink self.old self.new group.old group.new }
     {
         let now = self.wire.now();
-        let waits = find(self.wire, now, log);
+        let waits = self.wire.fetch();
+        tell_strangers(self.wire, now, log.err);
+        tell_lost(self.wire, now, log.err);
         let tasks = self.sink.tasks();
         let work = self.pacing.next(waits, tasks, now);
         self.end_group(work, now, group, log)?;

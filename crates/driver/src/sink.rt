@@ -1,10 +1,9 @@
 //! What becomes of the releases of a station.
 
-ghost use Rattle.std.specs.Prelude.{◌≡◌, [], List, OnOk, OnErr, IfErr};
-ghost use Rattle.command_ends.specs.Ends.{IsOfWriting};
+ghost use Rattle.std.specs.Prelude.{◌≡◌, [], List};
 ghost use Rattle.protocol.specs.Refusals.{Call};
 ghost use Rattle.exchange.specs.Events.{Event};
-ghost use Rattle.driver.specs.Fates.{ByStored, Fates};
+ghost use Rattle.driver.specs.Fates.{Fates, IsTaken};
 ghost use Rattle.driver.specs.Pacing.{said_of};
 
 use crate::log::Log;
@@ -73,9 +72,7 @@ pub trait Outlet: Sink {
         step: &TakenStep,
         log: &mut Log<'_, E>,
     ) -> Result<(), Fault<'static>>
-        ensures ok { OnOk result (ByStored Self.lived Self.may self.old self.new step.now.answer) }
-        ensures err { OnErr result (ByStored Self.front Self.may self.old self.new step.now.answer) }
-        ensures fault { IfErr result IsOfWriting };
+        ensures { IsTaken Self.lived Self.front Self.may self.old self.new step.now.answer result };
 
     // The station may be called in whatever way, whatever became of it.
     ghost free: { (outlet : Self) (call : Call) → Self.Sink.may outlet call };

@@ -12,17 +12,10 @@ use Rattle.line_check.specs.declared.slug.Kind.TheVariants as kinds
 use Rattle.line_check.specs.declared.slug.Slug.{Slug}
 use Rattle.line_check.specs.Slugs.{band_width}
 use Rattle.line_fit.specs.declared.verdict.Verdict.{Verdict}
+use Rattle.command_ends.specs.Columns.{on_the_right, on_the_left}
 use Rattle.line_fit.specs.declared.verdict.Verdict.TheVariants.{Nothing, Faulty, Sets}
 use Rattle.line_fit.specs.declared.verdict.LineFit.{LineFit}
 use Rattle.line_fit.specs.declared.fitting.Fitting.{Fitting}
-
--- words on the right of so many columns
-abbrev pub on_the_right : ℕ → List ℕ → List ℕ
-on_the_right width words = replicate (width - length words) 32 ++ words
-
--- words on the left of so many columns
-abbrev pub on_the_left : ℕ → List ℕ → List ℕ
-on_the_left width words = words ++ replicate (width - length words) 32
 
 -- what is read of an item: a matrix by its name, a band or a fixed space as a blank
 abbrev pub item_read : Item → List ℕ

@@ -1,7 +1,6 @@
 //! Why a command for editors did not end well.
 
-ghost use Rattle.std.specs.Prelude.{◌≡◌};
-ghost use Rattle.command_ends.specs.declared.end.End.TheVariants.{Done};
+ghost use Rattle.command_ends.specs.Ends.{EndsBy};
 ghost use Rattle.editor_commands.specs.Ends.{end_in};
 
 use command_ends::{End, Fault};
@@ -49,8 +48,7 @@ impl<'a> fmt::Display for EditorFault<'a> {
 impl<'a> EditorFault<'a> {
     /// Writes the text, and gives how a command ends by this fault. That the writer fails is ignored.
     pub fn tell<E: Write>(&self, err: &mut E) -> End
-        ensures end { result ≡ end_in self.now }
-        ensures fails { ¬ (result ≡ Done) }
+        ensures { EndsBy (end_in self.now) result }
     {
         let _ = writeln!(err, "{self}");
         match self {

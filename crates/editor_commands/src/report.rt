@@ -31,9 +31,8 @@ fn count_faults(lines: &[LineFit]) -> usize
 }
 
 /// One, where there is a fault.
-fn one_if(fault: Option<SetFault>) -> u64
-    ensures value { result ≡ one_if fault }
-    ensures few { result ≤ 1 }
+fn one_if(fault: Option<SetFault>) -> u8
+    ensures { result ≡ one_if fault }
 {
     if fault.is_some() { 1 } else { 0 }
 }
@@ -42,7 +41,7 @@ fn one_if(fault: Option<SetFault>) -> u64
 pub fn faults_in(fitting: &Fitting) -> u64
     ensures { result ≡ faults_in fitting.now }
 {
-    count_faults(&fitting.lines) as u64 + one_if(fitting.rest)
+    count_faults(&fitting.lines) as u64 + u64::from(one_if(fitting.rest))
 }
 
 /// How many slugs a verdict has.
@@ -76,7 +75,7 @@ fn put_rows(alloc: Global, text: &mut Vec<u8>, lines: &[LineFit]) -> Result<(), 
 fn lines_in(fitting: &Fitting) -> u64
     ensures { result ≡ lines_in fitting.now }
 {
-    fitting.lines.len() as u64 + one_if(fitting.rest)
+    fitting.lines.len() as u64 + u64::from(one_if(fitting.rest))
 }
 
 /// Writes the head of a report.

@@ -1,48 +1,16 @@
 //! The row of a line in the report of `fit`.
 
 ghost use Rattle.std.specs.Prelude.{◌≡◌, ◌++◌, replicate, decimal, flat_map, OnOk, length, codes, [], ◌∷◌};
-ghost use Rattle.editor_commands.specs.Report.{on_the_right, on_the_left, item_read, slug_column, line_columns, row_text, rest_row};
+ghost use Rattle.command_ends.specs.Columns.{on_the_right, on_the_left};
+ghost use Rattle.editor_commands.specs.Report.{item_read, slug_column, line_columns, row_text, rest_row};
 
 use crate::verdict_words::{fault_words, verdict_words};
+use command_ends::{put_blanks, put_left, put_number};
 use itoa::Buffer;
 use line_check::SetFault;
 use line_fit::{LineFit, Verdict};
 use slug_reader::Item;
 use std::alloc::{AllocError, Global};
-
-/// Writes blanks.
-fn put_blanks(text: &mut Vec<u8>, many: usize) -> Result<(), AllocError>
-    ensures { OnOk result (text.new.items ≡ text.old.items ++ replicate many 32) }
-{
-    for _ in 0..many {
-        text.push(b' ')?;
-    }
-    Ok(())
-}
-
-/// Writes words on the right of so many columns.
-fn put_right(text: &mut Vec<u8>, width: usize, words: &[u8]) -> Result<(), AllocError>
-    ensures { OnOk result (text.new.items ≡ text.old.items ++ on_the_right width words.now) }
-{
-    put_blanks(text, width.saturating_sub(words.len()))?;
-    text.extend_from_slice(words)
-}
-
-/// Writes words on the left of so many columns.
-fn put_left(text: &mut Vec<u8>, width: usize, words: &[u8]) -> Result<(), AllocError>
-    ensures { OnOk result (text.new.items ≡ text.old.items ++ on_the_left width words.now) }
-{
-    text.extend_from_slice(words)?;
-    put_blanks(text, width.saturating_sub(words.len()))
-}
-
-/// Writes a number on the right of four columns.
-fn put_number(text: &mut Vec<u8>, number: usize) -> Result<(), AllocError>
-    ensures { OnOk result (text.new.items ≡ text.old.items ++ on_the_right 4 (decimal number)) }
-{
-    let mut digits = Buffer::new();
-    put_right(text, 4, digits.format(number).as_bytes())
-}
 
 /// Writes what is read of an item.
 fn put_item(text: &mut Vec<u8>, item: &Item) -> Result<(), AllocError>
@@ -69,7 +37,7 @@ fn put_slug_column(text: &mut Vec<u8>, number: usize, verdict: &Verdict) -> Resu
     ensures { OnOk result (text.new.items ≡ text.old.items ++ slug_column number verdict.now) }
 {
     match verdict {
-        Verdict::Sets(_) => put_number(text, number),
+        Verdict::Sets(_) => put_number(text, 4, number as u128),
         _ => put_blanks(text, 4),
     }
 }
@@ -78,11 +46,10 @@ fn put_slug_column(text: &mut Vec<u8>, number: usize, verdict: &Verdict) -> Resu
 fn put_widths(text: &mut Vec<u8>, least: u32, greatest: u32) -> Result<(), AllocError>
     ensures { OnOk result (text.new.items ≡ text.old.items ++ (on_the_right 4 (decimal least) ++ codes " .. " ++ on_the_left 3 (decimal greatest))) }
 {
-    let mut least_digits = Buffer::new();
-    let mut greatest_digits = Buffer::new();
-    put_right(text, 4, least_digits.format(least).as_bytes())?;
+    let mut digits = Buffer::new();
+    put_number(text, 4, u128::from(least))?;
     text.extend_from_slice(b" .. ")?;
-    put_left(text, 3, greatest_digits.format(greatest).as_bytes())
+    put_left(text, 3, digits.format(greatest).as_bytes())
 }
 
 /// Writes a verdict, and behind it the widths of the line and what is read of it, where it has an item.
@@ -116,7 +83,7 @@ pub fn put_row(
     ensures { OnOk result (text.new.items ≡ text.old.items ++ row_text numbers.line numbers.slug fit.now) }
 {
     let verdict = verdict_words(alloc, &fit.verdict)?;
-    put_number(text, numbers.line)?;
+    put_number(text, 4, numbers.line as u128)?;
     text.extend_from_slice(b"  ")?;
     put_slug_column(text, numbers.slug, &fit.verdict)?;
     text.extend_from_slice(b"  ")?;
@@ -132,8 +99,7 @@ pub fn put_rest(alloc: Global, text: &mut Vec<u8>, rest: Option<SetFault>) -> Re
         return Ok(());
     };
     let words = fault_words(alloc, fault)?;
-    let mut digits = Buffer::new();
-    put_right(text, 4, digits.format(fault.line).as_bytes())?;
+    put_number(text, 4, u128::from(fault.line))?;
     put_blanks(text, 8)?;
     text.extend_from_slice(words.as_bytes())?;
     text.extend_from_slice(b"\n")

@@ -1,6 +1,6 @@
 -- A station's file, and the numbers that wait for their records.
-use Rattle.std.proofs.Common.{◌≡◌, ◌≤◌, ◌+◌, ◌*◌, ◌-◌, ◌/◌, ◌⊎◌, inl, inr, ℕ, Bool, List, [], ◌∷◌, ◌++◌, Option, Some, None, Result, Ok, Err, length, take, refl, sym, ◌∙◌, subst, ap, arith, length-append, append_assoc, append-nil}
-use Rattle.std.specs.Prelude.{◌↔◌, IsTrue, IfOk, IfSome, MatchOption}
+use Rattle.std.proofs.Common.{◌≡◌, ◌≤◌, ◌+◌, ◌*◌, ◌-◌, ◌/◌, ◌⊎◌, inl, inr, ℕ, Bool, List, [], ◌∷◌, ◌++◌, Option, Some, None, length, take, refl, sym, ◌∙◌, subst, ap, arith, length-append, append_assoc, append-nil}
+use Rattle.std.specs.Prelude.{◌↔◌, IsTrue, IfSome, MatchOption}
 use Rattle.std.proofs.lemmas.Bool.{cases_eq}
 use Rattle.std.proofs.lemmas.List.{take-take, take-append-le, length-take-le, take_all}
 use Rattle.gone_out.specs.declared.origin.Origin.{Origin}
@@ -36,6 +36,24 @@ one_waits o bytes old new waiting k same others but = record {
     ]
   ];
 }
+
+-- and it went out
+pub one_known :
+    (old new : List Bool) (k : ℕ) → IsTrue (has new k) → ((n : ℕ) → ¬ (n ≡ k) → has new n ≡ has old n)
+    → (n : ℕ) → IsTrue (has new n) ↔ (IsTrue (has old n) ⊎ (n ≡ k))
+one_known old new k same others n = (
+  λ is. elim (cases_eq n k) [
+    | inl here ↦ inr here
+    | inr apart ↦ inl (sym (others n apart) ∙ is)
+  ],
+  λ either. elim (cases_eq n k) [
+    | inl here ↦ subst (λ (m : ℕ). IsTrue (has new m)) (sym here) same
+    | inr apart ↦ elim either [
+      | inl was ↦ others n apart ∙ was
+      | inr here ↦ absurd (apart here)
+    ]
+  ],
+)
 
 -- none waits
 pub none_waits : (o : Origin) (flags : List Bool) (bytes : List ℕ) → IsFileBut o flags [] bytes → IsFileOf o flags bytes
@@ -153,11 +171,6 @@ those_of o bytes flags others same numbers n number = (
   λ is. ((numbers n).0 (sym (same n number) ∙ is)).1,
   λ written. same n number ∙ (numbers n).1 (number, written),
 )
-
--- what holds of a result where it is one
-pub if_ok : {A E : Type 0} (r : Result A E) (P Q : A → Type 0) → ((a : A) → P a → Q a) → IfOk r P → IfOk r Q
-if_ok (Ok a) P Q f h = f a h
-if_ok (Err e) P Q f h = tt
 
 -- what holds of an option, by what it is
 pub match_none : {A : Type 0} (o : Option A) (N : Type 0) (S : A → Type 0) → o ≡ None → MatchOption o N S → N

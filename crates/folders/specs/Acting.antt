@@ -1,7 +1,8 @@
 -- What was done with folders in memory.
-use Rattle.std.specs.Prelude.{List, [], ◌∷◌, flat_map, string_bytes}
+use Rattle.std.specs.Prelude.{◌≡◌, ◌++◌, List, [], ◌∷◌, flat_map, string_bytes, Result, OnOk, OnErr}
 use Rattle.folders.specs.Doings.{Doing, saw_file, read_file, wrote_file, moved_file, removed_file}
 use Rattle.folders.specs.declared.acts.Act.{Act}
+use Rattle.folders.specs.declared.fault.FolderFault.{FolderFault}
 use Rattle.folders.specs.declared.acts.Act.TheVariants.{Saw, Read, Wrote, Noted, SetAside, TakenAway}
 
 -- what was done with the files of a plant; a text beside one is none of them
@@ -16,3 +17,8 @@ act_of (TakenAway name) = removed_file (string_bytes name) ∷ []
 -- each of these, in order
 abbrev pub acts_of : List Act → List Doing
 acts_of acts = flat_map act_of acts
+
+-- this was done since, or it failed and nothing was
+pub record IsDone (old new : List Act) (doings : List Doing) (result : Result (Unit {0}) FolderFault) : Type 0 where
+  pub ok : OnOk result (acts_of new ≡ acts_of old ++ doings)
+  pub err : OnErr result (new ≡ old)

@@ -5,10 +5,12 @@ pub mod FaultWords
 pub mod GoneOut
 pub mod Leaving
 pub mod LogNames
+pub mod Noting
 pub mod Offers
 pub mod OwnNames
 pub mod ReleaseNames
 pub mod Spans
 pub mod Stamps
+pub mod Starts
 pub mod Steps
 pub mod Written

@@ -100,8 +100,7 @@ pub trait Folders {
         ensures { doings self.new ≡ doings self.old };
 
     /// Whether a file `stop` that is newer than the start lies among the offers; it is looked for by its name.
-    fn has_stop(&mut self, alloc: Global) -> bool
-        ensures { doings self.new ≡ doings self.old };
+    fn has_stop(&self, alloc: Global) -> bool;
 
     /// What the file of this name and stamp among the offers holds; `None` where that is more than so many bytes, which are not read then.
     /// Where another file stands there, or it was changed before it was read to its end, `Changed`.

@@ -1,11 +1,11 @@
 //! What went out, as a station has it beside its file.
 
-ghost use Rattle.std.specs.Prelude.{◌≡◌, ◌↔◌, ◌⊎◌, [], ℕ, List, IsTrue, IfOk, OnOk, OnErr};
+ghost use Rattle.std.specs.Prelude.{◌≡◌, ◌↔◌, ◌⊎◌, [], ℕ, List, IsTrue, IfOk};
 ghost use Rattle.gone_out.specs.declared.origin.Origin.{Origin as OriginValue};
 ghost use Rattle.gone_out.specs.Files.{IsNumber};
-ghost use Rattle.gone_out.specs.Laws.{IsAmong};
 ghost use Rattle.gone_out.specs.Numbers.{has};
-ghost use Rattle.folders.specs.GoneOut.{IsFileOf, IsFileBut, HaveSame, MakesGood};
+ghost use Rattle.folders.specs.GoneOut.{IsFileOf, IsFileBut, MakesGood};
+ghost use Rattle.folders.specs.Noting.{AreNoted, IsNoted};
 
 use crate::change::{Change, Records};
 use crate::released::{is_station, members, new_file, records_of};
@@ -35,8 +35,7 @@ impl Ledger {
 
     /// A number went out. Where it is new, it waits for its record.
     fn note_one(&mut self, number: Number) -> Result<(), AllocError>
-        ensures known { OnOk result ((n : ℕ) → IsTrue (has self.new.numbers n) ↔ (IsTrue (has self.old.numbers n) ⊎ (n ≡ number))) }
-        ensures kept { (o : OriginValue) (bytes : List ℕ) → IsFileBut o self.old.numbers self.old.waiting.items bytes → IsFileBut o self.new.numbers self.new.waiting.items bytes }
+        ensures { IsNoted self.old self.new number result }
     {
         if !self.numbers.contains(number) {
             self.waiting.push(number)?;
@@ -48,8 +47,7 @@ impl Ledger {
     /// These numbers went out. Those that are new wait for their records, and each is remembered once. Where there is no memory for all of
     /// them, the first are noted.
     pub fn note(&mut self, numbers: &[Number]) -> Result<(), AllocError>
-        ensures known { OnOk result ((n : ℕ) → IsTrue (has self.new.numbers n) ↔ (IsTrue (has self.old.numbers n) ⊎ IsAmong numbers.now n)) }
-        ensures kept { (o : OriginValue) (bytes : List ℕ) → IsFileBut o self.old.numbers self.old.waiting.items bytes → IsFileBut o self.new.numbers self.new.waiting.items bytes }
+        ensures { AreNoted self.old self.new numbers.now result }
     {
         for number in numbers {
             self.note_one(*number)?;

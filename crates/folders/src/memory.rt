@@ -1,10 +1,10 @@
 //! Folders in memory, for tests.
 
 ghost use Rattle.std.specs.Prelude.{◌≡◌, ◌++◌, ◌∷◌, [], Bool, List, OnOk, OnErr, IfOk};
-ghost use Rattle.folders.specs.Acting.{acts_of, act_of};
+ghost use Rattle.folders.specs.Acting.{IsDone, acts_of, act_of};
 ghost use Rattle.folders.specs.Changes.{after};
 ghost use Rattle.folders.specs.Doings.{wrote_file};
-ghost use Rattle.folders.specs.GoneOut.{StartsWith, IsOwnFile, AreThoseOf, HaveSame};
+ghost use Rattle.folders.specs.Starts.{IsFound};
 
 use crate::acts::{Act, Noted};
 use crate::change::Change;
@@ -121,11 +121,7 @@ pub struct MemoryFolders {
 
 impl MemoryReleased {
     /// Keeps what went out from now on, over what the file holds of this station. One whose head is damaged is written anew.
-    fn go_on(&mut self, alloc: Global, own: &Origin, kept: Kept) -> Result<WentOut, FolderFault>
-        ensures starts { IfOk result (λ w. (known : List Bool) → StartsWith known w.numbers w.missing) }
-        ensures same { IfOk result (λ w. HaveSame w.numbers kept.numbers) }
-    {
-        let went = went_before(alloc, &kept.numbers)?;
+    fn go_on(&mut self, alloc: Global, own: &Origin, kept: Kept) {
         if !kept.has_head {
             self.bytes.clear();
         }
@@ -133,25 +129,15 @@ impl MemoryReleased {
             own: *own,
             ledger: Ledger::new(alloc, kept.numbers),
         });
-        Ok(went)
     }
 
-    /// Begins to keep what went out, where a file of these numbers was found. What lay there goes aside.
-    fn begin(
-        &mut self,
-        alloc: Global,
-        own: &Origin,
-        known: &Numbers,
-        found: &Numbers,
-    ) -> Result<WentOut, FolderFault>
-        ensures starts { IfOk result (λ w. StartsWith known.now w.numbers w.missing) }
-    {
-        let mut went = first_went_out(alloc, known, found)?;
+    /// Begins to keep what went out: so far what has a row. Whether something lay there, which goes aside.
+    fn begin(&mut self, alloc: Global, own: &Origin, known: &Numbers) -> Result<bool, AllocError> {
         let ledger = Ledger::new(alloc, copy_of(alloc, known)?);
-        went.set_aside = !self.bytes.is_empty();
+        let set_aside = !self.bytes.is_empty();
         self.bytes.clear();
         self.keeper = Some(MemoryKeeper { own: *own, ledger });
-        Ok(went)
+        Ok(set_aside)
     }
 
     /// Reads what went out, or begins to keep it where the file is not this station's, by the numbers of which a file was found.
@@ -162,12 +148,19 @@ impl MemoryReleased {
         known: &Numbers,
         found: &Numbers,
     ) -> Result<WentOut, FolderFault>
-        ensures starts { IfOk result (λ w. StartsWith known.now w.numbers w.missing) }
-        ensures kept { IsOwnFile self.old.bytes.items own.now → IfOk result (λ w. AreThoseOf w.numbers own.now self.old.bytes.items) }
+        ensures { IfOk result (IsFound own.now known.now self.old.bytes.items) }
     {
         match kept_of(alloc, &self.bytes, own)? {
-            Some(kept) => self.go_on(alloc, own, kept),
-            None => self.begin(alloc, own, known, found),
+            Some(kept) => {
+                let went = went_before(alloc, &kept.numbers)?;
+                self.go_on(alloc, own, kept);
+                Ok(went)
+            }
+            None => {
+                let mut went = first_went_out(alloc, known, found)?;
+                went.set_aside = self.begin(alloc, own, known)?;
+                Ok(went)
+            }
         }
     }
 
@@ -311,8 +304,7 @@ impl MemoryFolders {
 
     /// Lets a file leave the offers. Where there is no memory to tell it, it stays.
     fn leave(&mut self, name: &str, act: Act) -> Result<(), FolderFault>
-        ensures ok { OnOk result (acts_of self.new.acts.items ≡ acts_of self.old.acts.items ++ act_of act) }
-        ensures err { OnErr result (self.new.acts.items ≡ self.old.acts.items) }
+        ensures { IsDone self.old.acts.items self.new.acts.items (act_of act) result }
     {
         if self.find(name).is_none() {
             return Err(FolderFault::Missing);
@@ -324,8 +316,7 @@ impl MemoryFolders {
 
     /// Writes one file among the releases.
     fn put(&mut self, alloc: Global, named: &NamedFile) -> Result<(), FolderFault>
-        ensures ok { OnOk result (acts_of self.new.acts.items ≡ acts_of self.old.acts.items ++ wrote_file named.now ∷ []) }
-        ensures err { OnErr result (self.new.acts.items ≡ self.old.acts.items) }
+        ensures { IsDone self.old.acts.items self.new.acts.items (wrote_file named.now ∷ []) result }
     {
         if self.is_full {
             return Err(FolderFault::Full);
@@ -378,7 +369,7 @@ fn changed(bytes: &mut Vec<u8>, change: Change) -> Result<(), AllocError>
 impl Folders for MemoryFolders {
     ghost use Rattle.std.specs.Prelude.{◌≡◌, Some, IfOk, IfSome};
     ghost use Rattle.folders.specs.Acting.{acts_of};
-    ghost use Rattle.folders.specs.GoneOut.{StartsWith, IsOwnFile, AreThoseOf};
+    ghost use Rattle.folders.specs.Starts.{IsFound};
 
     ghost doings = { λ m. Some (acts_of m.acts.items) };
 
@@ -401,7 +392,7 @@ impl Folders for MemoryFolders {
         Ok(listing)
     }
 
-    fn has_stop(&mut self, _alloc: Global) -> bool {
+    fn has_stop(&self, _alloc: Global) -> bool {
         self.find(STOP).is_some()
     }
 
@@ -460,8 +451,7 @@ impl Folders for MemoryFolders {
         known: &Numbers,
     ) -> Result<Option<WentOut>, FolderFault>
         ensures same { self.new.acts ≡ self.old.acts }
-        ensures starts { IfOk result (λ kept. IfSome kept (λ w. StartsWith known.now w.numbers w.missing)) }
-        ensures kept { IsOwnFile self.old.released.bytes.items own.now → IfOk result (λ kept. IfSome kept (λ w. AreThoseOf w.numbers own.now self.old.released.bytes.items)) }
+        ensures found { IfOk result (λ kept. IfSome kept (IsFound own.now known.now self.old.released.bytes.items)) }
     {
         let found = self.files(alloc)?;
         let went = self.released.start_keeping(alloc, own, known, &found)?;

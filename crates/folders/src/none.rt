@@ -18,7 +18,7 @@ impl Folders for NoFolders {
         Ok(Listing::new(alloc))
     }
 
-    fn has_stop(&mut self, _alloc: Global) -> bool {
+    fn has_stop(&self, _alloc: Global) -> bool {
         false
     }
 

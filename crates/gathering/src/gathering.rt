@@ -3,7 +3,7 @@
 ghost use Rattle.std.specs.Prelude.{◌≡◌, ◌<◌, ◌≤◌, [], length, IfOk, OnOk, IfSome, MatchOption, option_map, vec_len};
 ghost use Rattle.std.specs.List.{All, HoldsAt};
 ghost use Rattle.gathering.specs.Parts.{IsFor, IsSealedAs};
-ghost use Rattle.seals.specs.Opening.{IsPart};
+ghost use Rattle.seals.specs.Opening.{IsLabel, IsPart};
 ghost use Rattle.gathering.specs.Places.{IsFirst, IsBounded, IsReady, PutsAt, GathersPiece, Keeps, Roomed, count_from};
 
 use crate::unfinished::Unfinished;
@@ -91,7 +91,7 @@ fn make_ready(
     slots: &mut Vec<Unfinished>,
     piece: &Piece<'_>,
 ) -> Result<usize, AllocError>
-    requires { IsPart piece.now.label piece.now.index piece.now.part.now }
+    requires { IsLabel piece.now.label }
     ensures ready { IfOk result (IsReady piece.now.place piece.now.label slots.old.items slots.new.items) }
     ensures inside { IfOk result (λ n. n < vec_len slots.new) }
     ensures bounded { IsBounded slots.old.items → IsBounded slots.new.items }
@@ -117,27 +117,6 @@ fn put_at(slots: &mut Vec<Unfinished>, at: usize, piece: &Piece<'_>) -> bool
     let slot = &mut slots[at];
     slot.put(piece.index, piece.part);
     slot.is_whole()
-}
-
-/// The same as `take`, over the packets in a list.
-fn gather(
-    alloc: Global,
-    slots: &mut Vec<Unfinished>,
-    keys: &Keys,
-    piece: &Piece<'_>,
-) -> Result<Option<Vec<u8>>, AllocError>
-    requires { IsPart piece.now.label piece.now.index piece.now.part.now }
-    ensures sealed { IfOk result (λ o. IfSome o (λ packet. IsSealedAs keys.now piece.now.place piece.now.label packet.items)) }
-    ensures gathers { IfOk result (λ o. GathersPiece keys.now piece.now slots.old.items slots.new.items (option_map (λ v. v.items) o)) }
-    ensures keeps { OnOk result (Keeps piece.now.place piece.now.label slots.old.items slots.new.items) }
-    ensures bounded { IsBounded slots.old.items → IsBounded slots.new.items }
-{
-    let at = make_ready(alloc, slots, piece)?;
-    if !put_at(slots, at, piece) {
-        return Ok(None);
-    }
-    let whole = slots.remove(at);
-    Ok(whole.finish(keys))
 }
 
 impl Gathering {
@@ -168,6 +147,11 @@ impl Gathering {
         // Of no member more than four are kept.
         ensures bounded { IsBounded self.new }
     {
-        gather(alloc, &mut self.slots, keys, piece)
+        let at = make_ready(alloc, &mut self.slots, piece)?;
+        if !put_at(&mut self.slots, at, piece) {
+            return Ok(None);
+        }
+        let whole = self.slots.remove(at);
+        Ok(whole.finish(keys))
     }
 }

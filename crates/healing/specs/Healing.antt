@@ -106,6 +106,16 @@ NoneIsOut gone (Seek number) = has gone number ≡ false
 abbrev pub AreRecalled : List ℕ → ℕ → List (ℕ × LackedNumber) → List (ℕ × LackedNumber) → Type 0
 AreRecalled batch now old new = (n : ℕ) → case_in new n ≡ (if is_among batch n then option_map (with_stage (Recalled now)) (case_in old n) else case_in old n)
 
+-- one number more was recalled
+pub record IsRecalled (old new : HealingValue) (number now : ℕ) : Type 0 where
+  pub cases : CaseIsPut old.cases new.cases number (option_map (with_stage (Recalled now)) (case_at old number))
+  pub rest : new ≡ record old { cases = new.cases; waiting = new.waiting; recalled = new.recalled }
+  pub len : length new.recalled ≡ length old.recalled + 1
+
+-- what comes next changes nothing but the cases, the lists of numbers and the count of datagrams
+abbrev pub OnlyCasesChange : HealingValue → HealingValue → Type 0
+OnlyCasesChange old new = new ≡ record old { cases = new.cases; waiting = new.waiting; recalled = new.recalled; sought = new.sought; taken = new.taken }
+
 -- what becomes of a number where these are recalled: of each it is settled what came of its last recall, and these are recalled
 abbrev pub recalled_of : List ℕ → ℕ → ℕ → Option LackedNumber → Option LackedNumber
 recalled_of batch now n c = if is_among batch n then option_map (with_stage (Recalled now)) (option_map (settled now) c) else option_map (settled now) c
@@ -141,6 +151,15 @@ pub record AreAwaited (cases : List (ℕ × LackedNumber)) (now : ℕ) (batch : 
   pub rise : Rise 0 batch
   pub some : 1 ≤ length batch
   pub few : length batch ≤ 64
+
+-- of these numbers each circuit number that is asked for once more is in the batch
+abbrev pub AreAllIn : List (ℕ × LackedNumber) → ℕ → List ℕ → List ℕ → Type 0
+AreAllIn cases now numbers batch =
+    (n : ℕ) → 1 ≤ n → n ≤ last_number → awaited_in (case_in cases n) now ≡ true → is_among numbers n ≡ true → is_among batch n ≡ true
+
+-- each of these is asked for once more
+abbrev pub AreOnly : List (ℕ × LackedNumber) → ℕ → List ℕ → Type 0
+AreOnly cases now batch = (n : ℕ) → is_among batch n ≡ true → awaited_in (case_in cases n) now ≡ true
 
 -- no number waits, is recalled or is sought
 abbrev pub is_resting : Option LackedNumber → Bool

@@ -56,16 +56,15 @@ fn may_be_recalled(cases: &BTreeMap<u32, LackedNumber>, number: u32, now: u64) -
 /// Of these numbers those that are above the one before and due, as a batch; `None` where none is.
 pub(crate) fn batch_of(
     cases: &BTreeMap<u32, LackedNumber>,
-    numbers: &[u32],
+    numbers: &Few,
     now: u64,
 ) -> Option<Batch>
-    requires { length numbers.now ≤ 64 }
     ensures due { IfSome result (λ batch. AreDueIn cases.now.entries now batch) }
-    ensures few { IfSome result (λ batch. length batch ≤ length numbers.now) }
+    ensures few { IfSome result (λ batch. length batch ≤ length numbers.now.items) }
 {
     let mut rising = ArrayVec::new();
     let mut above = 0;
-    for number in numbers {
+    for number in numbers.as_slice() {
         if *number > above && may_be_recalled(cases, *number, now) {
             rising.push(*number);
             above = *number;

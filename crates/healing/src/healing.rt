@@ -3,10 +3,10 @@
 ghost use Rattle.std.specs.Prelude.{is_some, ◌≡◌, ◌<◌, ◌≤◌, ◌+◌, ◌⊎◌, ℕ, true, false, [], Some, None, Ok, IfOk, OnOk, OnErr, IfSome, ◌==◌, min, if◌then◌else◌, length};
 ghost use Rattle.gone_out.specs.Numbers.{has};
 ghost use Rattle.std.specs.Option.{option_map};
-ghost use Rattle.healing.specs.declared.case.LackStage.TheVariants.{Recalled, Sought};
-ghost use Rattle.healing.specs.Cases.{settled, with_stage};
+ghost use Rattle.healing.specs.declared.case.LackStage.TheVariants.{Sought};
+ghost use Rattle.healing.specs.Cases.{settled};
 ghost use Rattle.healing.specs.Lists.{Rise};
-ghost use Rattle.healing.specs.Healing.{AllRest, case_at, AreAwaited, AreDueIn, AreNotOut, AreRecalled, Becomes, CaseIsPut, is_held, IsOut, IsRipeIn, IsTold, IsWanted, may_ask, NoneIsAwaited, NoneIsOut, NoneIsRipe, SeeksAll, StageIsPut};
+ghost use Rattle.healing.specs.Healing.{AllRest, case_at, AreAwaited, AreDueIn, AreNotOut, AreRecalled, Becomes, CaseIsPut, is_held, IsOut, IsRecalled, IsRipeIn, IsTold, IsWanted, may_ask, NoneIsAwaited, NoneIsOut, NoneIsRipe, OnlyCasesChange, SeeksAll, StageIsPut};
 
 use crate::batch::{batch_of, take_due};
 use crate::case::{LackStage, LackedNumber, has_new_place, told};
@@ -196,9 +196,7 @@ impl Healing {
     /// A number of a batch is recalled at this moment.
     fn recall_one(&mut self, number: u32, now: u64)
         requires { length self.old.recalled < 64 }
-        ensures cases { CaseIsPut self.old.cases self.new.cases number (option_map (with_stage (Recalled now)) (case_at self.old number)) }
-        ensures rest { self.new ≡ record self.old { cases = self.new.cases; waiting = self.new.waiting; recalled = self.new.recalled } }
-        ensures len { length self.new.recalled ≡ length self.old.recalled + 1 }
+        ensures { IsRecalled self.old self.new number now }
     {
         self.recalled.push(number);
         put_stage(&mut self.cases, number, LackStage::Recalled { at: now });
@@ -216,7 +214,7 @@ impl Healing {
         let room = MOST_RECALLED - self.recalled.len();
         let mut few = take_due(&self.cases, &mut self.queue, room, now)?;
         few.as_mut_slice().sort_unstable();
-        let Some(batch) = batch_of(&self.cases, few.as_slice(), now) else {
+        let Some(batch) = batch_of(&self.cases, &few, now) else {
             return Ok(None);
         };
         for number in batch.numbers() {
@@ -238,7 +236,7 @@ impl Healing {
         ensures becomes { is_held self.old waits ≡ false → IfOk result (λ w. Becomes self.old self.new now w) }
         ensures seeks { is_held self.old waits ≡ false → IfOk result (λ w. SeeksAll self.old self.new now w) }
         ensures held { is_held self.old waits ≡ true → (result ≡ Ok None) × (self.new ≡ self.old) }
-        ensures rest { self.new ≡ record self.old { cases = self.new.cases; waiting = self.new.waiting; recalled = self.new.recalled; sought = self.new.sought; taken = self.new.taken } }
+        ensures rest { OnlyCasesChange self.old self.new }
     {
         if waits && self.taken < MOST_BEFORE_NEXT {
             return Ok(None);

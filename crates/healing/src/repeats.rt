@@ -6,7 +6,7 @@ ghost use Rattle.std.specs.Ordering.{nat_cmp};
 ghost use Rattle.protocol.specs.Limits.{last_number};
 ghost use Rattle.healing.specs.Cases.{awaited_in};
 ghost use Rattle.healing.specs.Lists.{Rise, is_among};
-ghost use Rattle.healing.specs.Healing.{case_in, may_ask};
+ghost use Rattle.healing.specs.Healing.{case_in, may_ask, AreAllIn, AreOnly};
 
 use crate::batch::Few;
 use crate::case::{LackedNumber, is_awaited};
@@ -42,8 +42,8 @@ fn may_be_repeated(cases: &BTreeMap<u32, LackedNumber>, number: u32, now: u64) -
 fn awaited(cases: &BTreeMap<u32, LackedNumber>, numbers: &[u32], now: u64) -> Few
     requires few { length numbers.now ≤ 64 }
     requires sorted { IsSorted nat_cmp numbers.now }
-    ensures all { (n : ℕ) → 1 ≤ n → n ≤ last_number → awaited_in (case_in cases.now.entries n) now ≡ true → is_among numbers.now n ≡ true → is_among result.items n ≡ true }
-    ensures only { (n : ℕ) → is_among result.items n ≡ true → awaited_in (case_in cases.now.entries n) now ≡ true }
+    ensures all { AreAllIn cases.now.entries now numbers.now result.items }
+    ensures only { AreOnly cases.now.entries now result.items }
     ensures rise { Rise 0 result.items }
     ensures few { length result.items ≤ 64 }
 {
@@ -78,8 +78,8 @@ pub(crate) fn repeated(
     recalled: &ArrayVec<u32, MOST_RECALLED>,
     now: u64,
 ) -> Option<Batch>
-    ensures all { IfSome result (λ batch. (n : ℕ) → 1 ≤ n → n ≤ last_number → awaited_in (case_in cases.now.entries n) now ≡ true → is_among recalled.now.items n ≡ true → is_among batch n ≡ true) }
-    ensures only { IfSome result (λ batch. (n : ℕ) → is_among batch n ≡ true → awaited_in (case_in cases.now.entries n) now ≡ true) }
+    ensures all { IfSome result (AreAllIn cases.now.entries now recalled.now.items) }
+    ensures only { IfSome result (AreOnly cases.now.entries now) }
     ensures none { result ≡ None → (n : ℕ) → 1 ≤ n → n ≤ last_number → is_among recalled.now.items n ≡ true → awaited_in (case_in cases.now.entries n) now ≡ false }
 {
     let mut numbers = still_recalled(cases, recalled);

@@ -4,7 +4,7 @@ use ballots::{Ballot, Member, Number};
 use catch_up::{CatchUp, Errand, PacketHead, Start, Unheard};
 use gone_out::{Known, Numbers, Origin};
 use node_core::Note;
-use recalls::{Recall, RecallFault};
+use recalls::{Recall, RecallFault, Ticket};
 use rolls::{Aside, RollFault};
 use std::alloc::Global;
 
@@ -170,10 +170,11 @@ fn is_recall(bytes: &[u8], step: (u8, u32, u32, u32)) -> bool {
     let (to, asked, first, last) = step;
     match &recalls::decode(bytes) {
         Ok(recall) => {
-            recall.circuit() == CIRCUIT
-                && recall.from().get() == OWN
-                && recall.to().get() == to
-                && recall.asked() == asked
+            let ticket = recall.ticket();
+            ticket.circuit() == CIRCUIT
+                && ticket.from().get() == OWN
+                && ticket.to().get() == to
+                && ticket.asked() == asked
                 && are(recall.numbers(), first, last)
         }
         Err(_) => false,
@@ -231,13 +232,8 @@ fn ask(alloc: Global, plant: &mut CatchUp, from: u8, numbers: (u32, u32)) -> Opt
     for number in first..last.saturating_add(1) {
         wanted.push(number).ok()?;
     }
-    let recall = Recall::new(
-        CIRCUIT,
-        Member::new(from)?,
-        Member::new(OWN)?,
-        0,
-        wanted.as_slice(),
-    )?;
+    let ticket = Ticket::new(CIRCUIT, Member::new(from)?, Member::new(OWN)?, 0)?;
+    let recall = Recall::new(ticket, wanted.as_slice())?;
     Some(plant.hear(&Aside::Recall(Ok(recall)), 0).is_ok())
 }
 
@@ -342,7 +338,8 @@ fn start(rt: HostRuntime) {
 /// What becomes of a recall to a plant of a circuit of three.
 fn heard(alloc: Global, circuit: u16, from: u8, to: u8) -> Option<Result<(), Unheard>> {
     let mut plant = plant_of(alloc, 3, true)?;
-    let recall = Recall::new(circuit, Member::new(from)?, Member::new(to)?, 0, &[1])?;
+    let ticket = Ticket::new(circuit, Member::new(from)?, Member::new(to)?, 0)?;
+    let recall = Recall::new(ticket, &[1])?;
     Some(plant.hear(&Aside::Recall(Ok(recall)), 0))
 }
 

@@ -4,6 +4,7 @@ use ballots::{Ballot, Member, Number};
 use catch_up::{CatchUp, Errand, Start};
 use gone_out::{Known, Numbers, Origin};
 use node_core::Note;
+use recalls::Ticket;
 use rolls::{Aside, Counts, Page, Roll, RollBody, Votes};
 use std::alloc::Global;
 
@@ -105,7 +106,9 @@ fn roll_to(errand: &Errand, member: u8) -> Option<Roll> {
 fn answer(plant: &mut CatchUp, asked: &Roll, numbers: &Numbers, now: u64) -> Option<bool> {
     let body = said(asked.body(), numbers)?;
     let is_page = matches!(&body, RollBody::Page(_));
-    let roll = Roll::new(CIRCUIT, asked.to(), asked.from(), asked.asked(), body)?;
+    let ask = asked.ticket();
+    let ticket = Ticket::new(CIRCUIT, ask.to(), ask.from(), ask.asked())?;
+    let roll = Roll::new(ticket, body);
     plant.hear(&Aside::Roll(Ok(roll)), now).ok()?;
     Some(is_page)
 }
@@ -166,19 +169,14 @@ fn comes(plant: &mut CatchUp, step: Step, now: u64) -> Option<bool> {
 
 /// A member asks how many numbers have a vote; whether that is what is sent next, to it.
 fn answers(plant: &mut CatchUp, member: u8, now: u64) -> Option<bool> {
-    let roll = Roll::new(
-        CIRCUIT,
-        Member::new(member)?,
-        Member::new(2)?,
-        9,
-        RollBody::CountsAsked,
-    )?;
+    let ticket = Ticket::new(CIRCUIT, Member::new(member)?, Member::new(2)?, 9)?;
+    let roll = Roll::new(ticket, RollBody::CountsAsked);
     plant.hear(&Aside::Roll(Ok(roll)), now).ok()?;
     let Some(errand) = &plant.next(now, false).ok()? else {
         return Some(false);
     };
     let roll = roll_to(errand, member)?;
-    Some(roll.asked() == 9 && matches!(roll.body(), RollBody::Counts(_)))
+    Some(roll.ticket().asked() == 9 && matches!(roll.body(), RollBody::Counts(_)))
 }
 
 /// Whether nothing is sent.

@@ -113,19 +113,6 @@ impl PlantFolders<'_, '_> {
         add_files(rt, &sent, FileSort::Sent, &mut found)?;
         Ok(found)
     }
-
-    /// The first start that keeps what went out. A file of another station is set aside.
-    fn first(&mut self, known: &Numbers, is_other: bool) -> Result<WentOut, FolderFault>
-        ensures { IfOk result (λ w. StartsWith known.now w.numbers w.missing) }
-    {
-        let files = self.files()?;
-        let mut went = first_went_out(self.maker.rt.alloc(), known, &files)?;
-        if is_other {
-            set_aside(self.maker.rt, self.releases.path())?;
-            went.set_aside = true;
-        }
-        Ok(went)
-    }
 }
 
 impl GoneKeeper {
@@ -270,7 +257,11 @@ impl GoneOut {
             self.keep(plant, keeper_of(alloc, own, held, kept))?;
             return Ok(went);
         }
-        let went = plant.first(known, is_other)?;
+        let mut went = first_went_out(alloc, known, &plant.files()?)?;
+        if is_other {
+            set_aside(plant.maker.rt, plant.releases.path())?;
+            went.set_aside = true;
+        }
         let keeper = GoneKeeper {
             own: *own,
             ledger: Ledger::new(alloc, copy_of(alloc, known)?),

@@ -32,13 +32,14 @@ impl<'a> HostFolders<'a> {
         let mut maker = Maker::new(rt);
         let mut offers = Offers::new(offers, maker.start());
         let mut releases = Releases::new(rt.alloc(), releases);
+        // A `stop` that is laid as soon as the lock is seen is newer than the start.
+        offers.note_start(&mut maker);
         if matches!(offers.check(&mut maker), Err(FolderFault::InUse)) {
             return Err(Misplaced::InUse("offers"));
         }
         if matches!(releases.check(rt), Err(FolderFault::InUse)) {
             return Err(Misplaced::InUse("releases"));
         }
-        offers.note_start(&mut maker);
         Ok(HostFolders {
             maker,
             offers,
@@ -82,7 +83,7 @@ impl<'a> Folders for HostFolders<'a> {
         Ok(listing)
     }
 
-    fn has_stop(&mut self, _alloc: Global) -> bool {
+    fn has_stop(&self, _alloc: Global) -> bool {
         self.offers.has_stop(self.maker.rt)
     }
 

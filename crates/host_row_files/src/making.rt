@@ -8,7 +8,7 @@ ghost use Rattle.host_row_files.specs.Taking.{HasMade};
 use crate::causes::refused_by;
 use crate::database::close_database;
 use crate::look::test_making;
-use acceptor_store::SqliteRows;
+use acceptor_store::{NewTables, SqliteRows};
 use row_files::{NewRows, RefusedRows, RowsCause};
 use sqlite::{FileFrom, Wary};
 use sqlite_disk::Disk;
@@ -66,7 +66,11 @@ fn make_closed(rt: &HostRuntime, new: NewRows<'_>) -> Result<(), RefusedRows>
     requires { IsIdentity new.identity }
     ensures { OnOk result (HasMade ⟦<FileFrom<Wary> as Disk>⟧ new.entry.identity (version_of new.entry.version)) }
 {
-    match SqliteRows::create_at(rt, new.path, Wary, new.identity, new.version) {
+    let tables = NewTables {
+        identity: new.identity,
+        version: new.version,
+    };
+    match SqliteRows::create_at(rt, new.path, Wary, tables) {
         Ok(rows) => close_database(rows),
         Err(fault) => Err(refused_by(fault)),
     }

@@ -1,7 +1,8 @@
 -- Which file of keys is taken, and how a command ends where it is not.
-use Rattle.std.specs.Prelude.{ℕ, ◌%◌, ◌==◌, Bool, not, List, Option, Some, None, Result, Ok, Err, if◌then◌else◌}
+use Rattle.std.specs.Prelude.{◌≡◌, ℕ, ◌%◌, ◌==◌, Bool, not, List, Option, Some, None, Result, Ok, Err, if◌then◌else◌}
+use Rattle.command_ends.specs.Ends.{IsOfInput}
 use Rattle.command_ends.specs.declared.end.End.{End}
-use Rattle.command_ends.specs.declared.end.End.TheVariants.{Input, Memory}
+use Rattle.command_ends.specs.declared.end.End.TheVariants.{Done, Input, Memory}
 use Rattle.circuit_keys.specs.declared.key_file.SharedKeys.{SharedKeys}
 use Rattle.circuit_keys.specs.KeyFile.{keys_in}
 use Rattle.key_files.specs.declared.fault.KeyFault.{KeyFault}
@@ -26,3 +27,9 @@ end_of_key CannotRead = Input
 end_of_key OthersCan = Input
 end_of_key BadFile = Input
 end_of_key OutOfMemory = Memory
+
+-- a command that takes no keys for this fault ends so: by an input or for want of memory, and never well
+pub record EndsByKey (fault : KeyFault) (result : End) : Type 0 where
+  pub end : result ≡ end_of_key fault
+  pub cause : IsOfInput result
+  pub fails : ¬ (result ≡ Done)

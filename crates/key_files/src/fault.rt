@@ -1,9 +1,6 @@
 //! Why a file of keys is not taken.
 
-ghost use Rattle.std.specs.Prelude.{◌≡◌};
-ghost use Rattle.command_ends.specs.Ends.{IsOfInput};
-ghost use Rattle.command_ends.specs.declared.end.End.TheVariants.{Done};
-ghost use Rattle.key_files.specs.Keys.{end_of_key};
+ghost use Rattle.key_files.specs.Keys.{EndsByKey};
 
 use command_ends::End;
 use std::fmt;
@@ -47,9 +44,7 @@ impl<'a> fmt::Display for RefusedKey<'a> {
 impl<'a> RefusedKey<'a> {
     /// Writes the text, and gives the end of a command that stops by it. That the writer fails is ignored.
     pub fn tell<E: Write>(&self, err: &mut E) -> End
-        ensures end { result ≡ end_of_key self.now.fault }
-        ensures cause { IsOfInput result }
-        ensures fails { ¬ (result ≡ Done) }
+        ensures { EndsByKey self.now.fault result }
     {
         let _ = writeln!(err, "{self}");
         match self.fault {

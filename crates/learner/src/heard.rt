@@ -102,22 +102,6 @@ fn count_at(slots: &[Slot], ballot: Ballot) -> u8
     count
 }
 
-/// The ballot of the least member's vote at whose ballot the votes of a majority stand.
-fn majority_at(slots: &[Slot]) -> Option<Ballot>
-    requires { length slots.now ≤ most_members }
-    ensures { result ≡ option_map (λ (v : VoteValue). v.ballot) (ripe_in slots.now) }
-{
-    for slot in slots {
-        if let Some(vote) = slot.vote() {
-            let ballot = vote.ballot();
-            if majority(count_at(slots, ballot), slots.len() as u8) {
-                return Some(ballot);
-            }
-        }
-    }
-    None
-}
-
 /// How many slots have a vote.
 fn count_votes(slots: &[Slot]) -> u8
     requires { length slots.now ≤ most_members }
@@ -132,16 +116,24 @@ fn count_votes(slots: &[Slot]) -> u8
     votes
 }
 
-/// The same as `majority_at`, where so few slots have votes that no ballot has a majority without a look at each ballot.
+/// The ballot of the least member's vote at whose ballot the votes of a majority stand. Where so few slots have votes that
+/// no ballot has a majority, no ballot is looked at.
 fn chosen_at(slots: &[Slot]) -> Option<Ballot>
     requires { length slots.now ≤ most_members }
     ensures { result ≡ option_map (λ (v : VoteValue). v.ballot) (ripe_in slots.now) }
 {
-    if majority(count_votes(slots), slots.len() as u8) {
-        majority_at(slots)
-    } else {
-        None
+    if !majority(count_votes(slots), slots.len() as u8) {
+        return None;
     }
+    for slot in slots {
+        if let Some(vote) = slot.vote() {
+            let ballot = vote.ballot();
+            if majority(count_at(slots, ballot), slots.len() as u8) {
+                return Some(ballot);
+            }
+        }
+    }
+    None
 }
 
 /// The place of the least member whose vote has this ballot.

@@ -28,11 +28,6 @@ pub record StraysValue : Type 0 where
 abbrev pub none_known : ℕ → StraysValue
 none_known still = record { files = []; looked = 0; still = still; next = 0 }
 
--- how long a file has to stay as it is, in milliseconds: files that come only by being renamed are whole at once
-abbrev pub still_for : Bool → ℕ
-still_for true = 0
-still_for false = 500
-
 -- the files are in order of their names, each once
 abbrev pub AreInOrder : List Stray → Type 0
 AreInOrder files = IsStrictlySortedBy string_cmp (map (λ (s : Stray). s.name) files)

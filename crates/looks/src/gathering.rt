@@ -91,7 +91,7 @@ impl LookFindings {
     /// Puts a file to those that ask for something.
     fn put_request(&mut self, found: FoundOffer) -> Result<(), AllocError>
         ensures ok { OnOk result (PutsRequest found self.old self.new) }
-        ensures broken { self.new.is_broken ≡ self.old.is_broken }
+        ensures rest { self.new ≡ record self.old { requests = self.new.requests } }
     {
         let place = place_of(found.request);
         match self.requests.insert(place, found) {
@@ -104,7 +104,7 @@ impl LookFindings {
     fn put_stray(&mut self, name: String, stamp: Stamp) -> Result<(), AllocError>
         requires { IsStray (string_bytes name) }
         ensures ok { OnOk result (PutsStray (string_bytes name) stamp self.old self.new) }
-        ensures broken { self.new.is_broken ≡ self.old.is_broken }
+        ensures rest { self.new ≡ record self.old { strays = self.new.strays } }
     {
         match self.strays.insert(name, stamp) {
             Ok(_) => Ok(()),

@@ -29,19 +29,6 @@ impl Model for Requests {
     ghost invariant = { λ r. ArePlaced r.found.entries };
 }
 
-/// The same, in order of their places.
-fn in_order(alloc: Global, found: BTreeMap<u32, FoundOffer>) -> Result<Vec<FoundOffer>, AllocError>
-    requires { ArePlaced found.entries }
-    ensures all { IfOk result (λ requests. requests.items ≡ values_of found.entries) }
-    ensures order { IfOk result (λ requests. rising requests.items ≡ requests.items) }
-{
-    let mut requests = Vec::with_capacity(alloc, found.len())?;
-    for (_, file) in found {
-        requests.push(file)?;
-    }
-    Ok(requests)
-}
-
 impl Requests {
     /// These, each at its own place.
     pub(crate) fn over(alloc: Global, found: BTreeMap<u32, FoundOffer>) -> Requests
@@ -63,6 +50,11 @@ impl Requests {
         ensures all { IfOk result (λ requests. requests.items ≡ values_of self) }
         ensures order { IfOk result (λ requests. rising requests.items ≡ requests.items) }
     {
-        in_order(self.alloc, self.found)
+        let Requests { alloc, found } = self;
+        let mut requests = Vec::with_capacity(alloc, found.len())?;
+        for (_, file) in found {
+            requests.push(file)?;
+        }
+        Ok(requests)
     }
 }

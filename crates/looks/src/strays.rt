@@ -1,22 +1,20 @@
 //! The files among the offers whose names ask for nothing: once they are whole, they are no offers.
 
-ghost use Rattle.std.specs.Prelude.{◌≡◌, [], IfOk, OnOk, OnErr, drop, option_copied, is_some};
+ghost use Rattle.std.specs.Prelude.{◌≡◌, drop, option_copied, is_some};
 ghost use Rattle.std.specs.List.{position_from};
-ghost use Rattle.looks.specs.Merging.{begun};
-ghost use Rattle.looks.specs.Strays.{first_ripe, next_ripe, none_known, ripe_at, still_for, with_next};
-ghost use Rattle.looks.specs.TakingIn.{GoesOn};
+ghost use Rattle.offers.specs.Book.{still_for};
+ghost use Rattle.looks.specs.Strays.{first_ripe, next_ripe, none_known, ripe_at, with_next};
+ghost use Rattle.looks.specs.TakingIn.{GoesOn, IsBegun};
 ghost use Rattle.looks.specs.Sightings.{is_ripe, moved, put_off};
 
 use crate::merging::{Merged, Merging};
 use crate::sighting::Stray;
 use folders::{FolderFault, Stamp};
+use offers::still_for;
 use std::alloc::{AllocError, Global};
 use std::collections::BTreeMap;
 use std::marker::Model;
 use std::mem;
-
-/// How long a file has to stay as it is, in milliseconds, where it may be written as it lies there.
-const STILL: u64 = 500;
 
 /// All such files, in order of their names, as they were found at the last look. Moments are in milliseconds.
 #[derive(Drop)]
@@ -48,13 +46,6 @@ impl Model for Strays {
     ghost view = { λ s. record { files = s.files.items; looked = s.looked; still = s.still; next = s.next } };
 
     ghost invariant = { λ s. AreInOrder s.files.items };
-}
-
-/// How long a file has to stay as it is, in milliseconds.
-fn still_for(renamed: bool) -> u64
-    ensures { result ≡ still_for renamed }
-{
-    if renamed { 0 } else { STILL }
 }
 
 /// The place of the first file that is moved, from one on, where a file has to stay so long as it is, and that was the last look.
@@ -93,9 +84,7 @@ impl Strays {
     /// Begins to take in which of them a look found, at a moment: until all of it is taken in, none of them is moved. Where there is no memory
     /// for it, all stays as it was.
     pub fn begin(&mut self, found: BTreeMap<String, Stamp>, now: u64) -> Result<Merging, AllocError>
-        ensures begins { IfOk result (λ m. m ≡ begun self.old.files now found.entries) }
-        ensures ok { OnOk result (self.new ≡ record self.old { files = [] }) }
-        ensures err { OnErr result (self.new ≡ self.old) }
+        ensures { IsBegun found.entries now self.old self.new result }
     {
         let known = mem::replace(&mut self.files, Vec::new(self.alloc));
         match Merging::begin(self.alloc, known, found, now) {

@@ -13,7 +13,7 @@ ghost use Rattle.mail.specs.Mails.{MayGo, IsFew, SaysTheSame, of_entry};
 use crate::letter::Letter;
 use crate::seat::Seat;
 use ballots::{Ballot, Member, Number, VoteRef};
-use messages::{BodyRef, PacketRef};
+use messages::{BodyRef, PacketRef, Route};
 use std::marker::Model;
 use tape_frames::EntryRef;
 
@@ -48,6 +48,16 @@ fn member(number: u8) -> Member
         Some(member) => member,
         None => unreachable!(),
     }
+}
+
+/// The packet at this place, where this is the only one.
+pub(crate) fn only<'a>(place: usize, packet: PacketRef<'a>) -> Option<PacketRef<'a>>
+    ensures { result ≡ slice_get (packet.entry ∷ []) place }
+{
+    if place > 0 {
+        return None;
+    }
+    Some(packet)
 }
 
 impl Mail {
@@ -94,18 +104,16 @@ impl Mail {
     }
 
     /// The packet to a member.
-    fn packet_to<'a>(&self, to: Member, body: BodyRef<'a>) -> PacketRef<'a>
+    pub(crate) fn packet_to<'a>(&self, to: Member, body: BodyRef<'a>) -> PacketRef<'a>
         requires { IsTrue (keeps_rules (packet_to self.now.seat self.now.number self.now.ballot (said body) to)) }
         ensures { result ≡ packet_to self.now.seat self.now.number self.now.ballot (said body.entry) to }
     {
-        match PacketRef::new(
-            self.seat.circuit(),
-            self.me(),
+        let route = Route {
+            circuit: self.seat.circuit(),
+            from: self.me(),
             to,
-            self.number,
-            self.ballot,
-            body,
-        ) {
+        };
+        match PacketRef::new(route, self.number, self.ballot, body) {
             Some(packet) => packet,
             None => unreachable!(),
         }
@@ -147,22 +155,6 @@ impl Mail {
         Some(self.packet_to(self.other(place), body))
     }
 
-    /// The packet at this place, where there is only one.
-    pub(crate) fn reply<'a>(
-        &self,
-        place: usize,
-        to: Member,
-        body: BodyRef<'a>,
-    ) -> Option<PacketRef<'a>>
-        requires { IsTrue (keeps_rules (packet_to self.now.seat self.now.number self.now.ballot (said body) to)) }
-        ensures { result ≡ slice_get (packet_to self.now.seat self.now.number self.now.ballot (said body.entry) to ∷ []) place }
-    {
-        if place > 0 {
-            return None;
-        }
-        Some(self.packet_to(to, body))
-    }
-
     /// The packet at this place of the news of the vote, if there is one, to this member: there is only one.
     pub(crate) fn news<'a>(
         &self,
@@ -176,12 +168,14 @@ impl Mail {
         match vote {
             None => None,
             Some(vote) => {
-                self.reply(
+                only(
                     place,
-                    to,
-                    BodyRef::Accepted {
-                        entry: vote.entry(),
-                    },
+                    self.packet_to(
+                        to,
+                        BodyRef::Accepted {
+                            entry: vote.entry(),
+                        },
+                    ),
                 )
             }
         }

@@ -4,7 +4,7 @@ ghost use Rattle.std.specs.Prelude.{◌≡◌, ◌≤◌, length, slice_get, opt
 ghost use Rattle.mail.specs.Mails.{vote_below, mail_sends, SaysTheSame};
 
 use crate::letter::Letter;
-use crate::mail::Mail;
+use crate::mail::{Mail, only};
 use ballots::{Ballot, Vote, VoteRef};
 use messages::{BodyRef, PacketRef};
 use std::marker::Model;
@@ -97,9 +97,12 @@ impl<'a> Outgoing<'a> {
             (Letter::VoteTo { to }, vote) => mail.news(place, to, vote),
             (Letter::Promise { to }, vote) => {
                 let report = report_below(vote, mail.ballot());
-                mail.reply(place, to, BodyRef::Promise { report })
+                only(place, mail.packet_to(to, BodyRef::Promise { report }))
             }
-            (Letter::Nack { to, promised }, _) => mail.reply(place, to, BodyRef::Nack { promised }),
+            (Letter::Nack { to, promised }, _) => only(
+                place,
+                mail.packet_to(to, BodyRef::Nack { promised }),
+            ),
         }
     }
 

@@ -2,6 +2,7 @@
 use Rattle.std.specs.Prelude.{ℕ, Bool, true, not, ◌&&◌, ◌==◌, Some, None}
 use Rattle.protocol.specs.Ballots.{Ballot, is_below}
 use Rattle.protocol.specs.Packets.{Packet, Body, Prepare, Promise, Accept, Accepted, Nack}
+use Rattle.messages.specs.declared.packet.Route.{Route}
 use Rattle.messages.specs.declared.body.PacketKind.{PacketKind}
 use Rattle.messages.specs.declared.body.PacketKind.TheVariants as kinds
 
@@ -31,9 +32,9 @@ may_say (Accepted entry) b = true
 may_say (Nack promised) b = is_below b promised
 
 -- the packet of these fields
-abbrev pub packet_with : ℕ → ℕ → ℕ → ℕ → Ballot → Body → Packet
-packet_with circuit from to number ballot body =
-    record { circuit = circuit; from = from; to = to; number = number; ballot = ballot; body = body }
+abbrev pub packet_with : Route → ℕ → Ballot → Body → Packet
+packet_with route number ballot body =
+    record { circuit = route.circuit; from = route.from; to = route.to; number = number; ballot = ballot; body = body }
 
 -- the rules of a packet: two members that differ, whose ballot it is, and what it reports
 abbrev pub keeps_rules : Packet → Bool

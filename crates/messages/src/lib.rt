@@ -5,4 +5,4 @@ mod body;
 mod packet;
 
 pub use body::{Body, BodyRef, PacketKind, may_send};
-pub use packet::{Packet, PacketRef};
+pub use packet::{Packet, PacketRef, Route};

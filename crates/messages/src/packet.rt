@@ -12,6 +12,14 @@ use std::alloc::{AllocError, Global};
 use std::marker::Model;
 use tape_frames::Version;
 
+/// Who says something to whom, and on which circuit: that is any number.
+#[derive(Clone, Copy)]
+pub struct Route {
+    pub circuit: u16,
+    pub from: Member,
+    pub to: Member,
+}
+
 /// A packet whose entry is lent. Clauses see the protocol's packet.
 ///
 /// Its sender and its addressee are two members. The ballot of a Prepare or an Accept is its sender's,
@@ -19,9 +27,7 @@ use tape_frames::Version;
 /// of a Nack above it.
 #[derive(Drop)]
 pub struct PacketRef<'a> {
-    circuit: u16,
-    from: Member,
-    to: Member,
+    route: Route,
     number: Number,
     ballot: Ballot,
     body: BodyRef<'a>,
@@ -35,17 +41,15 @@ impl<'a> Model for PacketRef<'a> {
 
     ghost Value = { PacketValue };
 
-    ghost view = { λ p. record { circuit = p.circuit; from = p.from; to = p.to; number = p.number; ballot = p.ballot; body = said p.body } };
+    ghost view = { λ p. packet_with p.route p.number p.ballot (said p.body) };
 
-    ghost invariant = { λ p. IsTrue (keeps_rules (packet_with p.circuit p.from p.to p.number p.ballot (said p.body))) };
+    ghost invariant = { λ p. IsTrue (keeps_rules (packet_with p.route p.number p.ballot (said p.body))) };
 }
 
 /// A packet with frames of its own. It keeps the same rules.
 #[derive(Drop)]
 pub struct Packet {
-    circuit: u16,
-    from: Member,
-    to: Member,
+    route: Route,
     number: Number,
     ballot: Ballot,
     body: Body,
@@ -59,9 +63,9 @@ impl Model for Packet {
 
     ghost Value = { PacketValue };
 
-    ghost view = { λ p. record { circuit = p.circuit; from = p.from; to = p.to; number = p.number; ballot = p.ballot; body = told p.body } };
+    ghost view = { λ p. packet_with p.route p.number p.ballot (told p.body) };
 
-    ghost invariant = { λ p. IsTrue (keeps_rules (packet_with p.circuit p.from p.to p.number p.ballot (told p.body))) };
+    ghost invariant = { λ p. IsTrue (keeps_rules (packet_with p.route p.number p.ballot (told p.body))) };
 }
 
 /// Whether they are one member.
@@ -72,28 +76,24 @@ fn is_one_member(from: Member, to: Member) -> bool
 }
 
 impl<'a> PacketRef<'a> {
-    /// The packet of these fields; `None` where they break a rule. `circuit` is any number.
+    /// The packet of these fields; `None` where they break a rule.
     pub fn new(
-        circuit: u16,
-        from: Member,
-        to: Member,
+        route: Route,
         number: Number,
         ballot: Ballot,
         body: BodyRef<'a>,
     ) -> Option<PacketRef<'a>>
-        ensures some { IsSome result ↔ IsTrue (keeps_rules (packet_with circuit from to number ballot (said body.entry))) }
-        ensures value { IfSome result (λ p. p ≡ packet_with circuit from to number ballot (said body.entry)) }
+        ensures some { IsSome result ↔ IsTrue (keeps_rules (packet_with route number ballot (said body.entry))) }
+        ensures value { IfSome result (λ p. p ≡ packet_with route number ballot (said body.entry)) }
     {
-        if is_one_member(from, to) {
+        if is_one_member(route.from, route.to) {
             return None;
         }
-        if !may_send(body.kind(), ballot.owner(), from, to) || !body.may_say(ballot) {
+        if !may_send(body.kind(), ballot.owner(), route.from, route.to) || !body.may_say(ballot) {
             return None;
         }
         Some(PacketRef {
-            circuit,
-            from,
-            to,
+            route,
             number,
             ballot,
             body,
@@ -104,21 +104,21 @@ impl<'a> PacketRef<'a> {
     pub fn circuit(&self) -> u16
         ensures { result ≡ self.now.circuit }
     {
-        self.circuit
+        self.route.circuit
     }
 
     /// The member that sends it.
     pub fn from(&self) -> Member
         ensures { result ≡ self.now.from }
     {
-        self.from
+        self.route.from
     }
 
     /// The member that it is sent to.
     pub fn to(&self) -> Member
         ensures { result ≡ self.now.to }
     {
-        self.to
+        self.route.to
     }
 
     /// The number that it is about.
@@ -156,9 +156,7 @@ impl<'a> PacketRef<'a> {
     {
         let body = self.body.lend();
         PacketRef {
-            circuit: self.circuit,
-            from: self.from,
-            to: self.to,
+            route: self.route,
             number: self.number,
             ballot: self.ballot,
             body,
@@ -172,9 +170,7 @@ impl<'a> PacketRef<'a> {
     {
         let body = self.body.copy(alloc)?;
         Ok(Packet {
-            circuit: self.circuit,
-            from: self.from,
-            to: self.to,
+            route: self.route,
             number: self.number,
             ballot: self.ballot,
             body,
@@ -188,9 +184,7 @@ impl Packet {
         ensures { result ≡ self.now }
     {
         PacketRef {
-            circuit: self.circuit,
-            from: self.from,
-            to: self.to,
+            route: self.route,
             number: self.number,
             ballot: self.ballot,
             body: self.body.lend(),

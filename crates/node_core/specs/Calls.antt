@@ -1,11 +1,12 @@
 -- What a call of the core answers, and what is left of it.
-use Rattle.std.specs.Prelude.{◌≡◌, ◌≤◌, ℕ, List, Option, Some, None, true, false, is_some}
+use Rattle.std.specs.Prelude.{◌≡◌, ◌≤◌, ℕ, List, [], Option, Some, None, Bool, true, false, is_some}
 use Rattle.protocol.specs.Ballots.{Ballot, next}
 use Rattle.protocol.specs.Entries.{Entry}
 use Rattle.protocol.specs.Rows.{Row}
 use Rattle.protocol.specs.Packets.{Packet}
 use Rattle.protocol.specs.Marks.{Mark}
-use Rattle.protocol.specs.Proposals.{was_released, open_proposal}
+use Rattle.protocol.specs.Limits.{most_members}
+use Rattle.protocol.specs.Proposals.{was_released, open_proposal, open_ballot, next_due}
 use Rattle.protocol.specs.Turn as said
 use Rattle.protocol.specs.Turn.{begin}
 use Rattle.node_core.specs.declared.event.Event.{Event}
@@ -15,7 +16,48 @@ use Rattle.node_core.specs.declared.turn.CoreRefusal.{CoreRefusal}
 use Rattle.node_core.specs.declared.turn.CoreRefusal.TheVariants as refusals
 use Rattle.protocol.specs.Seats.{Seat}
 use Rattle.node_core.specs.Turns.{event_value, Stirs}
-use Rattle.node_core.specs.Standing.{Core, StandsFor, Took, seat_of}
+use Rattle.node_core.specs.Standing.{Core, StandsFor, Took, IsSameSeat, seat_of}
+
+-- this member may sit in a circuit of so many: it is one of them, and they are 15 at most
+pub record MaySit (me members : ℕ) : Type 0 where
+  pub low : 1 ≤ members
+  pub high : members ≤ most_members
+  pub member : me ≤ members
+
+-- the core is one of member m of circuit k, of c members, that took nothing in yet
+pub record IsNewCore (k m c : ℕ) (v : Core) : Type 0 where
+  pub circuit : v.circuit ≡ k
+  pub me : v.me ≡ m
+  pub members : v.members ≡ c
+  pub failed : v.failed ≡ false
+  pub stands : StandsFor v []
+
+-- all that was taken in is forgotten, as at a start
+pub record IsCleared (old new : Core) : Type 0 where
+  pub seat : IsSameSeat old new
+  pub failed : new.failed ≡ false
+  pub stands : StandsFor new []
+
+-- how many members the core's circuit has: 1 to 15
+pub record TellsMembers (v : Core) (members : ℕ) : Type 0 where
+  pub value : members ≡ v.members
+  pub low : 1 ≤ members
+  pub few : members ≤ most_members
+
+-- whether n was released since the start; it is not told while the core is failed
+pub record TellsReleased (n : ℕ) (v : Core) (is_released : Bool) : Type 0 where
+  pub failed : v.failed ≡ true → is_released ≡ false
+  pub value : (marks : List Mark) → StandsFor v marks → is_released ≡ was_released n marks
+
+-- the ballot of the open proposal of n, if there is one; none while the core is failed
+pub record TellsOpenBallot (n : ℕ) (v : Core) (ballot : Option Ballot) : Type 0 where
+  pub failed : v.failed ≡ true → ballot ≡ None
+  pub value : (marks : List Mark) → StandsFor v marks → ballot ≡ open_ballot n marks
+
+-- the least number whose proposal is due at this moment, if there is one; none while the core is failed
+pub record TellsNextDue (now : ℕ) (v : Core) (n : Option ℕ) : Type 0 where
+  pub failed : v.failed ≡ true → n ≡ None
+  pub value : (marks : List Mark) → StandsFor v marks → n ≡ next_due v.me now marks
 
 -- the packet is for member me, from a member of the circuit of c members
 pub record IsForMember (me c : ℕ) (p : Packet) : Type 0 where

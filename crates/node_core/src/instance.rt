@@ -1,29 +1,25 @@
 //! What is in hand of one number: its proposal, if one is open, and the votes that were heard.
 
-ghost use Rattle.std.specs.Prelude.{◌≡◌, ◌≤◌, List, ◌∷◌, None, IfOk, IfErr, IsTrue, IsSome, MatchBool, false, option_map};
+ghost use Rattle.std.specs.Prelude.{◌≡◌, ◌≤◌, List, ◌∷◌, None, IfOk, IfErr, IsSome, MatchBool, false, option_map};
 ghost use Rattle.protocol.specs.Ballots.{next};
-ghost use Rattle.protocol.specs.Packets.{Accept as AcceptBody};
-ghost use Rattle.messages.specs.Rules.{keeps_rules};
-ghost use Rattle.protocol.specs.Rows.{Row as RowValue};
 ghost use Rattle.tape_frames.specs.Entries.{owned_entry, lent_entry};
-ghost use Rattle.protocol.specs.Marks.{Mark, Closed};
+ghost use Rattle.protocol.specs.Marks.{Mark};
 ghost use Rattle.protocol.specs.Proposals.{open_ballot};
-ghost use Rattle.protocol.specs.Turn.{number_of, accept_turn, accepted_turn, packet_turn, recall_turn};
 ghost use Rattle.node_core.specs.Standing.{InstanceStands, IsFresh, fresh, IsInstanceOf};
-ghost use Rattle.node_core.specs.Calls.{IsForMember, MayCome, RefusesToStart, IsRefused};
-ghost use Rattle.node_core.specs.Handling.{Handles, HandlesPromise, HandlesDue, AnswersNack, IsPicked, TellsDue, ReleasesHeard, LeavesHeard, VotesFor, Proposes, Begins, BeginsFirst, Starts, Takes};
-ghost use Rattle.protocol.specs.Seats.{Seat as SeatValue};
-ghost use Rattle.node_core.specs.Turns.{event_value, note_value, is_quiet, HasPromise, IsOrderly};
+ghost use Rattle.node_core.specs.Calls.{RefusesToStart, IsRefused};
+ghost use Rattle.node_core.specs.Handling.{MayPropose, MayTake, MayTakePromise, MayTakeAccept, MayTakeEvent, HandlesPromise, HandlesDue, HandlesAccept, HandlesAccepted, HandlesPacket, HandlesRecall, AnswersNack, IsPicked, TellsDue, Hears, VotesFor, Proposes, Closes, Begins, BeginsFirst, Starts, Takes};
+ghost use Rattle.node_core.specs.Turns.{note_value, is_quiet};
 
 use crate::event::Event;
 use crate::rows::{copied, is_promised, raise, vote};
+use crate::sitting::Sitting;
 use crate::turn::{CoreRefusal, Note, Turn};
 use crate::voting::{self, RecallAnswer, Voting};
 use ballots::{Ballot, Member, Number, Row, VoteRef};
 use learner::Heard;
 use mail::{Letter, Mail, Seat};
 use messages::{BodyRef, PacketRef};
-use proposer::{Counted, DueAnswer, Proposal};
+use proposer::{Beginning, Counted, DueAnswer, Proposal};
 use std::alloc::{AllocError, Global};
 use tape_frames::{Entry, EntryRef};
 
@@ -94,10 +90,7 @@ impl Instance {
         entry: EntryRef<'_>,
     ) -> Result<Option<Entry>, AllocError>
         requires { member ≤ self.old.heard.members }
-        ensures release { IfOk result (λ release. ReleasesHeard self.old member ballot (lent_entry entry.entry) release) }
-        ensures left { IfOk result (λ release. LeavesHeard self.old member ballot (lent_entry entry.entry) release self.new) }
-        ensures of { (s : SeatValue) → IsInstanceOf s self.old → IsInstanceOf s self.new }
-        ensures number { self.new.number ≡ self.old.number }
+        ensures { Hears member ballot (lent_entry entry.entry) result self.old self.new }
     {
         // A vote that is heard changes nothing of the proposal.
         proposer::laws::other_marks_pass();
@@ -117,10 +110,7 @@ impl Instance {
     ) -> Result<Turn, AllocError>
         requires of { IsInstanceOf seat self.old }
         requires owner { ballot.owner ≡ seat.me }
-        ensures turn { IfOk result (λ x. VotesFor seat ballot (owned_entry entry) row.now x self.old self.new) }
-        ensures orderly { IfOk result (λ x. IsOrderly x) }
-        ensures of { IsInstanceOf seat self.new }
-        ensures number { self.new.number ≡ self.old.number }
+        ensures { VotesFor seat ballot (owned_entry entry) row.now result self.old self.new }
     {
         let release = self.hear(seat.me(), ballot, entry.lend())?;
         Ok(Turn {
@@ -132,34 +122,22 @@ impl Instance {
     }
 
     /// Phase 2 (Lamport): proposes the entry that the proposal picks, or closes it where there is none.
-    fn propose(
-        &mut self,
-        alloc: Global,
-        seat: Seat,
-        ballot: Ballot,
-        now: u64,
-        row: &Row,
-    ) -> Result<Turn, AllocError>
-        requires of { IsInstanceOf seat self.old }
-        requires open { IsSome self.old.proposal }
-        requires owner { ballot.owner ≡ seat.me }
-        ensures turn { IfOk result (λ x. Proposes seat ballot now row.now x self.old self.new) }
-        ensures orderly { IfOk result (λ x. IsOrderly x) }
-        ensures of { IsInstanceOf seat self.new }
-        ensures number { self.new.number ≡ self.old.number }
+    fn propose(&mut self, sitting: Sitting, ballot: Ballot, row: &Row) -> Result<Turn, AllocError>
+        requires { MayPropose sitting.seat ballot self.old }
+        ensures { Proposes sitting.seat ballot sitting.now row.now result self.old self.new }
     {
         learner::laws::other_marks_pass();
         let Some(proposal) = &mut self.proposal else {
             unreachable!();
         };
-        match picked(alloc, proposal)? {
+        match picked(sitting.alloc, proposal)? {
             None => {
-                let row = raise(alloc, row, ballot)?;
+                let row = raise(sitting.alloc, row, ballot)?;
                 Ok(self.close(row, Note::Nothing { ballot }))
             }
             Some(entry) => {
-                proposal.proposed(now);
-                self.vote_for(seat, ballot, entry, row)
+                proposal.proposed(sitting.now);
+                self.vote_for(sitting.seat, ballot, entry, row)
             }
         }
     }
@@ -167,14 +145,7 @@ impl Instance {
     /// Closes the proposal.
     fn close(&mut self, row: Option<Row>, note: Note) -> Turn
         requires { is_quiet (note_value note) ≡ false }
-        ensures row { result.row ≡ row }
-        ensures mail { result.mail ≡ None }
-        ensures release { result.release ≡ None }
-        ensures note { result.note ≡ note }
-        ensures orderly { HasPromise row → IsOrderly result }
-        ensures stands { (marks : List Mark) → InstanceStands self.old marks → InstanceStands self.new (Closed self.old.number ∷ marks) }
-        ensures of { (s : SeatValue) → IsInstanceOf s self.old → IsInstanceOf s self.new }
-        ensures number { self.new.number ≡ self.old.number }
+        ensures { Closes row note result self.old self.new }
     {
         learner::laws::other_marks_pass();
         self.proposal = None;
@@ -188,27 +159,16 @@ impl Instance {
 
     /// Phase 1 (Lamport) of the ballot that the proposal has begun: asks the others for their promises.
     /// A member of one proposes at once.
-    fn begun(
-        &mut self,
-        alloc: Global,
-        seat: Seat,
-        ballot: Ballot,
-        now: u64,
-        row: &Row,
-    ) -> Result<Turn, AllocError>
-        requires of { IsInstanceOf seat self.old }
-        requires open { IsSome self.old.proposal }
-        requires owner { ballot.owner ≡ seat.me }
-        ensures turn { IfOk result (λ x. Begins seat ballot now row.now x self.old self.new) }
-        ensures orderly { IfOk result (λ x. IsOrderly x) }
-        ensures of { IsInstanceOf seat self.new }
-        ensures number { self.new.number ≡ self.old.number }
+    fn begun(&mut self, sitting: Sitting, ballot: Ballot, row: &Row) -> Result<Turn, AllocError>
+        requires { MayPropose sitting.seat ballot self.old }
+        ensures { Begins sitting.seat ballot sitting.now row.now result self.old self.new }
     {
+        let seat = sitting.seat;
         if seat.members() == 1 {
-            return self.propose(alloc, seat, ballot, now, row);
+            return self.propose(sitting, ballot, row);
         }
         Ok(Turn {
-            row: raise(alloc, row, ballot)?,
+            row: raise(sitting.alloc, row, ballot)?,
             mail: Some(Mail::new(seat, self.number, ballot, Letter::Prepare)),
             release: None,
             note: Note::Began { ballot },
@@ -218,21 +178,13 @@ impl Instance {
     /// Takes a Promise: with those of a majority it proposes.
     fn promise(
         &mut self,
-        alloc: Global,
-        seat: Seat,
+        sitting: Sitting,
         packet: &PacketRef<'_>,
         report: Option<VoteRef<'_>>,
-        now: u64,
         row: &Row,
     ) -> Result<Turn, AllocError>
-        requires of { IsInstanceOf seat self.old }
-        requires number { packet.now.number ≡ self.old.number }
-        requires from { packet.now.from ≤ seat.members }
-        requires owner { packet.now.ballot.owner ≡ seat.me }
-        ensures turn { HandlesPromise seat packet.now report.entry now row.now result self.old self.new }
-        ensures orderly { IfOk result (λ x. IsOrderly x) }
-        ensures of { IsInstanceOf seat self.new }
-        ensures number { self.new.number ≡ self.old.number }
+        requires { MayTakePromise sitting.seat packet.now self.old }
+        ensures { HandlesPromise sitting.seat packet.now report.entry sitting.now row.now result self.old self.new }
     {
         learner::laws::other_marks_pass();
         let ballot = packet.ballot();
@@ -249,7 +201,7 @@ impl Instance {
                     Counted::Stale => Ok(Turn::quiet(Note::Stale)),
                     Counted::Repeated => Ok(Turn::quiet(Note::Repeated)),
                     Counted::More => Ok(Turn::quiet(Note::Counted { ballot })),
-                    Counted::Quorum => self.propose(alloc, seat, ballot, now, row),
+                    Counted::Quorum => self.propose(sitting, ballot, row),
                 }
             }
         }
@@ -258,10 +210,7 @@ impl Instance {
     /// Takes a Nack.
     fn nack(&mut self, packet: &PacketRef<'_>, promised: Ballot) -> Turn
         requires { packet.now.number ≡ self.old.number }
-        ensures turn { AnswersNack packet.now promised result self.old self.new }
-        ensures orderly { IsOrderly result }
-        ensures of { (s : SeatValue) → IsInstanceOf s self.old → IsInstanceOf s self.new }
-        ensures number { self.new.number ≡ self.old.number }
+        ensures { AnswersNack packet.now promised result self.old self.new }
     {
         learner::laws::other_marks_pass();
         match &mut self.proposal {
@@ -277,14 +226,12 @@ impl Instance {
     }
 
     /// Sees to the proposal where its due moment has come: it begins anew, or gives up.
-    fn due(&mut self, alloc: Global, seat: Seat, now: u64, row: &Row) -> Result<Turn, AllocError>
-        requires { IsInstanceOf seat self.old }
-        ensures turn { HandlesDue seat now row.now result self.old self.new }
-        ensures orderly { IfOk result (λ x. IsOrderly x) }
-        ensures of { IsInstanceOf seat self.new }
-        ensures number { self.new.number ≡ self.old.number }
+    fn due(&mut self, sitting: Sitting, row: &Row) -> Result<Turn, AllocError>
+        requires { IsInstanceOf sitting.seat self.old }
+        ensures { HandlesDue sitting.seat sitting.now row.now result self.old self.new }
     {
         learner::laws::other_marks_pass();
+        let now = sitting.now;
         match &mut self.proposal {
             None => Ok(Turn::quiet(Note::Idle)),
             Some(proposal) => {
@@ -293,49 +240,36 @@ impl Instance {
                     return Ok(Turn::quiet(Note::Idle));
                 }
                 let last = proposal.ballot();
-                let report = copied(alloc, row.vote())?;
+                let report = copied(sitting.alloc, row.vote())?;
                 match proposal.due(row.promised(), report, now)? {
                     DueAnswer::Wait => Ok(Turn::quiet(Note::Idle)),
                     DueAnswer::GaveUp => { Ok(self.close(None, Note::GaveUp { ballot: last })) }
-                    DueAnswer::Began { ballot } => self.begun(alloc, seat, ballot, now, row),
+                    DueAnswer::Began { ballot } => self.begun(sitting, ballot, row),
                 }
             }
         }
     }
 
     /// Begins the first ballot, the next above the saved promise.
-    fn begin(
-        &mut self,
-        alloc: Global,
-        seat: Seat,
-        own: Option<Entry>,
-        now: u64,
-        row: &Row,
-    ) -> Result<Turn, AllocError>
-        requires of { IsInstanceOf seat self.old }
-        requires next { IsSome (next row.now.promised seat.me) }
-        ensures turn { IfOk result (λ x. BeginsFirst seat (option_map owned_entry own) now row.now x self.old self.new) }
-        ensures orderly { IfOk result (λ x. IsOrderly x) }
-        ensures of { IsInstanceOf seat self.new }
-        ensures number { self.new.number ≡ self.old.number }
+    fn begin(&mut self, sitting: Sitting, own: Option<Entry>, row: &Row) -> Result<Turn, AllocError>
+        requires of { IsInstanceOf sitting.seat self.old }
+        requires next { IsSome (next row.now.promised sitting.seat.me) }
+        ensures { BeginsFirst sitting.seat (option_map owned_entry own) sitting.now row.now result self.old self.new }
     {
         learner::laws::other_marks_pass();
-        let report = copied(alloc, row.vote())?;
-        let begun = Proposal::begin(
-            alloc,
-            row.promised(),
-            seat.me(),
-            seat.members(),
+        let report = copied(sitting.alloc, row.vote())?;
+        let beginning = Beginning {
+            seen: row.promised(),
             own,
             report,
-            now,
-        );
-        match begun {
+            now: sitting.now,
+        };
+        match Proposal::begin(sitting.alloc, sitting.seat, beginning) {
             Err(_) => unreachable!(),
             Ok(proposal) => {
                 let ballot = proposal.ballot();
                 self.proposal = Some(proposal);
-                self.begun(alloc, seat, ballot, now, row)
+                self.begun(sitting, ballot, row)
             }
         }
     }
@@ -343,48 +277,36 @@ impl Instance {
     /// Takes an offer or a search.
     fn start(
         &mut self,
-        alloc: Global,
-        seat: Seat,
+        sitting: Sitting,
         own: Option<Entry>,
-        now: u64,
         row: &Row,
     ) -> Result<Turn, CoreRefusal>
-        requires { IsInstanceOf seat self.old }
-        ensures turn { Starts seat self.old.number (option_map owned_entry own) now row.now result self.old self.new }
-        ensures orderly { IfOk result (λ x. IsOrderly x) }
-        ensures refused { IfErr result (λ e. RefusesToStart e (self.new ≡ self.old) (InstanceStands self.old) seat.me self.old.number row.now) }
-        ensures of { IsInstanceOf seat self.new }
-        ensures number { self.new.number ≡ self.old.number }
+        requires { IsInstanceOf sitting.seat self.old }
+        ensures taken { Starts sitting.seat (option_map owned_entry own) sitting.now row.now result self.old self.new }
+        ensures refused { IfErr result (λ e. RefusesToStart e (self.new ≡ self.old) (InstanceStands self.old) sitting.seat.me self.old.number row.now) }
     {
         if self.open_ballot().is_some() {
             return Err(CoreRefusal::AlreadyOpen);
         }
-        if Ballot::next(row.promised(), seat.me()).is_none() {
+        if Ballot::next(row.promised(), sitting.seat.me()).is_none() {
             return Err(CoreRefusal::RoundsSpent);
         }
-        Ok(self.begin(alloc, seat, own, now, row)?)
+        Ok(self.begin(sitting, own, row)?)
     }
 
     /// Takes an Accept: the acceptor answers it, and its vote is heard.
     fn accept(
         &mut self,
-        alloc: Global,
-        seat: Seat,
+        sitting: Sitting,
         packet: &PacketRef<'_>,
         entry: EntryRef<'_>,
         row: &Row,
     ) -> Result<Turn, AllocError>
-        requires of { IsInstanceOf seat self.old }
-        requires number { packet.now.number ≡ self.old.number }
-        requires arrived { IsForMember seat.me seat.members packet.now }
-        requires rules { IsTrue (keeps_rules packet.now) }
-        requires kind { packet.now.body ≡ AcceptBody (lent_entry entry) }
-        ensures turn { Handles row.now (λ marks. accept_turn seat marks row.now packet.now (lent_entry entry.entry)) result self.old self.new }
-        ensures orderly { IfOk result (λ x. IsOrderly x) }
-        ensures of { IsInstanceOf seat self.new }
-        ensures number { self.new.number ≡ self.old.number }
+        requires { MayTakeAccept sitting.seat packet.now (lent_entry entry) self.old }
+        ensures { HandlesAccept sitting.seat packet.now (lent_entry entry.entry) row.now result self.old self.new }
     {
-        let Voting { turn, vote } = voting::accept(alloc, seat, packet, entry, row)?;
+        let seat = sitting.seat;
+        let Voting { turn, vote } = voting::accept(sitting, packet, entry, row)?;
         match vote {
             None => Ok(turn),
             Some(entry) => {
@@ -401,13 +323,8 @@ impl Instance {
         packet: &PacketRef<'_>,
         entry: EntryRef<'_>,
     ) -> Result<Turn, AllocError>
-        requires of { IsInstanceOf seat self.old }
-        requires number { packet.now.number ≡ self.old.number }
-        requires from { packet.now.from ≤ seat.members }
-        ensures turn { (row : RowValue) → Handles row (λ marks. accepted_turn seat marks row packet.now (lent_entry entry.entry)) result self.old self.new }
-        ensures orderly { IfOk result (λ x. IsOrderly x) }
-        ensures of { IsInstanceOf seat self.new }
-        ensures number { self.new.number ≡ self.old.number }
+        requires { MayTake seat packet.now self.old }
+        ensures { HandlesAccepted seat packet.now (lent_entry entry.entry) result self.old self.new }
     {
         let ballot = packet.ballot();
         let release = self.hear(packet.from(), ballot, entry)?;
@@ -422,25 +339,19 @@ impl Instance {
     /// Takes a packet.
     fn receive(
         &mut self,
-        alloc: Global,
-        seat: Seat,
+        sitting: Sitting,
         packet: &PacketRef<'_>,
-        now: u64,
         row: &Row,
     ) -> Result<Turn, AllocError>
-        requires of { IsInstanceOf seat self.old }
-        requires number { packet.now.number ≡ self.old.number }
-        requires arrived { IsForMember seat.me seat.members packet.now }
-        ensures turn { Handles row.now (λ marks. packet_turn seat now marks row.now packet.now packet.now.body) result self.old self.new }
-        ensures orderly { IfOk result (λ x. IsOrderly x) }
-        ensures of { IsInstanceOf seat self.new }
-        ensures number { self.new.number ≡ self.old.number }
+        requires packet { MayTake sitting.seat packet.now self.old }
+        requires to { packet.now.to ≡ sitting.seat.me }
+        ensures { HandlesPacket sitting.seat sitting.now packet.now row.now result self.old self.new }
     {
         match packet.body().lend() {
-            BodyRef::Prepare => voting::prepare(alloc, seat, packet, row),
-            BodyRef::Promise { report } => self.promise(alloc, seat, packet, report, now, row),
-            BodyRef::Accept { entry } => self.accept(alloc, seat, packet, entry, row),
-            BodyRef::Accepted { entry } => self.accepted(seat, packet, entry),
+            BodyRef::Prepare => voting::prepare(sitting, packet, row),
+            BodyRef::Promise { report } => self.promise(sitting, packet, report, row),
+            BodyRef::Accept { entry } => self.accept(sitting, packet, entry, row),
+            BodyRef::Accepted { entry } => self.accepted(sitting.seat, packet, entry),
             BodyRef::Nack { promised } => Ok(self.nack(packet, promised)),
         }
     }
@@ -448,10 +359,7 @@ impl Instance {
     /// Tells the vote of the number's row again. One that the station tells itself is heard.
     fn recall(&mut self, seat: Seat, to: Member, row: &Row) -> Result<Turn, AllocError>
         requires { IsInstanceOf seat self.old }
-        ensures turn { Handles row.now (λ marks. recall_turn seat self.old.number to marks row.now row.now.vote) result self.old self.new }
-        ensures orderly { IfOk result (λ x. IsOrderly x) }
-        ensures of { IsInstanceOf seat self.new }
-        ensures number { self.new.number ≡ self.old.number }
+        ensures { HandlesRecall seat to row.now result self.old self.new }
     {
         let RecallAnswer { turn, own } = voting::tell_again(seat, self.number, to, row);
         match own {
@@ -471,20 +379,23 @@ impl Instance {
         event: Event<'_>,
         row: &Row,
     ) -> Result<Turn, CoreRefusal>
-        requires of { IsInstanceOf seat self.old }
-        requires number { number_of (event_value event) ≡ self.old.number }
-        requires arrived { MayCome seat.me seat.members event }
-        ensures turn { Takes seat event.entry row.now result self.old self.new }
-        ensures orderly { IfOk result (λ x. IsOrderly x) }
+        requires { MayTakeEvent seat event self.old }
+        ensures taken { Takes seat event.entry row.now result self.old self.new }
         ensures refused { IfErr result (λ e. IsRefused event.entry e (self.new ≡ self.old) (InstanceStands self.old) seat.me row.now) }
-        ensures of { IsInstanceOf seat self.new }
-        ensures number { self.new.number ≡ self.old.number }
     {
         match event {
-            Event::Offer { entry, now, .. } => self.start(alloc, seat, Some(entry), now, row),
-            Event::Seek { now, .. } => self.start(alloc, seat, None, now, row),
-            Event::Due { now, .. } => Ok(self.due(alloc, seat, now, row)?),
-            Event::Arrived { packet, now } => Ok(self.receive(alloc, seat, &packet, now, row)?),
+            Event::Offer { entry, now, .. } => self.start(
+                Sitting { alloc, seat, now },
+                Some(entry),
+                row,
+            ),
+            Event::Seek { now, .. } => self.start(Sitting { alloc, seat, now }, None, row),
+            Event::Due { now, .. } => Ok(self.due(Sitting { alloc, seat, now }, row)?),
+            Event::Arrived { packet, now } => Ok(self.receive(
+                Sitting { alloc, seat, now },
+                &packet,
+                row,
+            )?),
             Event::Recall { to, .. } => Ok(self.recall(seat, to, row)?),
         }
     }

@@ -7,6 +7,7 @@ mod instances;
 mod node;
 mod rows;
 mod settled;
+mod sitting;
 mod turn;
 mod voting;
 

@@ -1,14 +1,12 @@
 //! The core of a station: all that it took in since its start, and the turn that it takes at each event.
 
-ghost use Rattle.std.specs.Prelude.{◌≡◌, ◌≤◌, List, [], None, Err, IfOk, IfErr, OnOk, OnErr, IsSome, IfSome, true, false, length, if◌then◌else◌};
+ghost use Rattle.std.specs.Prelude.{◌≡◌, ◌≤◌, List, Err, IfOk, IfErr, IsSome, IfSome, true, length};
 ghost use Rattle.protocol.specs.Marks.{Mark};
-ghost use Rattle.protocol.specs.Proposals.{was_released, open_ballot, next_due};
-ghost use Rattle.protocol.specs.Turn.{number_of};
-ghost use Rattle.protocol.specs.Limits.{most_members, most_sent};
-ghost use Rattle.node_core.specs.Calls.{MayCome, TookTurn, RefusesEvent, Refuses, MayWantMemory};
-ghost use Rattle.node_core.specs.Handling.{Acts};
-ghost use Rattle.node_core.specs.Standing.{StandsFor, Kept, Moves, IsInstanceOf, IsSameSeat, IsFresh, seat_of, instance_at};
-ghost use Rattle.node_core.specs.Turns.{event_value, note_value, is_quiet, HandsNothing, IsOrderly, sent};
+ghost use Rattle.protocol.specs.Limits.{most_sent};
+ghost use Rattle.node_core.specs.Calls.{MaySit, IsNewCore, IsCleared, TellsMembers, TellsReleased, TellsOpenBallot, TellsNextDue, MayCome, TookTurn, Refuses, MayWantMemory};
+ghost use Rattle.node_core.specs.Handling.{MayTakeTurn, MayAct, Acts, TakesTurn, SettlesNumber, KeepsInHand};
+ghost use Rattle.node_core.specs.Standing.{StandsFor, IsInstanceOf, IsSameSeat, seat_of, instance_at};
+ghost use Rattle.node_core.specs.Turns.{note_value, is_quiet, HandsNothing, sent};
 
 use crate::event::Event;
 use crate::instance::Instance;
@@ -53,14 +51,8 @@ impl Model for NodeCore {
 impl NodeCore {
     /// The core of a member of a circuit that just started.
     pub fn new(alloc: Global, circuit: u16, me: Member, members: u8) -> NodeCore
-        requires low { 1 ≤ members }
-        requires high { members ≤ most_members }
-        requires member { me ≤ members }
-        ensures circuit { result.circuit ≡ circuit }
-        ensures me { result.me ≡ me }
-        ensures members { result.members ≡ members }
-        ensures failed { result.failed ≡ false }
-        ensures stands { StandsFor result [] }
+        requires { MaySit me members }
+        ensures { IsNewCore circuit me members result }
     {
         NodeCore {
             alloc,
@@ -73,11 +65,7 @@ impl NodeCore {
 
     /// Forgets all that was taken in, as at a start.
     pub fn clear(&mut self)
-        ensures circuit { self.new.circuit ≡ self.old.circuit }
-        ensures me { self.new.me ≡ self.old.me }
-        ensures members { self.new.members ≡ self.old.members }
-        ensures failed { self.new.failed ≡ false }
-        ensures stands { StandsFor self.new [] }
+        ensures { IsCleared self.old self.new }
     {
         self.failed = false;
         self.instances.clear();
@@ -101,25 +89,21 @@ impl NodeCore {
 
     /// How many members the circuit has, 1 to 15.
     pub fn members(&self) -> u8
-        ensures value { result ≡ self.now.members }
-        ensures low { 1 ≤ result }
-        ensures few { result ≤ most_members }
+        ensures { TellsMembers self.now result }
     {
         self.seat.members()
     }
 
     /// Whether the number's entry was released since the start; `false` while the core is failed.
     pub fn released(&self, number: Number) -> bool
-        ensures failed { self.now.failed ≡ true → result ≡ false }
-        ensures value { (marks : List Mark) → StandsFor self.now marks → result ≡ was_released number marks }
+        ensures { TellsReleased number self.now result }
     {
         !self.failed && self.released.contains(&number.get())
     }
 
     /// The ballot of the number's open proposal, if there is one; `None` while the core is failed.
     pub fn open_ballot(&self, number: Number) -> Option<Ballot>
-        ensures failed { self.now.failed ≡ true → result ≡ None }
-        ensures value { (marks : List Mark) → StandsFor self.now marks → result ≡ open_ballot number marks }
+        ensures { TellsOpenBallot number self.now result }
     {
         if self.failed {
             return None;
@@ -133,8 +117,7 @@ impl NodeCore {
     /// The least number whose proposal is due at this moment, in milliseconds, if there is one; `None` while the core
     /// is failed.
     pub fn next_due(&self, now: u64) -> Option<Number>
-        ensures failed { self.now.failed ≡ true → result ≡ None }
-        ensures value { (marks : List Mark) → StandsFor self.now marks → result ≡ next_due self.now.me now marks }
+        ensures { TellsNextDue now self.now result }
     {
         if self.failed {
             return None;
@@ -145,9 +128,7 @@ impl NodeCore {
 
     /// Notes the number as released, where it is: nothing is in hand of it then.
     fn settle(&mut self, number: Number, is_released: bool) -> Result<(), AllocError>
-        ensures moves { OnOk result (Moves self.old number (if is_released then None else instance_at self.old number) is_released self.new) }
-        ensures memory { OnErr result (is_released ≡ true) }
-        ensures seat { IsSameSeat self.old self.new }
+        ensures { SettlesNumber number is_released result self.old self.new }
     {
         if is_released {
             instances::note(&mut self.released, number)?;
@@ -160,9 +141,7 @@ impl NodeCore {
     fn keep(&mut self, instance: Instance) -> Result<(), AllocError>
         requires new { instance_at self.old instance.number ≡ None }
         requires of { IsInstanceOf (seat_of self.old) instance }
-        ensures kept { OnOk result (Kept self.old instance self.new) }
-        ensures memory { OnErr result (IsFresh instance → ⊥) }
-        ensures seat { IsSameSeat self.old self.new }
+        ensures { KeepsInHand instance result self.old self.new }
     {
         if instance.is_empty() {
             return Ok(());
@@ -172,14 +151,9 @@ impl NodeCore {
 
     /// Takes an event of a number of which nothing is in hand.
     fn act_anew(&mut self, number: Number, event: Event<'_>, row: &Row) -> Result<Turn, CoreRefusal>
-        requires unfailed { self.old.failed ≡ false }
+        requires act { MayAct number event self.old }
         requires nothing { instance_at self.old number ≡ None }
-        requires arrived { MayCome self.old.me self.old.members event }
-        requires number { number_of (event_value event) ≡ number }
-        ensures turn { Acts number event.entry row.now result self.old self.new }
-        ensures orderly { IfOk result (λ x. IsOrderly x) }
-        ensures refused { IfErr result (λ e. RefusesEvent event.entry e self.old row.now self.new) }
-        ensures seat { IsSameSeat self.old self.new }
+        ensures { Acts number event.entry row.now result self.old self.new }
     {
         // Marks of one number change nothing that is read of another.
         learner::laws::other_marks_pass();
@@ -195,13 +169,8 @@ impl NodeCore {
 
     /// Takes an event of the number; where its entry is released now, that is still to be noted.
     fn act(&mut self, number: Number, event: Event<'_>, row: &Row) -> Result<Turn, CoreRefusal>
-        requires unfailed { self.old.failed ≡ false }
-        requires arrived { MayCome self.old.me self.old.members event }
-        requires number { number_of (event_value event) ≡ number }
-        ensures turn { Acts number event.entry row.now result self.old self.new }
-        ensures orderly { IfOk result (λ x. IsOrderly x) }
-        ensures refused { IfErr result (λ e. RefusesEvent event.entry e self.old row.now self.new) }
-        ensures seat { IsSameSeat self.old self.new }
+        requires { MayAct number event self.old }
+        ensures { Acts number event.entry row.now result self.old self.new }
     {
         // Marks of one number change nothing that is read of another.
         learner::laws::other_marks_pass();
@@ -214,27 +183,13 @@ impl NodeCore {
 
     /// The turn of the event, or why there is none; memory that was refused may leave anything behind.
     fn take_turn(&mut self, event: Event<'_>, row: &Row) -> Result<Turn, CoreRefusal>
-        requires unfailed { self.old.failed ≡ false }
-        requires arrived { MayCome self.old.me self.old.members event }
-        ensures ok { IfOk result (λ x. (marks : List Mark) → StandsFor self.old marks → TookTurn self.old event.entry marks row.now x self.new) }
-        ensures orderly { IfOk result (λ x. IsOrderly x) }
-        ensures memory { IfErr result (λ e. MayWantMemory e self.old event.entry row.now) }
-        ensures refused { IfErr result (λ e. RefusesEvent event.entry e self.old row.now self.new) }
-        ensures seat { IsSameSeat self.old self.new }
+        requires { MayTakeTurn event self.old }
+        ensures { TakesTurn event.entry row.now result self.old self.new }
     {
         let number = event.number();
         let turn = self.act(number, event, row)?;
         self.settle(number, turn.release.is_some())?;
         Ok(turn)
-    }
-
-    /// Forgets all that was taken in, and refuses each event until it is cleared.
-    fn fail(&mut self)
-        ensures failed { self.new.failed ≡ true }
-        ensures seat { IsSameSeat self.old self.new }
-    {
-        self.clear();
-        self.failed = true;
     }
 
     /// Takes the turn of the event, where `row` is the saved row of its number.
@@ -261,7 +216,8 @@ impl NodeCore {
         }
         let answer = self.take_turn(event, row);
         if matches!(answer, Err(CoreRefusal::OutOfMemory)) {
-            self.fail();
+            self.clear();
+            self.failed = true;
         }
         answer
     }

@@ -1,12 +1,10 @@
 //! The turns of a number that was released since the start: it still answers as an acceptor, and takes nothing in.
 
-ghost use Rattle.std.specs.Prelude.{List, IfOk, IfErr};
-ghost use Rattle.protocol.specs.Marks.{Mark};
-ghost use Rattle.node_core.specs.Calls.{IsForMember, MayCome, IsRefused};
-ghost use Rattle.node_core.specs.Handling.{AnsweredReleased, IsReleased, TakesNothing};
-ghost use Rattle.node_core.specs.Turns.{IsOrderly};
+ghost use Rattle.node_core.specs.Calls.{IsForMember, MayCome};
+ghost use Rattle.node_core.specs.Handling.{AnsweredReleased, TakenReleased};
 
 use crate::event::Event;
+use crate::sitting::Sitting;
 use crate::turn::{CoreRefusal, Note, Turn};
 use crate::voting::{self, RecallAnswer, Voting};
 use ballots::Row;
@@ -15,16 +13,15 @@ use messages::{BodyRef, PacketRef};
 use std::alloc::{AllocError, Global};
 
 /// Answers a packet.
-fn receive(alloc: Global, seat: Seat, packet: &PacketRef<'_>, row: &Row) -> Result<Turn, AllocError>
-    requires { IsForMember seat.me seat.members packet.now }
-    ensures turn { AnsweredReleased seat packet.now row.now result }
-    ensures orderly { IfOk result (λ x. IsOrderly x) }
+fn receive(sitting: Sitting, packet: &PacketRef<'_>, row: &Row) -> Result<Turn, AllocError>
+    requires { IsForMember sitting.seat.me sitting.seat.members packet.now }
+    ensures { AnsweredReleased sitting.seat packet.now row.now result }
 {
     match packet.body().lend() {
-        BodyRef::Prepare => voting::prepare(alloc, seat, packet, row),
+        BodyRef::Prepare => voting::prepare(sitting, packet, row),
         BodyRef::Promise { .. } => Ok(Turn::quiet(Note::Stale)),
         BodyRef::Accept { entry } => {
-            let Voting { turn, .. } = voting::accept(alloc, seat, packet, entry, row)?;
+            let Voting { turn, .. } = voting::accept(sitting, packet, entry, row)?;
             Ok(turn)
         }
         BodyRef::Accepted { .. } => Ok(Turn::quiet(Note::Settled)),
@@ -40,15 +37,20 @@ pub(crate) fn take(
     row: &Row,
 ) -> Result<Turn, CoreRefusal>
     requires { MayCome seat.me seat.members event.now }
-    ensures turn { (marks : List Mark) → IsReleased event.now marks → TakesNothing seat event.now row.now marks result }
-    ensures orderly { IfOk result (λ x. IsOrderly x) }
-    ensures refused { IfErr result (λ e. IsRefused event.now e (Unit {0}) (λ marks. IsReleased event.now marks) seat.me row.now) }
+    ensures { TakenReleased seat event.now row.now result }
 {
     match event {
         Event::Offer { .. } => Err(CoreRefusal::AlreadyReleased),
         Event::Seek { .. } => Err(CoreRefusal::AlreadyReleased),
         Event::Due { .. } => Ok(Turn::quiet(Note::Idle)),
-        Event::Arrived { packet, .. } => Ok(receive(alloc, seat, packet, row)?),
+        Event::Arrived { packet, now } => {
+            let sitting = Sitting {
+                alloc,
+                seat,
+                now: *now,
+            };
+            Ok(receive(sitting, packet, row)?)
+        }
         Event::Recall { number, to } => {
             let RecallAnswer { turn, .. } = voting::tell_again(seat, *number, *to, row);
             Ok(turn)

@@ -1,23 +1,21 @@
 //! The acceptor's part of a turn.
 
-ghost use Rattle.std.specs.Prelude.{◌≡◌, List, IfOk, OnErr, IsTrue};
+ghost use Rattle.std.specs.Prelude.{◌≡◌, List, None, IfOk};
 ghost use Rattle.protocol.specs.Marks.{Mark};
-ghost use Rattle.protocol.specs.Packets.{Prepare, Accept};
-ghost use Rattle.protocol.specs.Turn.{prepare_turn, accept_turn};
+ghost use Rattle.protocol.specs.Turn.{accept_turn};
 ghost use Rattle.tape_frames.specs.Entries.{lent_entry};
-ghost use Rattle.messages.specs.Rules.{keeps_rules};
-ghost use Rattle.node_core.specs.Calls.{IsForMember};
 ghost use Rattle.mail.specs.Mails.{MayGo, IsFew};
-ghost use Rattle.node_core.specs.Turns.{IsTurn, IsSending, IsOrderly, Stirs};
-ghost use Rattle.node_core.specs.Handling.{IsVoting, IsTelling};
+ghost use Rattle.node_core.specs.Turns.{IsSending, IsOrderly, Stirs};
+ghost use Rattle.node_core.specs.Handling.{IsPrepareTo, AnswersPrepare, IsAcceptTo, IsVoting, IsTelling};
 
 use crate::rows::raise;
+use crate::sitting::Sitting;
 use crate::turn::{Note, Turn};
 use acceptor::{AcceptAnswer, PrepareAnswer};
 use ballots::{Member, Number, Row, VoteRef};
 use mail::{Letter, Mail, Seat};
 use messages::PacketRef;
-use std::alloc::{AllocError, Global};
+use std::alloc::AllocError;
 use tape_frames::EntryRef;
 
 /// The answer to an Accept: what goes out, and the entry that it votes for, if it votes. The vote is still to be heard.
@@ -34,15 +32,15 @@ pub(crate) struct RecallAnswer<'a> {
     pub own: Option<VoteRef<'a>>,
 }
 
-/// A turn that sends this letter about the packet's ballot, and releases nothing.
-fn send(seat: Seat, packet: &PacketRef<'_>, letter: Letter, row: Option<Row>, note: Note) -> Turn
+/// A turn that sends this letter about the packet's ballot, and saves and releases nothing.
+fn send(seat: Seat, packet: &PacketRef<'_>, letter: Letter, note: Note) -> Turn
     requires { MayGo seat packet.now.number packet.now.ballot letter }
-    ensures turn { IsSending result row note (record { seat = seat; number = packet.now.number; ballot = packet.now.ballot; letter = letter }) }
+    ensures turn { IsSending result None note (record { seat = seat; number = packet.now.number; ballot = packet.now.ballot; letter = letter }) }
     ensures few { IsFew result.mail }
 {
     let mail = Mail::new(seat, packet.number(), packet.ballot(), letter);
     Turn {
-        row,
+        row: None,
         mail: Some(mail),
         release: None,
         note,
@@ -51,63 +49,58 @@ fn send(seat: Seat, packet: &PacketRef<'_>, letter: Letter, row: Option<Row>, no
 
 /// Answers a Prepare.
 pub(crate) fn prepare(
-    alloc: Global,
-    seat: Seat,
+    sitting: Sitting,
     packet: &PacketRef<'_>,
     row: &Row,
 ) -> Result<Turn, AllocError>
-    requires to { packet.now.to ≡ seat.me }
-    requires rules { IsTrue (keeps_rules packet.now) }
-    requires kind { packet.now.body ≡ Prepare }
-    ensures turn { IfOk result (λ x. (marks : List Mark) → IsTurn row.now (prepare_turn seat marks row.now packet.now) x) }
-    ensures orderly { IfOk result (λ x. IsOrderly x) }
-    ensures memory { OnErr result ((marks : List Mark) → Stirs (prepare_turn seat marks row.now packet.now)) }
+    requires { IsPrepareTo sitting.seat packet.now }
+    ensures { AnswersPrepare sitting.seat packet.now row.now result }
 {
+    let seat = sitting.seat;
     let ballot = packet.ballot();
     match acceptor::prepare(row, ballot) {
         PrepareAnswer::Nack { promised } => {
             let to = packet.from();
             let letter = Letter::Nack { to, promised };
-            Ok(send(seat, packet, letter, None, Note::Nacked { promised }))
+            Ok(send(seat, packet, letter, Note::Nacked { promised }))
         }
         PrepareAnswer::Silent => Ok(Turn::quiet(Note::Silent)),
         PrepareAnswer::Promise { report: _report } => {
-            let after = raise(alloc, row, ballot)?;
+            let after = raise(sitting.alloc, row, ballot)?;
             let to = packet.from();
             let letter = Letter::Promise { to };
-            Ok(send(seat, packet, letter, after, Note::Promised { ballot }))
+            let turn = send(seat, packet, letter, Note::Promised { ballot });
+            Ok(Turn { row: after, ..turn })
         }
     }
 }
 
 /// Answers an Accept.
 pub(crate) fn accept<'a>(
-    alloc: Global,
-    seat: Seat,
+    sitting: Sitting,
     packet: &PacketRef<'_>,
     entry: EntryRef<'a>,
     row: &'a Row,
 ) -> Result<Voting<'a>, AllocError>
-    requires arrived { IsForMember seat.me seat.members packet.now }
-    requires rules { IsTrue (keeps_rules packet.now) }
-    requires kind { packet.now.body ≡ Accept (lent_entry entry) }
-    ensures voting { IfOk result (λ v. IsVoting seat row.now packet.now (lent_entry entry.entry) v.turn v.vote) }
+    requires { IsAcceptTo sitting.seat packet.now (lent_entry entry) }
+    ensures voting { IfOk result (λ v. IsVoting sitting.seat row.now packet.now (lent_entry entry.entry) v.turn v.vote) }
     ensures orderly { IfOk result (λ v. IsOrderly v.turn) }
-    ensures stirs { (marks : List Mark) → Stirs (accept_turn seat marks row.now packet.now (lent_entry entry.entry)) }
+    ensures stirs { (marks : List Mark) → Stirs (accept_turn sitting.seat marks row.now packet.now (lent_entry entry.entry)) }
 {
+    let seat = sitting.seat;
     let ballot = packet.ballot();
-    match acceptor::accept(alloc, row, ballot, entry.lend())? {
+    match acceptor::accept(sitting.alloc, row, ballot, entry.lend())? {
         AcceptAnswer::Nack { promised } => {
             let to = packet.from();
             let note = Note::Nacked { promised };
-            let turn = send(seat, packet, Letter::Nack { to, promised }, None, note);
+            let turn = send(seat, packet, Letter::Nack { to, promised }, note);
             Ok(Voting { turn, vote: None })
         }
         AcceptAnswer::Again => match row.vote() {
             None => unreachable!(),
             Some(vote) => {
                 let note = Note::VotedAgain { ballot };
-                let turn = send(seat, packet, Letter::Vote, None, note);
+                let turn = send(seat, packet, Letter::Vote, note);
                 Ok(Voting {
                     turn,
                     vote: Some(vote.entry()),
@@ -116,9 +109,10 @@ pub(crate) fn accept<'a>(
         },
         AcceptAnswer::Voted { row: after } => {
             let note = Note::Voted { ballot };
-            let turn = send(seat, packet, Letter::Vote, Some(after), note);
+            let turn = send(seat, packet, Letter::Vote, note);
+            let row = Some(after);
             Ok(Voting {
-                turn,
+                turn: Turn { row, ..turn },
                 vote: Some(entry),
             })
         }

@@ -1,5 +1,6 @@
 -- What the book knows at the start, and what holds of it at all times.
-use Rattle.std.specs.Prelude.{Bool, true, ◌≡◌, ◌≤◌, ℕ, List, [], false, nat_le, None, length, if◌then◌else◌}
+use Rattle.std.specs.Prelude.{Bool, true, ◌≡◌, ◌≤◌, ℕ, List, [], false, nat_le, None, length, if◌then◌else◌, Result, OnOk, OnErr}
+use Rattle.std.specs.declared.alloc.AllocError.{AllocError}
 use Rattle.offers.specs.declared.marks.Marks.{Marks}
 use Rattle.offers.specs.declared.offer.FoundOffer.{FoundOffer}
 use Rattle.offers.specs.Looks.{looked}
@@ -24,6 +25,11 @@ begun_again index end = if nat_le end index then 0 else index
 -- the book after a look: all that was found is left to be seen to, and files that are no searches come first where searches were being read
 abbrev pub after_look : ℕ → List FoundOffer → Standing → Standing
 after_look now found b = record b { files = looked b.files now found; looked = now; moves = 0; others = begun_again b.others (length b.files); asks = true }
+
+-- a look was taken in; where memory is refused, the book stays as it was
+pub record IsLookTaken (found : List FoundOffer) (now : ℕ) (old new : Standing) (result : Result (Unit {0}) AllocError) : Type 0 where
+  pub ok : OnOk result (new ≡ after_look now found old)
+  pub err : OnErr result (new ≡ old)
 
 -- what holds of every book: its files are in order, no two numbers under way are one, they are 16 at most, a file is under way only with
 -- its number, and of one number one file is; each file is marked as it is; and where none is left to be asked for, the station may be asked for none

@@ -2,6 +2,7 @@ pub mod Answers
 pub mod Asks
 pub mod Book
 pub mod Choices
+pub mod Edits
 pub mod Fairness
 pub mod Left
 pub mod Looks

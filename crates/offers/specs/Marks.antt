@@ -6,7 +6,7 @@ use Rattle.offers.specs.declared.marks.FileMark.{FileMark}
 use Rattle.offers.specs.declared.marks.Marks.{Marks}
 use Rattle.offers.specs.declared.offer.Offer.{Offer}
 use Rattle.offers.specs.Moments.{moment_at, AreNone, NoneFrom}
-use Rattle.offers.specs.Order.{rank, is_search}
+use Rattle.offers.specs.Order.{rank, is_search, Rises}
 use Rattle.offers.specs.Rules.{Standing, entry_in, is_under_way, is_leaving, has_other, ask_moment, only_of}
 
 -- what holds is marked by a moment, and what does not by none
@@ -60,6 +60,11 @@ pub record HasRoom (files : List Offer) (m : Marks) : Type 0 where
   pub entries : length files ≤ length m.entries
   pub searches : length files ≤ length m.searches
 
+-- the files are in order, and there is a mark for each of them
+pub record HaveMarks (files : List Offer) (m : Marks) : Type 0 where
+  pub rises : Rises files
+  pub room : HasRoom files m
+
 -- there is a mark at an index
 pub record IsMarkAt (m : Marks) (index : ℕ) : Type 0 where
   pub moves : index < length m.moves
@@ -84,6 +89,11 @@ pub record NoMarks (m : Marks) : Type 0 where
   pub sought : AreNone m.sought
   pub entries : AreNone m.entries
   pub searches : AreNone m.searches
+
+-- there is a mark for each of the files, and nothing is marked
+pub record AreUnmarked (files : List Offer) (m : Marks) : Type 0 where
+  pub room : HasRoom files m
+  pub none : NoMarks m
 
 -- the marks, once the file at an index is marked so
 abbrev pub marked_at : Marks → ℕ → FileMark → Marks

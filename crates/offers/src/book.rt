@@ -1,10 +1,10 @@
 //! The book of offers.
 
-ghost use Rattle.std.specs.Prelude.{◌≡◌, IfOk, OnOk, OnErr, ◌≤◌, length, nat_le, option_copied, true, if◌then◌else◌};
+ghost use Rattle.std.specs.Prelude.{◌≡◌, ◌≤◌, length, nat_le, option_copied, true, if◌then◌else◌};
 ghost use Rattle.offers.specs.Order.{rank, file_at};
 ghost use Rattle.offers.specs.Stages.{wish_at};
 ghost use Rattle.offers.specs.Rules.{AreApart, entry_of, is_under_way};
-ghost use Rattle.offers.specs.Book.{IsFresh, after_look, begun_again, still_for};
+ghost use Rattle.offers.specs.Book.{IsFresh, IsLookTaken, begun_again, still_for};
 ghost use Rattle.offers.specs.Turns.{deeds_left};
 ghost use Rattle.offers.specs.UnderWay.{AreHeld, AreAlone, asked_count};
 
@@ -75,8 +75,8 @@ fn begun_again(index: usize, end: usize) -> usize
     if end <= index { 0 } else { index }
 }
 
-/// How long a file has to stay as it was found until it is whole, in milliseconds.
-fn still_for(renamed: bool) -> u64
+/// How long a file has to stay as it was found until it is whole, in milliseconds: files that come only by being renamed are so at once.
+pub fn still_for(renamed: bool) -> u64
     ensures { result ≡ still_for renamed }
 {
     if renamed { 0 } else { STILL }
@@ -111,8 +111,7 @@ impl Book {
     /// order is passed over. A file that is no longer found is forgotten, and one that was changed is watched anew. Where searches were
     /// being read, files that are no searches come first again. Where there is no memory, the book stays as it was.
     pub fn see(&mut self, found: &[FoundOffer], now: u64) -> Result<(), AllocError>
-        ensures ok { OnOk result (self.new ≡ after_look now found.now self.old) }
-        ensures err { OnErr result (self.new ≡ self.old) }
+        ensures { IsLookTaken found.now now self.old self.new result }
     {
         let room = Vec::with_capacity(self.alloc, found.len())?;
         let mut marks = Marks::none(self.alloc, found.len())?;

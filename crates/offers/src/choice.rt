@@ -5,11 +5,11 @@ ghost use Rattle.offers.specs.declared.offer.Offer.{Offer};
 ghost use Rattle.offers.specs.Rules.{MayDo, ask_moment_among, has_other_of};
 ghost use Rattle.offers.specs.Stages.{after, changed};
 ghost use Rattle.offers.specs.Order.{rank, Rises};
-ghost use Rattle.offers.specs.Choices.{MayMoveBy, MayTakeBy, TakesNext, ChoosesBehindMoves};
+ghost use Rattle.offers.specs.Choices.{AsksAt, AsksOrTakes, ChoosesBehindMoves, FindsNextPlace, LeavesOrHasLeft, MayMoveBy, MayTakeBy, TakesNext, TakesOverdue};
 ghost use Rattle.pace.specs.UnderWay.{with_one};
 ghost use Rattle.offers.specs.Asks.{IsFirstAsk, MatchFirstAsk, MatchSoonest};
-ghost use Rattle.offers.specs.Left.{NoMoves, NoOthers, NoAsks, IsOtherAt, HasLeft, HaveLeft};
-ghost use Rattle.offers.specs.Turns.{IsAskOf, NoMovesLeft, IsAskOrOther, IsEarly, IsStill, IsBehindMoves, IsInTurn, Rests, RestsButMoves, Advances, PassesFew, since_ask, done_by};
+ghost use Rattle.offers.specs.Left.{NoMoves, NoOthers, NoAsks, IsOtherAt, HaveLeft};
+ghost use Rattle.offers.specs.Turns.{IsAskOf, NoMovesLeft, IsBehindMoves, IsInTurn, Rests, RestsButMoves, Advances, PassesFew, since_ask, done_by};
 
 use crate::book::{Book, MOST_IN_A_ROW, MOST_WITHOUT_A_SEARCH};
 use crate::deed::{Allowed, Deed};
@@ -162,11 +162,7 @@ impl Book {
 
     /// The first place of those that are left at which a file is read or refused, with the index of the file.
     fn next_place(&self) -> Option<(usize, usize)>
-        ensures some { IfSome result (λ p. IsOtherAt self.now p.0 p.1) }
-        ensures from { IfSome result (λ p. self.now.others ≤ p.0) }
-        ensures within { IfSome result (λ p. p.0 < 2 * length self.now.files) }
-        ensures before { IfSome result (λ p. NoOthers self.now self.now.others p.0) }
-        ensures none { result ≡ None → NoOthers self.now self.now.others (2 * length self.now.files) }
+        ensures { FindsNextPlace self.now result }
     {
         match self.next_entry() {
             Some(index) => Some((index, index)),
@@ -250,14 +246,6 @@ impl Book {
         }
     }
 
-    /// What the file at an index asks for.
-    fn request_at(&self, index: usize) -> FileRequest
-        requires { index < length self.now.files }
-        ensures { (d : Offer) → (slice_index_or self.now.files index d).request ≡ result }
-    {
-        self.offers[index].request
-    }
-
     /// Asks for the file at an index, which asks for this, where there is room in the window: it is under way from now on. It is left to see for which others
     /// the station may be asked.
     fn ask_at(&mut self, index: usize, request: FileRequest) -> Option<Deed>
@@ -265,11 +253,7 @@ impl Book {
         requires request { (d : Offer) → (slice_index_or self.old.files index d).request ≡ request }
         requires first { IsFirstAsk self.old index }
         requires left { self.old.asks ≡ true }
-        ensures rules { IfSome result (MayDo self.old) }
-        ensures kind { IfSome result (IsAskOf self.old index) }
-        ensures none { result ≡ None → 16 ≤ length self.old.window }
-        ensures same { self.new ≡ record (done_by result self.old) { asks = self.new.asks } }
-        ensures asks { self.new.asks ≡ true }
+        ensures { AsksAt index self.old self.new result }
     {
         let found = take_off(&mut self.known.window, &mut self.offers, &request);
         remark(
@@ -285,13 +269,11 @@ impl Book {
 
     /// Asks for the file that comes first, where that is allowed and there is room; where there is none, another is read or refused.
     fn ask_or_other(&mut self, asks: bool) -> Option<Deed>
-        ensures chooses { ChoosesBehindMoves self.old self.new result }
-        ensures turn { IsAskOrOther self.old asks result }
-        ensures still { result ≡ None → IsStill self.old self.new asks }
+        ensures { AsksOrTakes asks self.old self.new result }
     {
         match self.first_ask() {
             Some(index) => {
-                let request = self.request_at(index);
+                let request = self.offers[index].request;
                 if asks {
                     self.ask_at(index, request)
                 } else {
@@ -307,9 +289,7 @@ impl Book {
 
     /// What is read or refused next, where eight files were asked for in a row.
     fn overdue(&mut self) -> Option<Deed>
-        ensures takes { TakesNext self.old self.new result }
-        ensures row { IfSome result (λ _. 8 ≤ self.old.row) }
-        ensures early { result ≡ None → IsEarly self.old self.new }
+        ensures { TakesOverdue self.old self.new result }
     {
         if self.row >= MOST_IN_A_ROW {
             self.next_other()
@@ -352,8 +332,7 @@ impl Book {
 
     /// How the file that asks for this leaves the offers that was released under its number, if its moment has come.
     fn leaving_of(&self, request: FileRequest) -> Option<Deed>
-        ensures rules { IfSome result (MayDo self.now) }
-        ensures none { result ≡ None → HasLeft self.now request }
+        ensures { LeavesOrHasLeft self.now request result }
     {
         match index_of(self.offers.as_slice(), rank(request)) {
             Some(index) => self.move_at(index),

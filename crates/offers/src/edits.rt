@@ -3,7 +3,8 @@
 ghost use Rattle.std.specs.Prelude.{◌≡◌, ◌<◌, ℕ, MatchOption, None, length};
 ghost use Rattle.std.specs.Ordering.{nat_cmp};
 ghost use Rattle.offers.specs.Order.{rank, file_at, Rises, IsPlaceOf};
-ghost use Rattle.offers.specs.Stages.{after, changed, all_changed};
+ghost use Rattle.offers.specs.Edits.{TellsAll, TellsOne};
+ghost use Rattle.offers.specs.Stages.{after, changed};
 
 use crate::offer::Offer;
 use crate::order::rank;
@@ -45,8 +46,7 @@ fn tell_at(offers: &mut Vec<Offer>, index: usize, news: FileNews, now: u64)
 /// Takes in some news of a file, if it is there.
 pub(crate) fn tell(offers: &mut Vec<Offer>, request: FileRequest, news: FileNews, now: u64)
     requires { Rises offers.old.items }
-    ensures news { offers.new.items ≡ changed (rank request) (after news now) offers.old.items }
-    ensures rises { Rises offers.new.items }
+    ensures { TellsOne (rank request) (after news now) offers.old.items offers.new.items }
 {
     if let Some(index) = index_of(offers.as_slice(), rank(request)) {
         tell_at(offers, index, news, now);
@@ -56,8 +56,7 @@ pub(crate) fn tell(offers: &mut Vec<Offer>, request: FileRequest, news: FileNews
 /// Takes in what became of a number, of each file of it that is there.
 pub(crate) fn tell_all(offers: &mut Vec<Offer>, number: Number, landing: Landing, now: u64)
     requires { Rises offers.old.items }
-    ensures news { offers.new.items ≡ all_changed number (after (FileNews.Landed landing) now) offers.old.items }
-    ensures rises { Rises offers.new.items }
+    ensures { TellsAll number (after (FileNews.Landed landing) now) offers.old.items offers.new.items }
 {
     tell(
         offers,

@@ -18,7 +18,7 @@ mod rules;
 mod stage;
 mod under_way;
 
-pub use book::Book;
+pub use book::{Book, still_for};
 pub use deed::{Allowed, Deed};
 pub use offer::{FoundOffer, Offer};
 pub use order::rank;

@@ -1,7 +1,7 @@
 //! What may be done with each file now. It is kept up as each changes, so that what comes next is found without a walk over all.
 
 ghost use Rattle.std.specs.Prelude.{◌≡◌, [], true, false, IfOk, length};
-ghost use Rattle.offers.specs.Marks.{flag, move_mark, other_mark, ask_mark, HasRoom, NoMarks, IsMarkAt, IsUnmarkedFrom, MarksAll, RemarksFile, RemarksFiles, marked_at};
+ghost use Rattle.offers.specs.Marks.{flag, move_mark, other_mark, ask_mark, AreUnmarked, HasRoom, HaveMarks, IsMarkAt, IsUnmarkedFrom, MarksAll, RemarksFile, RemarksFiles, marked_at};
 ghost use Rattle.offers.specs.Moments.{AreNone};
 ghost use Rattle.offers.specs.Order.{rank, Rises};
 ghost use Rattle.offers.specs.Rules.{only_of};
@@ -142,8 +142,7 @@ impl Marks {
 
 /// Marks all files, of which none is marked.
 pub(crate) fn mark_all(marks: &mut Marks, offers: &[Offer], known: &RuleFacts)
-    requires room { HasRoom offers.now marks.old }
-    requires none { NoMarks marks.old }
+    requires { AreUnmarked offers.now marks.old }
     ensures { MarksAll known.now offers.now marks.new }
 {
     for index in 0..offers.len() {
@@ -154,8 +153,7 @@ pub(crate) fn mark_all(marks: &mut Marks, offers: &[Offer], known: &RuleFacts)
 
 /// Marks the file of a place anew, if it is there.
 fn remark_at(marks: &mut Marks, offers: &[Offer], known: &RuleFacts, place: u32)
-    requires rises { Rises offers.now }
-    requires room { HasRoom offers.now marks.old }
+    requires { HaveMarks offers.now marks.old }
     ensures { RemarksFile known.now offers.now place marks.old marks.new }
 {
     if let Some(index) = index_of(offers, place) {

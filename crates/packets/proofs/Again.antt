@@ -51,7 +51,7 @@ kind_again v kind rest h =
     rw (long, version, kind_back kind) refl
 
 header_again : (v : Version) (kind : PacketKind) (circuit from to number : ℕ) (b : Ballot) (rest : List ℕ) → circuit < 65536 → IsMember 15 from → IsMember 15 to → 1 ≤ number → number ≤ 999999 → IsBallot b → eqb from to ≡ false → may_send kind b.owner from to ≡ true
-    → header_at v (header_bytes v kind circuit from to number ++ ballot_bytes b ++ rest) ≡ Ok (record { kind = kind; circuit = circuit; from = from; to = to; number = number; ballot = b })
+    → header_at v (header_bytes v kind circuit from to number ++ ballot_bytes b ++ rest) ≡ Ok (record { kind = kind; route = record { circuit = circuit; from = from; to = to }; number = number; ballot = b })
 unfolding header_at members_at member_at number_at ballot_at
 header_again v kind circuit from to number b rest fits is_from is_to low high is differ send =
     let first = kind_again v kind (to_be_bytes w16 circuit ++ from ∷ to ∷ [] ++ to_be_bytes w32 number ++ ballot_bytes b ++ rest) (omega arith) in

@@ -122,5 +122,5 @@ read_what_fits v bytes p e =
     let a = bind_ok (header_at v bytes) _ p e in
     let h = a.0 in
     let b = bind_ok (body_at v h.kind h.ballot (drop 17 bytes)) _ p a.2 in
-    let made : Packet = record { circuit = h.circuit; from = h.from; to = h.to; number = h.number; ballot = h.ballot; body = b.0 } in
+    let made : Packet = record { circuit = h.route.circuit; from = h.route.from; to = h.route.to; number = h.number; ballot = h.ballot; body = b.0 } in
     subst (λ (x : Packet). BodyFits v x.body) (ok_is made p b.2) (body_fits v h.kind h.ballot (drop 17 bytes) b.0 b.1)

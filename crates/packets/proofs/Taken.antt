@@ -145,16 +145,16 @@ pub record TakesHeader (v : Version) (bytes : List ℕ) (h : Header) : Type 0 wh
   pub circuit : List ℕ
   pub number : List ℕ
   pub ballot : List ℕ
-  pub are : bytes ≡ 84 ∷ 78 ∷ number_of_version v ∷ kind_byte h.kind ∷ [] ++ circuit ++ h.from ∷ h.to ∷ [] ++ number ++ ballot ++ drop 17 bytes
-  pub spells_circuit : SpellsTwo circuit h.circuit
-  pub from_is_member : IsMember 15 h.from
-  pub to_is_member : IsMember 15 h.to
+  pub are : bytes ≡ 84 ∷ 78 ∷ number_of_version v ∷ kind_byte h.kind ∷ [] ++ circuit ++ h.route.from ∷ h.route.to ∷ [] ++ number ++ ballot ++ drop 17 bytes
+  pub spells_circuit : SpellsTwo circuit h.route.circuit
+  pub from_is_member : IsMember 15 h.route.from
+  pub to_is_member : IsMember 15 h.route.to
   pub spells_number : SpellsFour number h.number
   pub number_low : 1 ≤ h.number
   pub number_high : h.number ≤ 999999
   pub spells_ballot : SpellsBallot ballot h.ballot
-  pub differ : eqb h.from h.to ≡ false
-  pub send : may_send h.kind h.ballot.owner h.from h.to ≡ true
+  pub differ : eqb h.route.from h.route.to ≡ false
+  pub send : may_send h.kind h.ballot.owner h.route.from h.route.to ≡ true
 
 header_are : (c0 c1 c2 c3 c4 c5 c6 c7 version kind from to : ℕ) (rest : List ℕ) → c0 ≡ 84 → c1 ≡ 78 → c2 ≡ version → c3 ≡ kind → c6 ≡ from → c7 ≡ to
     → c0 ∷ c1 ∷ c2 ∷ c3 ∷ c4 ∷ c5 ∷ c6 ∷ c7 ∷ rest ≡ 84 ∷ 78 ∷ version ∷ kind ∷ c4 ∷ c5 ∷ from ∷ to ∷ rest
@@ -382,8 +382,8 @@ module _ (k : Packings) where
       let b = bind_ok (body_at v h.kind h.ballot (drop 17 bytes)) _ p a.2 in
       let first = header_takes v bytes h fits a.1 in
       let second = body_takes v h.kind h.ballot (drop 17 bytes) b.0 (IsBytes-drop 17 bytes fits) b.1 in
-      let made : Packet = record { circuit = h.circuit; from = h.from; to = h.to; number = h.number; ballot = h.ballot; body = b.0 } in
-      let send : may_send (kind_of b.0) h.ballot.owner h.from h.to ≡ true = ap (λ (j : PacketKind). may_send j h.ballot.owner h.from h.to) second.kind_is ∙ first.send in
+      let made : Packet = record { circuit = h.route.circuit; from = h.route.from; to = h.route.to; number = h.number; ballot = h.ballot; body = b.0 } in
+      let send : may_send (kind_of b.0) h.ballot.owner h.route.from h.route.to ≡ true = ap (λ (j : PacketKind). may_send j h.ballot.owner h.route.from h.route.to) second.kind_is ∙ first.send in
       let rules : keeps_rules made ≡ true = and_from _ _ (and_from _ _ (not_from_false _ first.differ) send) second.say in
       subst (λ (x : Packet). Spells v bytes x) (ok_is made p b.2) (record {
         circuit = first.circuit;
@@ -392,7 +392,7 @@ module _ (k : Packings) where
         body = drop 17 bytes;
         are =
             first.are
-            ∙ ap (λ j. 84 ∷ 78 ∷ number_of_version v ∷ j ∷ [] ++ first.circuit ++ h.from ∷ h.to ∷ [] ++ first.number ++ first.ballot ++ drop 17 bytes) (kind_number b.0 h.kind second.kind_is);
+            ∙ ap (λ j. 84 ∷ 78 ∷ number_of_version v ∷ j ∷ [] ++ first.circuit ++ h.route.from ∷ h.route.to ∷ [] ++ first.number ++ first.ballot ++ drop 17 bytes) (kind_number b.0 h.kind second.kind_is);
         spells_circuit = first.spells_circuit;
         from_is_member = first.from_is_member;
         to_is_member = first.to_is_member;

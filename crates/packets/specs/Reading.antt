@@ -9,7 +9,7 @@ use Rattle.protocol.specs.Rows.{Vote, vote_for}
 use Rattle.protocol.specs.Versions.{Version, One, Two}
 use Rattle.protocol.specs.Packets.{Packet, Body, Prepare, Promise, Accept, Accepted, Nack}
 use Rattle.protocol.specs.Limits.{most_members, is_number, most_frames_one}
-use Rattle.messages.specs.Rules.{may_send}
+use Rattle.messages.specs.Rules.{may_send, packet_with}
 use Rattle.packets.specs.Grammar.{number_of_version, said_version}
 use Rattle.packets.specs.declared.fault.PacketFault.{PacketFault}
 use Rattle.packets.specs.declared.fault.PacketFault.TheVariants.{Short, BadMark, BadVersion, BadKind, BadMember, BadNumber, BadBallot, BadSender, BadReport, BadFrames, BadPad, Long}
@@ -88,7 +88,7 @@ header_at v bytes = do
   number ← number_at bytes
   ballot ← wanted BadBallot (ballot_at bytes 12)
   if may_send kind ballot.owner ends.0 ends.1
-      then Ok (record { kind = kind; circuit = u16_at bytes 4; from = ends.0; to = ends.1; number = number; ballot = ballot })
+      then Ok (record { kind = kind; route = record { circuit = u16_at bytes 4; from = ends.0; to = ends.1 }; number = number; ballot = ballot })
       else Err BadSender
 
 -- a length that version 1 spells and that many frames, and what follows them
@@ -172,7 +172,7 @@ unfoldable pub packet_in : Version → List ℕ → Result Packet PacketFault
 packet_in v bytes = do
   header ← header_at v bytes
   body ← body_at v header.kind header.ballot (drop 17 bytes)
-  Ok (record { circuit = header.circuit; from = header.from; to = header.to; number = header.number; ballot = header.ballot; body = body })
+  Ok (packet_with header.route header.number header.ballot body)
 
 -- what a station of this version reads: version 1 alone at version 1, and at version 2 the version that the bytes say they are of
 abbrev pub packet_at : Version → List ℕ → Result Packet PacketFault

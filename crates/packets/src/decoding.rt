@@ -202,14 +202,7 @@ fn packet_of(bytes: &[u8], version: Version) -> Result<PacketRef<'_>, PacketFaul
     let header = header_of(bytes, version)?;
     let (_, rest) = bytes.split_at(HEADER_LEN);
     let body = body_of(header.kind, header.ballot, rest, version)?;
-    match PacketRef::new(
-        header.circuit,
-        header.from,
-        header.to,
-        header.number,
-        header.ballot,
-        body,
-    ) {
+    match PacketRef::new(header.route, header.number, header.ballot, body) {
         Some(packet) => Ok(packet),
         None => unreachable!(),
     }

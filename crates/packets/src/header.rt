@@ -3,12 +3,12 @@
 ghost use Rattle.std.specs.Prelude.{◌≡◌, ◌≤◌, ◌+◌, ◌==◌, length, OnOk, IfOk, true, false};
 ghost use Rattle.tape_frames.specs.Entries.{version_of};
 ghost use Rattle.packets.specs.Grammar.{number_of_version};
-ghost use Rattle.packets.specs.Reading.{kind_of_byte, kind_at, u16_at, u32_at, member_at, members_at, number_at, ballot_at, header_at};
+ghost use Rattle.packets.specs.Reading.{kind_of_byte, kind_at, u16_at, u32_at, member_at, members_at, ballot_at, header_at};
 ghost use Rattle.messages.specs.Rules.{may_send};
 
 use crate::fault::PacketFault;
 use ballots::{Ballot, Member, Number};
-use messages::{PacketKind, may_send};
+use messages::{PacketKind, Route, may_send};
 use tape_frames::Version;
 
 /// The length of a header.
@@ -18,9 +18,7 @@ pub(crate) const HEADER_LEN: usize = 17;
 #[derive(Clone, Copy)]
 pub(crate) struct Header {
     pub kind: PacketKind,
-    pub circuit: u16,
-    pub from: Member,
-    pub to: Member,
+    pub route: Route,
     pub number: Number,
     pub ballot: Ballot,
 }
@@ -110,17 +108,6 @@ fn members_of(bytes: &[u8]) -> Result<(Member, Member), PacketFault>
     Ok((from, to))
 }
 
-#[tactic(auto, unfolding(crate::specs::Reading::number_at))]
-fn number_of(bytes: &[u8]) -> Result<Number, PacketFault>
-    requires { 17 ≤ length bytes.now }
-    ensures { result ≡ number_at bytes.now }
-{
-    match Number::new(u32_of(bytes, 8)) {
-        Some(number) => Ok(number),
-        None => Err(PacketFault::BadNumber),
-    }
-}
-
 /// The round and the owner at this place, where they are a ballot.
 #[tactic(auto, unfolding(crate::specs::Reading::ballot_at))]
 pub(crate) fn ballot_of(bytes: &[u8], at: usize) -> Option<Ballot>
@@ -133,16 +120,18 @@ pub(crate) fn ballot_of(bytes: &[u8], at: usize) -> Option<Ballot>
 }
 
 /// The header that the bytes begin with in this version, or their first fault.
-#[tactic(auto, unfolding(crate::specs::Reading::header_at, crate::specs::Reading::kind_at))]
+#[tactic(auto, unfolding(crate::specs::Reading::header_at, crate::specs::Reading::kind_at, crate::specs::Reading::number_at))]
 pub(crate) fn header_of(bytes: &[u8], version: Version) -> Result<Header, PacketFault>
     ensures exact { result ≡ header_at (version_of version) bytes.now }
     ensures long { OnOk result (17 ≤ length bytes.now) }
-    ensures differ { IfOk result (λ h. (h.from == h.to) ≡ false) }
-    ensures sender { IfOk result (λ h. may_send h.kind h.ballot.owner h.from h.to ≡ true) }
+    ensures differ { IfOk result (λ h. (h.route.from == h.route.to) ≡ false) }
+    ensures sender { IfOk result (λ h. may_send h.kind h.ballot.owner h.route.from h.route.to ≡ true) }
 {
     let kind = kind_of(bytes, version)?;
     let (from, to) = members_of(bytes)?;
-    let number = number_of(bytes)?;
+    let Some(number) = Number::new(u32_of(bytes, 8)) else {
+        return Err(PacketFault::BadNumber);
+    };
     let Some(ballot) = ballot_of(bytes, 12) else {
         return Err(PacketFault::BadBallot);
     };
@@ -151,9 +140,11 @@ pub(crate) fn header_of(bytes: &[u8], version: Version) -> Result<Header, Packet
     }
     Ok(Header {
         kind,
-        circuit: u16_of(bytes, 4),
-        from,
-        to,
+        route: Route {
+            circuit: u16_of(bytes, 4),
+            from,
+            to,
+        },
         number,
         ballot,
     })

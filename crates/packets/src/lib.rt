@@ -10,4 +10,4 @@ pub mod laws;
 pub use decoding::decode;
 pub use encoding::{encode, encode_beside};
 pub use fault::PacketFault;
-pub use messages::{Body, BodyRef, Packet, PacketRef};
+pub use messages::{Body, BodyRef, Packet, PacketRef, Route};

@@ -1,5 +1,5 @@
 -- What is kept in mind of catching up, and what becomes of it.
-use Rattle.std.specs.Prelude.{◌≡◌, ◌⊎◌, ◌++◌, ℕ, true, false, List, [], ◌∷◌, length, Option, Some, None, is_some}
+use Rattle.std.specs.Prelude.{◌≡◌, ◌⊎◌, ◌++◌, ℕ, true, false, List, [], ◌∷◌, length, Option, Some, None, IfSome, is_some}
 use Rattle.protocol.specs.Circuit.{Datagram}
 use Rattle.node_core.specs.declared.turn.Note.{Note}
 use Rattle.node_core.specs.declared.turn.Note.TheVariants as notes
@@ -12,6 +12,7 @@ use Rattle.driver.specs.declared.sink.TakenStep.{TakenStep}
 use Rattle.rolls.specs.declared.aside.Aside.{Aside}
 use Rattle.catch_up.specs.Asked.{told_to}
 use Rattle.catch_up.specs.CatchUp.{CatchUpValue, IsNext, calm}
+use Rattle.catch_up.specs.Errands.{IsGoodErrand}
 use Rattle.catch_up.specs.Hearing.{IsHeard, with_taken}
 use Rattle.catch_up.specs.Lacking.{IsOutOf, SameGone, gone_in}
 use Rattle.catch_up.specs.Recalling.{left_in}
@@ -19,7 +20,9 @@ use Rattle.catch_up.specs.Waves.{out_in}
 use Rattle.catch_up.specs.Unheard.{heard_by}
 use Rattle.catch_up.specs.declared.errand.Errand.{Errand}
 use Rattle.catch_up.specs.declared.errand.Errand.TheVariants.{Send, Tell, Seek}
+use Rattle.folders.specs.Doings.{Doing}
 use Rattle.plant_care.specs.Asking.{is_search_due, IsSearched}
+use Rattle.plant_care.specs.declared.ask.RangeAsk.{RangeAsk}
 use Rattle.plant_care.specs.declared.care.Care.{Care}
 
 -- news came of a number, at most: what went out, what is recalled and what others asked stays
@@ -90,18 +93,24 @@ abbrev pub KeepsMissed : Care → Care → Type 0
 KeepsMissed old new = new ≡ record old { catch_up = new.catch_up; missed = new.missed; lacked = new.lacked }
 
 -- a search of what is asked for by hand: of the number whose turn it is; or there is none to begin
-abbrev pub IsSpent : Care → Care → Option Errand → Type 0
-IsSpent old new None = is_search_due new.ask ≡ false
-IsSpent old new (Some (Seek number)) = IsSearched old.ask new.ask number
+abbrev pub IsSpent : Option RangeAsk → Option RangeAsk → Option Errand → Type 0
+IsSpent old new None = is_search_due new ≡ false
+IsSpent old new (Some (Seek number)) = IsSearched old new number
 IsSpent old new (Some (Send to bytes)) = ⊥
 IsSpent old new (Some (Tell number to)) = ⊥
 
 -- what comes next: an errand of catching up; or, where that has none or no memory for it, a search that is asked for by hand, or nothing
 abbrev pub IsErrand : ℕ → Care → Care → Option Errand → Type 0
-IsErrand now old new None = (new.catch_up.is_stirred ≡ false) × IsSpent old new None
+IsErrand now old new None = (new.catch_up.is_stirred ≡ false) × IsSpent old.ask new.ask None
 IsErrand now old new (Some errand) =
     (IsNext (calm old.catch_up) (calm new.catch_up) now (Some errand) × (new.ask ≡ old.ask))
-    ⊎ ((new.catch_up.is_stirred ≡ false) × IsSpent old new (Some errand))
+    ⊎ ((new.catch_up.is_stirred ≡ false) × IsSpent old.ask new.ask (Some errand))
+
+-- that is found, and nothing else changes
+pub record FindsErrand (now : ℕ) (old new : Care) (errand : Option Errand) : Type 0 where
+  pub good : IfSome errand IsGoodErrand
+  pub next : IsErrand now old new errand
+  pub rest : new ≡ record old { catch_up = new.catch_up; ask = new.ask }
 
 -- the same, and the numbers that it asks for are to be told
 abbrev pub ComesNext : ℕ → Option Errand → Care → Care → Type 0
@@ -117,14 +126,19 @@ TakesTurns errand old new =
 abbrev pub Declines : Care → Care → Type 0
 Declines old new = (new ≡ record old { catch_up = new.catch_up; ask = new.ask }) × HasNews old.catch_up new.catch_up
 
--- what was told, or is to be noted, changes; a station that waits to know what went out still does, a range is still asked for, and it
--- asks on its own as before
+-- what was told of what is asked for changes, and what is lacked; a station asks on its own as before
 abbrev pub KeepsRest : Care → Care → Type 0
 KeepsRest old new =
-    (new ≡ record old { catch_up = new.catch_up; unnoted = new.unnoted; missed = new.missed; told_few = new.told_few; lacked = new.lacked })
+    (new ≡ record old { catch_up = new.catch_up; told_few = new.told_few; lacked = new.lacked })
     × (new.catch_up.asks ≡ old.catch_up.asks)
 
--- what went out is noted, all of it, or for now nothing
-abbrev pub NotesAll : Care → Care → Type 0
-NotesAll old new =
-    (new ≡ record old { unnoted = new.unnoted; notes = new.notes }) × ((new.unnoted.items ≡ []) ⊎ (new.unnoted.items ≡ old.unnoted.items))
+-- what went out is noted, all of it, or for now nothing; with the offers nothing is done
+pub record NotesAll {F : Type 0} (doings : F → Option (List Doing)) (folders folders' : F) (old new : Care) : Type 0 where
+  pub notes : new ≡ record old { unnoted = new.unnoted; notes = new.notes }
+  pub left : (new.unnoted.items ≡ []) ⊎ (new.unnoted.items ≡ old.unnoted.items)
+  pub does : doings folders' ≡ doings folders
+
+-- the names of the files that were written are seen to, and what is told of that is all that changes; with the offers nothing is done
+pub record SettlesNames {F : Type 0} (doings : F → Option (List Doing)) (folders folders' : F) (old new : Care) : Type 0 where
+  pub notes : new ≡ record old { notes = new.notes }
+  pub does : doings folders' ≡ doings folders

@@ -1,7 +1,9 @@
 -- How a station starts to catch up.
-use Rattle.std.specs.Prelude.{◌≡◌, Bool, true, false, [], Option, Some, None}
+use Rattle.std.specs.Prelude.{◌≡◌, Bool, true, false, List, [], Option, Some, None, Result, IfOk}
+use Rattle.std.specs.Global.{Box}
 use Rattle.node_core.specs.declared.turn.Note.{Note}
 use Rattle.node_core.specs.declared.turn.Note.TheVariants as notes
+use Rattle.folders.specs.Doings.{Doing}
 use Rattle.folders.specs.declared.fault.FolderFault.{FolderFault}
 use Rattle.plant_care.specs.declared.beginning.Opening.{Opening}
 use Rattle.plant_care.specs.declared.beginning.CareStart.{CareStart}
@@ -28,6 +30,22 @@ pub record StartsFrom (start : CareStart) (c : Care) : Type 0 where
   pub quiet : c.is_quiet ≡ start.is_quiet
   pub unnoted : c.unnoted.items ≡ []
   pub ask : c.ask ≡ None
+
+-- a station begins to catch up, unless there is no memory for that; with the offers nothing is done
+pub record Begins {F : Type 0} (doings : F → Option (List Doing)) (start : CareStart) (folders folders' : F) {E : Type 0} (result : Result (Box Care) E) : Type 0 where
+  pub starts : IfOk result (λ care. StartsFrom start care.value)
+  pub does : doings folders' ≡ doings folders
+
+-- a station that asks for nothing on its own does not begin to at a look; with the offers nothing is done
+pub record LooksAgain {F : Type 0} (doings : F → Option (List Doing)) (folders folders' : F) (old new : Care) : Type 0 where
+  pub does : doings folders' ≡ doings folders
+  pub off : IsOff old → IsOff new
+
+-- where it waits to be known what went out, that was read again, or it waits on; a station that asks for nothing on its own does not begin to
+pub record BeginsAgain {F : Type 0} (doings : F → Option (List Doing)) (folders folders' : F) (old new : Care) : Type 0 where
+  pub does : doings folders' ≡ doings folders
+  pub off : IsOff old → IsOff new
+  pub rest : new ≡ record old { catch_up = new.catch_up; waiting = new.waiting }
 
 -- whether a step with this note saved a row, and whether that has a vote
 abbrev pub saved_by : Note → Option Bool

@@ -1,7 +1,7 @@
 //! What a station knows at its start of what went out, and of what it may lack.
 
 ghost use Rattle.std.specs.Prelude.{◌≡◌, false, IfOk};
-ghost use Rattle.plant_care.specs.Starting.{IsOff, IsOpeningOf, saved_by, StartsFrom, WaitsOn};
+ghost use Rattle.plant_care.specs.Starting.{Begins, BeginsAgain, IsOpeningOf, saved_by, WaitsOn};
 
 use crate::care::Care;
 use ballots::Number;
@@ -60,64 +60,38 @@ fn told_of<E: Write>(alloc: Global, known: &Known, went: WentOut, err: &mut E) -
     }
 }
 
-/// A station that starts by its rows, and by what went out.
-fn opened(start: CareStart, gone: Gone, now: u64) -> Result<Opening, AllocError>
+/// A station that starts, at a moment, by its rows, and by what went out. Where that can't be read now, it answers no roll and asks for
+/// nothing until it can be.
+fn opened(
+    start: CareStart,
+    gone: Result<Gone, FolderFault>,
+    now: u64,
+) -> Result<Opening, AllocError>
     ensures { IfOk result (IsOpeningOf start) }
 {
-    let first = First {
-        own: start.own,
-        known: start.known,
-        gone: gone.numbers,
-        is_first: gone.is_first,
-        asks: start.catches_up,
-    };
-    Ok(Opening {
-        catch_up: CatchUp::new(start.alloc, first, now)?,
-        waiting: None,
-    })
+    let alloc = start.alloc;
+    match gone {
+        Ok(gone) => Ok(Opening {
+            catch_up: CatchUp::new(alloc, start.first(gone), now)?,
+            waiting: None,
+        }),
+        Err(fault) => Ok(Opening {
+            catch_up: CatchUp::new(alloc, unread(start.own), now)?,
+            waiting: Some((start, fault)),
+        }),
+    }
 }
 
-/// The same where it can't be read now what went out: until it can be, it answers no roll and asks for nothing.
-fn unread(start: CareStart, fault: FolderFault, now: u64) -> Result<Opening, AllocError>
-    ensures { IfOk result (IsOpeningOf start) }
+/// From what a station starts where it can't be read what went out: it asks for nothing.
+fn unread(own: Origin) -> First
+    ensures { (result.own ≡ own) × (result.asks ≡ false) }
 {
-    let first = First {
-        own: start.own,
+    First {
+        own,
         known: None,
         gone: None,
         is_first: false,
         asks: false,
-    };
-    Ok(Opening {
-        catch_up: CatchUp::new(start.alloc, first, now)?,
-        waiting: Some((start, fault)),
-    })
-}
-
-/// A station that starts, at a moment, by its rows and what went out.
-fn begun<F: Folders, E: Write>(
-    start: CareStart,
-    folders: &mut F,
-    now: u64,
-    err: &mut E,
-) -> Result<Opening, AllocError>
-    ensures opening { IfOk result (IsOpeningOf start) }
-    ensures does { F.doings folders.new ≡ F.doings folders.old }
-{
-    let unkept = Gone {
-        numbers: None,
-        is_first: false,
-    };
-    let Some(known) = &start.known else {
-        return opened(start, unkept, now);
-    };
-    match folders.went_out(start.alloc, &start.own, &known.rows) {
-        Ok(Some(went)) => {
-            let gone = told_of(start.alloc, known, went, err);
-            opened(start, gone, now)
-        }
-        Ok(None) => opened(start, unkept, now),
-        Err(fault) => unread(start, fault, now),
     }
 }
 
@@ -131,11 +105,11 @@ pub fn begin<F: Folders, E: Write>(
     folders: &mut F,
     err: &mut E,
 ) -> Result<Box<Care>, AllocError>
-    ensures starts { IfOk result (λ care. StartsFrom start care.value) }
-    ensures does { F.doings folders.new ≡ F.doings folders.old }
+    ensures { Begins F.doings start folders.old folders.new result }
 {
     let (alloc, is_quiet) = (start.alloc, start.is_quiet);
-    let Opening { catch_up, waiting } = begun(start, folders, 0, err)?;
+    let gone = start.went_out(folders, err);
+    let Opening { catch_up, waiting } = opened(start, gone, 0)?;
     if let Some((_, fault)) = &waiting {
         tell_unread(alloc, *fault, err);
     }
@@ -154,6 +128,40 @@ fn saved_by(note: &Note) -> Option<bool>
 }
 
 impl CareStart {
+    /// What went out there, where the rows are known, as the folders have it; what there is to tell of it is told.
+    fn went_out<F: Folders, E: Write>(
+        &self,
+        folders: &mut F,
+        err: &mut E,
+    ) -> Result<Gone, FolderFault>
+        ensures { F.doings folders.new ≡ F.doings folders.old }
+    {
+        let unkept = Gone {
+            numbers: None,
+            is_first: false,
+        };
+        let Some(known) = &self.known else {
+            return Ok(unkept);
+        };
+        match folders.went_out(self.alloc, &self.own, &known.rows)? {
+            Some(went) => Ok(told_of(self.alloc, known, went, err)),
+            None => Ok(unkept),
+        }
+    }
+
+    /// From what a station starts by its rows, and by what went out.
+    fn first(self, gone: Gone) -> First
+        ensures { (result.own ≡ self.own) × (result.asks ≡ self.catches_up) }
+    {
+        First {
+            own: self.own,
+            known: self.known,
+            gone: gone.numbers,
+            is_first: gone.is_first,
+            asks: self.catches_up,
+        }
+    }
+
     /// A row of a number was saved, which has a vote or has none.
     fn save(&mut self, number: Number, has_vote: bool)
         ensures { self.new ≡ record self.old { known = self.new.known } }
@@ -194,13 +202,13 @@ impl Care {
         now: u64,
         log: &mut Log<'_, E>,
     )
-        ensures does { F.doings folders.new ≡ F.doings folders.old }
-        ensures off { IsOff self.old → IsOff self.new }
+        ensures { BeginsAgain F.doings folders.old folders.new self.old self.new }
     {
         let Some((start, _)) = self.waiting.take() else {
             return;
         };
-        match begun(start, folders, now, log.err) {
+        let gone = start.went_out(folders, log.err);
+        match opened(start, gone, now) {
             Ok(begun) => {
                 self.waiting = begun.waiting;
                 if self.waiting.is_none() {

@@ -3,10 +3,11 @@
 ghost use Rattle.std.specs.Prelude.{◌≡◌, ◌||◌, [], None, IfSome, false};
 ghost use Rattle.catch_up.specs.Errands.{IsGoodErrand};
 ghost use Rattle.plant_care.specs.Asking.{is_search_due};
-ghost use Rattle.plant_care.specs.Caring.{ComesNext, Declines, IsAskHeard, IsAsideHeard, IsDone, IsErrand, IsHeardSo, IsNoted, IsPacketHeard, IsSpent, KeepsGone, KeepsMissed, TakesTurns, told_by};
+ghost use Rattle.plant_care.specs.Caring.{ComesNext, Declines, FindsErrand, IsAskHeard, IsAsideHeard, IsDone, IsHeardSo, IsNoted, IsPacketHeard, KeepsGone, KeepsMissed, TakesTurns, told_by};
 
 use crate::ask::RangeAsk;
 use crate::beginning::CareStart;
+use crate::ranges::{decline_by_hand, hear_by_hand, is_search_due, next_by_hand};
 use crate::surveying::add_lacked;
 use ballots::Number;
 use catch_up::{CatchUp, Errand, PacketHead, Unheard};
@@ -167,7 +168,7 @@ impl Care {
         ensures { IsAskHeard self.old self.new }
     {
         if let Some(number) = step.answer.number {
-            self.hear_by_hand(number, step);
+            hear_by_hand(&mut self.ask, number, step);
             self.keep_saved(number, step);
         }
     }
@@ -201,28 +202,19 @@ impl Care {
     pub fn has_errand(&self) -> bool
         ensures { result ≡ (self.now.catch_up.is_stirred || is_search_due self.now.ask) }
     {
-        self.catch_up.has_errand() || self.is_search_due()
-    }
-
-    /// The next search of what is asked for by hand.
-    fn seek_by_hand(&mut self, now: u64) -> Option<Errand>
-        ensures good { IfSome result IsGoodErrand }
-        ensures next { IsSpent self.old self.new result }
-        ensures rest { self.new ≡ record self.old { ask = self.new.ask } }
-    {
-        let number = self.next_by_hand(now)?;
-        Some(Errand::Seek { number })
+        self.catch_up.has_errand() || is_search_due(&self.ask)
     }
 
     /// The next errand of catching up, or else of what is asked for by hand. Where there is no memory for it, it comes later.
     fn next_of_all(&mut self, chance: Chance) -> Option<Errand>
-        ensures good { IfSome result IsGoodErrand }
-        ensures next { IsErrand chance.moment self.old self.new result }
-        ensures rest { self.new ≡ record self.old { catch_up = self.new.catch_up; ask = self.new.ask } }
+        ensures { FindsErrand chance.moment self.old self.new result }
     {
         match self.catch_up.next(chance.moment, chance.waits) {
             Ok(Some(errand)) => Some(errand),
-            Ok(None) | Err(_) => self.seek_by_hand(chance.moment),
+            Ok(None) | Err(_) => match next_by_hand(&mut self.ask, chance.moment) {
+                Some(number) => Some(Errand::Seek { number }),
+                None => None,
+            },
         }
     }
 
@@ -246,7 +238,7 @@ impl Care {
     pub fn decline(&mut self, declined: Declined, released: Option<bool>)
         ensures { Declines self.old self.new }
     {
-        self.decline_by_hand(&declined, released);
+        decline_by_hand(&mut self.ask, &declined, released);
         let _ = self.catch_up.declined(declined.number, declined.moment);
     }
 }

@@ -1,7 +1,6 @@
 //! What is noted of what went out, behind the files that were written.
 
-ghost use Rattle.std.specs.Prelude.{◌≡◌};
-ghost use Rattle.plant_care.specs.Caring.{NotesAll};
+ghost use Rattle.plant_care.specs.Caring.{NotesAll, SettlesNames};
 
 use crate::care::Care;
 use driver::Log;
@@ -16,8 +15,7 @@ impl Care {
         now: u64,
         log: &mut Log<'_, E>,
     )
-        ensures notes { NotesAll self.old self.new }
-        ensures does { F.doings folders.new ≡ F.doings folders.old }
+        ensures { NotesAll F.doings folders.old folders.new self.old self.new }
     {
         if self.unnoted.is_empty() {
             return;
@@ -33,8 +31,7 @@ impl Care {
 
     /// Sees to it that the disk has the names of all files that were written, and what went out, at a moment. That it can't is told.
     pub fn settle<F: Folders, E: Write>(&mut self, folders: &mut F, now: u64, log: &mut Log<'_, E>)
-        ensures notes { self.new ≡ record self.old { notes = self.new.notes } }
-        ensures does { F.doings folders.new ≡ F.doings folders.old }
+        ensures { SettlesNames F.doings folders.old folders.new self.old self.new }
     {
         if let Err(fault) = folders.settle(self.alloc) {
             self.notes.cannot_note(self.alloc, fault, now, log.err);

@@ -62,6 +62,64 @@ fn hand_of(alloc: Global, span: &Span, catch_up: &CatchUp) -> Result<Hand, Alloc
     Hand::new(alloc, first, last, &numbers)
 }
 
+/// Whether there may be a search to begin of a range that is asked for.
+pub(crate) fn is_search_due(asked: &Option<RangeAsk>) -> bool
+    ensures { result ≡ is_search_due asked.now }
+{
+    match asked {
+        Some(ask) => ask.is_stirred,
+        None => false,
+    }
+}
+
+/// A look came to pass: there may be a search to begin of the range that is asked for.
+pub(crate) fn look_by_hand(asked: &mut Option<RangeAsk>) {
+    if let Some(ask) = asked {
+        ask.is_stirred = true;
+    }
+}
+
+/// The next search of the range that is asked for, at a moment, if there is one.
+pub(crate) fn next_by_hand(asked: &mut Option<RangeAsk>, now: u64) -> Option<Number>
+    ensures next { IfSome result (IsSearched asked.old asked.new) }
+    ensures none { result ≡ None → is_search_due asked.new ≡ false }
+{
+    match asked {
+        Some(ask) => ask.next(now),
+        None => None,
+    }
+}
+
+/// A step about a number was taken: what came of it is an answer, where the number is of the range that is asked for.
+pub(crate) fn hear_by_hand(asked: &mut Option<RangeAsk>, number: Number, step: &TakenStep) {
+    let Some(ask) = asked else {
+        return;
+    };
+    match &step.answer.release {
+        Some(release) => ask.answered(number, is_tape(&release.entry.lend())),
+        None => ask.hear(number, &step.answer.note, step.moment),
+    }
+}
+
+/// The station did not take a search: what was released under its number since the start, a tape or not, is the answer, if anything was,
+/// and else it is searched later.
+pub(crate) fn decline_by_hand(
+    asked: &mut Option<RangeAsk>,
+    declined: &Declined,
+    released: Option<bool>,
+) {
+    let Some(ask) = asked else {
+        return;
+    };
+    let number = declined.number;
+    match released {
+        Some(is_tape) if declined.refusal == StepRefusal::AlreadyReleased => {
+            ask.answered(number, is_tape);
+        }
+        _ => ask.put_off(number, declined.moment),
+    }
+}
+
 impl Care {
     /// Whether a range is asked for.
     pub fn is_asking(&self) -> bool
@@ -84,16 +142,6 @@ impl Care {
         span.last.is_some() || self.knows_circuit()
     }
 
-    /// Whether there may be a search of it to begin.
-    pub(crate) fn is_search_due(&self) -> bool
-        ensures { result ≡ is_search_due self.now.ask }
-    {
-        match &self.ask {
-            Some(ask) => ask.is_stirred,
-            None => false,
-        }
-    }
-
     /// A range is asked for by a file, at a moment: each of its numbers is to be searched, or where it has no last one, each of which the
     /// circuit may have something. Where there is no memory for that, it is asked for later.
     pub fn begin_ask(&mut self, span: Span, stamp: Stamp, now: u64)
@@ -107,57 +155,6 @@ impl Care {
                 from: now,
                 is_stirred: true,
             });
-        }
-    }
-
-    /// A look came to pass: there may be a search to begin of the range that is asked for.
-    pub(crate) fn look_by_hand(&mut self)
-        ensures { self.new ≡ record self.old { ask = self.new.ask } }
-    {
-        if let Some(ask) = &mut self.ask {
-            ask.is_stirred = true;
-        }
-    }
-
-    /// The next search of the range that is asked for, at a moment, if there is one.
-    pub(crate) fn next_by_hand(&mut self, now: u64) -> Option<Number>
-        ensures next { IfSome result (IsSearched self.old.ask self.new.ask) }
-        ensures none { result ≡ None → is_search_due self.new.ask ≡ false }
-        ensures rest { self.new ≡ record self.old { ask = self.new.ask } }
-    {
-        match &mut self.ask {
-            Some(ask) => ask.next(now),
-            None => None,
-        }
-    }
-
-    /// A step about a number was taken: what came of it is an answer, where the number is of the range.
-    pub(crate) fn hear_by_hand(&mut self, number: Number, step: &TakenStep)
-        ensures { self.new ≡ record self.old { ask = self.new.ask } }
-    {
-        let Some(ask) = &mut self.ask else {
-            return;
-        };
-        match &step.answer.release {
-            Some(release) => ask.answered(number, is_tape(&release.entry.lend())),
-            None => ask.hear(number, &step.answer.note, step.moment),
-        }
-    }
-
-    /// The station did not take a search: what was released under its number since the start, a tape or not, is the answer, if anything was,
-    /// and else it is searched later.
-    pub(crate) fn decline_by_hand(&mut self, declined: &Declined, released: Option<bool>)
-        ensures { self.new ≡ record self.old { ask = self.new.ask } }
-    {
-        let Some(ask) = &mut self.ask else {
-            return;
-        };
-        let number = declined.number;
-        match released {
-            Some(is_tape) if declined.refusal == StepRefusal::AlreadyReleased => {
-                ask.answered(number, is_tape);
-            }
-            _ => ask.put_off(number, declined.moment),
         }
     }
 

@@ -3,46 +3,54 @@
 ghost use Rattle.std.specs.Prelude.{◌≡◌};
 ghost use Rattle.catch_up_log.specs.Missed.{missed_after};
 ghost use Rattle.plant_care.specs.Caring.{KeepsRest};
-ghost use Rattle.plant_care.specs.Starting.{IsOff};
+ghost use Rattle.plant_care.specs.Starting.{LooksAgain};
 
 use crate::care::Care;
+use crate::ranges::look_by_hand;
 use ballots::Number;
-use catch_up::{ToldBy, Wave};
+use catch_up::{CatchUp, ToldBy, Wave};
 use catch_up_log::{Caught, tell_caught_up, tell_few, tell_missing};
 use driver::Log;
 use folders::Folders;
 use gone_out::Numbers;
+use std::alloc::Global;
 use std::io::Write;
 
+/// These numbers went out before that was kept, and are to be noted. One for which there is no memory is asked for at the next start.
+fn note_all(unnoted: &mut Vec<Number>, numbers: &Numbers) {
+    for before in 0..Number::LAST {
+        if let Some(number) = Number::new(before + 1)
+            && numbers.contains(number)
+        {
+            let _ = unnoted.push(number);
+        }
+    }
+}
+
+/// Tells at the first start that keeps what went out, once a majority told its votes, which numbers may be missing here, and notes them.
+fn tell_from_before<E: Write>(
+    alloc: Global,
+    catch_up: &mut CatchUp,
+    unnoted: &mut Vec<Number>,
+    log: &mut Log<'_, E>,
+)
+    ensures { catch_up.new.asks ≡ catch_up.old.asks }
+{
+    if let Some(numbers) = catch_up.take_from_before() {
+        tell_missing(alloc, &numbers, log.err);
+        note_all(unnoted, &numbers);
+    }
+}
+
 impl Care {
-    /// These numbers went out before that was kept, and are to be noted. One for which there is no memory is asked for at the next start.
-    fn note_all(&mut self, numbers: &Numbers)
-        ensures { self.new ≡ record self.old { unnoted = self.new.unnoted } }
-    {
-        for before in 0..Number::LAST {
-            if let Some(number) = Number::new(before + 1)
-                && numbers.contains(number)
-            {
-                let _ = self.unnoted.push(number);
-            }
-        }
-    }
-
-    /// Tells at the first start that keeps what went out, once a majority told its votes, which numbers may be missing here, and notes them.
-    fn tell_from_before<E: Write>(&mut self, log: &mut Log<'_, E>)
-        ensures { KeepsRest self.old self.new }
-    {
-        if let Some(numbers) = self.catch_up.take_from_before() {
-            tell_missing(self.alloc, &numbers, log.err);
-            self.note_all(&numbers);
-        }
-    }
-
-    /// Tells what came of the numbers that were asked for, once nothing is lacked any more, unless faults alone are told; or, where no
-    /// majority told its votes, by how many they were told, once.
+    /// Once all numbers that are asked for are told, tells what came of them, where nothing is lacked any more, unless faults alone are told;
+    /// or, where no majority told its votes, by how many they were told, once.
     fn tell_wave<E: Write>(&mut self, log: &mut Log<'_, E>)
         ensures { KeepsRest self.old self.new }
     {
+        if !self.missed.is_empty() {
+            return;
+        }
         if let Some(wave) = self.catch_up.take_wave() {
             let Wave {
                 released,
@@ -68,26 +76,16 @@ impl Care {
         self.missed.tell(self.alloc, now, log.err);
     }
 
-    /// Tells at a moment what there is to tell.
-    fn tell<E: Write>(&mut self, now: u64, log: &mut Log<'_, E>)
-        ensures { KeepsRest self.old self.new }
-    {
-        self.tell_missed(now, log);
-        if self.missed.is_empty() {
-            self.tell_wave(log);
-        }
-        self.tell_from_before(log);
-    }
-
     /// A look at the folders came to pass, at a moment: where it could not be read what went out, that is tried again; what is lacked is
     /// looked for again, and what is asked for by hand; and what there is to tell is told.
     pub fn look<F: Folders, E: Write>(&mut self, folders: &mut F, now: u64, log: &mut Log<'_, E>)
-        ensures does { F.doings folders.new ≡ F.doings folders.old }
-        ensures off { IsOff self.old → IsOff self.new }
+        ensures { LooksAgain F.doings folders.old folders.new self.old self.new }
     {
         self.begin_again(folders, now, log);
         self.catch_up.look();
-        self.look_by_hand();
-        self.tell(now, log);
+        look_by_hand(&mut self.ask);
+        self.tell_missed(now, log);
+        self.tell_wave(log);
+        tell_from_before(self.alloc, &mut self.catch_up, &mut self.unnoted, log);
     }
 }

@@ -1,6 +1,7 @@
 pub mod Words
 pub mod Telling
 pub mod Standing
+pub mod Keeping
 pub mod Skipping
 pub mod Differing
 pub mod Stories

@@ -1,5 +1,5 @@
 -- What is told of a number in the usual log, from when it is asked for until it is released.
-use Rattle.std.specs.Prelude.{◌≡◌, ◌+◌, ◌⊎◌, ℕ, Bool, true, false, Option, Some, None, nat_le, if◌then◌else◌}
+use Rattle.std.specs.Prelude.{◌≡◌, ◌+◌, ◌⊎◌, ℕ, List, Bool, true, false, Option, Some, None, nat_le, if◌then◌else◌}
 use Rattle.std.specs.Ordering.{nat_cmp}
 use Rattle.std.specs.BTreeMap.{BTreeMap, get, Updates}
 use Rattle.plant_log.specs.declared.event.LogEvent.{LogEvent}
@@ -12,6 +12,9 @@ use Rattle.plant_log.specs.declared.story.StoryChange.{StoryChange}
 use Rattle.plant_log.specs.declared.story.StoryNote.{StoryNote}
 use Rattle.plant_log.specs.declared.story.BallotTurn.{BallotTurn}
 use Rattle.plant_log.specs.declared.story.BallotTurn.TheVariants.{Begins, Ends}
+use Rattle.plant_log.specs.Words.{event_text}
+use Rattle.plant_log.specs.Keeping.{Forgets, HasRoom}
+use Rattle.plant_log.specs.Telling.{TellsIf}
 
 -- of the ballots that are begun the second is told
 abbrev pub is_second : Begun → Bool
@@ -45,17 +48,18 @@ known None = first_story
 known (Some s) = s
 
 -- it was told of the ballots of a number, or not, and is kept in mind; or there is no room for a number more, and it was told
-abbrev pub HearsOf : ℕ → BallotTurn → ℕ → Bool → BTreeMap ℕ StoryNote → BTreeMap ℕ StoryNote → Type 0
-HearsOf n turn now told old new =
-    ((told ≡ (heard (known (get nat_cmp old n)) turn now).is_told) × Updates nat_cmp old new n (Some (heard (known (get nat_cmp old n)) turn now).story))
-    ⊎ ((told ≡ true) × (get nat_cmp old n ≡ None) × (new.entries ≡ old.entries))
+pub record HearsOf (n : ℕ) (turn : BallotTurn) (now : ℕ) (told : Bool) (old new : BTreeMap ℕ StoryNote) : Type 0 where
+  pub hears :
+      ((told ≡ (heard (known (get nat_cmp old n)) turn now).is_told) × Updates nat_cmp old new n (Some (heard (known (get nat_cmp old n)) turn now).story))
+      ⊎ ((told ≡ true) × (get nat_cmp old n ≡ None) × (new.entries ≡ old.entries))
+  pub bound : HasRoom old new
 
 -- what befell a number was told in the usual log, or not: a release is, and its number is forgotten; that a file was sent, or a search answered, is not
 abbrev pub Hears : LogEvent → ℕ → Bool → BTreeMap ℕ StoryNote → BTreeMap ℕ StoryNote → Type 0
 Hears (Began n b) now told old new = HearsOf n Begins now told old new
 Hears (GaveUp n b) now told old new = HearsOf n Ends now told old new
 Hears (Nothing n b) now told old new = HearsOf n Ends now told old new
-Hears (Released n) now told old new = (told ≡ true) × Updates nat_cmp old new n None
+Hears (Released n) now told old new = (told ≡ true) × Forgets n old new
 Hears (Sent n) now told old new = (told ≡ false) × (new.entries ≡ old.entries)
 Hears (Lost n) now told old new = (told ≡ true) × (new.entries ≡ old.entries)
 Hears (Done n) now told old new = (told ≡ false) × (new.entries ≡ old.entries)
@@ -66,6 +70,10 @@ abbrev pub IsHeard : Loudness → LogEvent → ℕ → Bool → BTreeMap ℕ Sto
 IsHeard loudness.Faults event now told old new = told ≡ false
 IsHeard loudness.Usual event now told old new = Hears event now told old new
 IsHeard loudness.All event now told old new = told ≡ true
+
+-- the line of what befell a number, where so much is told and this is
+abbrev pub TellsHeard : Loudness → LogEvent → ℕ → BTreeMap ℕ StoryNote → BTreeMap ℕ StoryNote → Option (List ℕ) → Option (List ℕ) → Type 0
+TellsHeard much event now last next old new = (told : Bool) × IsHeard much event now told last next × TellsIf (told ≡ true) (event_text event) old new
 
 -- why a file is no offer is told, unless faults alone are
 abbrev pub IsTellingRefused : Loudness → Type 0

@@ -17,8 +17,8 @@ pub(crate) struct Differences {
     sender: Option<u64>,
 }
 
-/// Whether it is time to tell again at a moment what was told at this one, if it was.
-fn is_time(told: Option<u64>, now: u64) -> bool
+/// Whether it is time to tell again at a moment what was told at this one, if it was: a second has passed. Both are in milliseconds.
+pub fn is_time(told: Option<u64>, now: u64) -> bool
     ensures { result ≡ is_time told now }
 {
     match told {

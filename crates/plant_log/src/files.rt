@@ -1,9 +1,10 @@
 //! Faults of files that go on.
 
-ghost use Rattle.std.specs.Prelude.{◌≡◌, ◌≤◌, [], None};
+ghost use Rattle.std.specs.Prelude.{◌≡◌, []};
 ghost use Rattle.std.specs.Ordering.{nat_cmp};
-ghost use Rattle.std.specs.BTreeMap.{btree_map_len, get, Updates};
+ghost use Rattle.std.specs.BTreeMap.{get};
 ghost use Rattle.offers.specs.Order.{rank};
+ghost use Rattle.plant_log.specs.Keeping.{Forgets};
 ghost use Rattle.plant_log.specs.Troubles.{is_gone, Notices};
 
 use crate::room::keep;
@@ -53,11 +54,12 @@ impl ToldFaults {
         }
     }
 
-    /// Whether a fault of the file at this place is told, at a moment in milliseconds.
-    fn notice(&mut self, key: u32, fault: FolderFault, now: u64) -> bool
-        ensures notices { Notices key fault now result self.old.kept self.new.kept }
-        ensures bound { btree_map_len self.old.kept ≤ 65_536 → btree_map_len self.new.kept ≤ 65_536 }
+    /// Whether a trouble with a file is told, at a moment in milliseconds.
+    pub(crate) fn is_told(&mut self, trouble: &Trouble, now: u64) -> bool
+        ensures { Notices (rank trouble.now.request) trouble.now.fault now result self.old.kept self.new.kept }
     {
+        let key = rank(trouble.request);
+        let fault = trouble.fault;
         if is_gone(fault) || !is_told_anew(self.last(key), fault, now) {
             return false;
         }
@@ -65,18 +67,9 @@ impl ToldFaults {
         true
     }
 
-    /// Whether a trouble with a file is told, at a moment in milliseconds.
-    pub(crate) fn is_told(&mut self, trouble: &Trouble, now: u64) -> bool
-        ensures notices { Notices (rank trouble.now.request) trouble.now.fault now result self.old.kept self.new.kept }
-        ensures bound { btree_map_len self.old.kept ≤ 65_536 → btree_map_len self.new.kept ≤ 65_536 }
-    {
-        self.notice(rank(trouble.request), trouble.fault, now)
-    }
-
     /// The file that asks for this was read, or moved: what was told of it is forgotten.
     pub(crate) fn done(&mut self, request: FileRequest)
-        ensures forgets { Updates nat_cmp self.old.kept self.new.kept (rank request) None }
-        ensures bound { btree_map_len self.new.kept ≤ btree_map_len self.old.kept }
+        ensures { Forgets (rank request) self.old.kept self.new.kept }
     {
         self.kept.remove(&rank(request));
     }

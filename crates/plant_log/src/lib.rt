@@ -16,6 +16,7 @@ mod story;
 mod told;
 mod writing;
 
+pub use differences::is_time;
 pub use event::LogEvent;
 pub use files::Trouble;
 pub use line::FileTrouble;
@@ -23,4 +24,6 @@ pub use reason::{NO_NUMBER, ReasonText};
 pub use room::MOST_KEPT;
 pub use standing::{HOUR, Standing, is_told_anew, told_after};
 pub use told::Told;
-pub use writing::{tell_fault, tell_file, tell_folders, tell_news, tell_refused};
+pub use writing::{
+    put_text, tell_fault, tell_file, tell_folders, tell_news, tell_no_memory, tell_refused,
+};

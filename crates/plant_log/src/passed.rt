@@ -23,6 +23,44 @@ pub(crate) struct Passed {
     next: BTreeMap<String, Standing>,
 }
 
+/// What was told last of what has this name.
+fn last_of(kept: &BTreeMap<String, Standing>, name: &str) -> Option<Standing>
+    ensures { result ≡ get_by_text kept.now name.now }
+{
+    match kept.get(name) {
+        Some(standing) => Some(*standing),
+        None => None,
+    }
+}
+
+/// Keeps in mind what was told of this last. Where there is no memory for it, it is told again at the next look.
+fn keep(
+    kept: &BTreeMap<String, Standing>,
+    next: &mut BTreeMap<String, Standing>,
+    each: PassedOver,
+    now: u64,
+)
+    ensures { KeepsOne kept.now now each next.old next.new }
+{
+    let last = last_of(kept, each.name.as_str());
+    let standing = told_after(last, each.fault, now);
+    let _ = next.insert(each.name, standing);
+}
+
+/// Keeps in mind what was told of these.
+fn keep_all(
+    kept: &BTreeMap<String, Standing>,
+    next: &mut BTreeMap<String, Standing>,
+    others: Vec<PassedOver>,
+    now: u64,
+)
+    ensures { Remembers kept.now now others.items next.old next.new }
+{
+    for each in others {
+        keep(kept, next, each, now);
+    }
+}
+
 impl Passed {
     /// Nothing was, yet.
     pub(crate) fn new(alloc: Global) -> Passed
@@ -36,22 +74,12 @@ impl Passed {
         }
     }
 
-    /// What was told last of what has this name.
-    fn last(&self, name: &str) -> Option<Standing>
-        ensures { result ≡ get_by_text self.now.kept name.now }
-    {
-        match self.kept.get(name) {
-            Some(standing) => Some(*standing),
-            None => None,
-        }
-    }
-
     /// Whether it is told at a moment that this is passed over: not where it is left alone.
     fn is_told(&self, each: &PassedOver, now: u64) -> bool
         ensures { IsTrue result ↔ IsPassingTold self.now.kept now each.now }
     {
         let name = each.name.as_str();
-        !is_left(name) && is_told_anew(self.last(name), each.fault, now)
+        !is_left(name) && is_told_anew(last_of(&self.kept, name), each.fault, now)
     }
 
     /// Tells it, where it is.
@@ -77,26 +105,6 @@ impl Passed {
         }
     }
 
-    /// Keeps in mind what was told of this last. Where there is no memory for it, it is told again at the next look.
-    fn keep(&mut self, each: PassedOver, now: u64)
-        ensures rest { self.new ≡ record self.old { next = self.new.next } }
-        ensures next { KeepsOne self.old.kept now each self.old.next self.new.next }
-    {
-        let last = self.last(each.name.as_str());
-        let standing = told_after(last, each.fault, now);
-        let _ = self.next.insert(each.name, standing);
-    }
-
-    /// Keeps in mind what was told of these.
-    fn keep_all(&mut self, others: Vec<PassedOver>, now: u64)
-        ensures rest { self.new ≡ record self.old { next = self.new.next } }
-        ensures next { Remembers self.old.kept now others.items self.old.next self.new.next }
-    {
-        for each in others {
-            self.keep(each, now);
-        }
-    }
-
     /// Tells of these, which are some of what a look passed over, what is to be told at a moment in milliseconds, and keeps them in mind.
     pub(crate) fn see<E: Write>(&mut self, others: Vec<PassedOver>, now: u64, err: &mut E)
         ensures tells { TellsPassed self.old.kept now others.items (E.contents err.old) (E.contents err.new) }
@@ -104,7 +112,7 @@ impl Passed {
         ensures next { Remembers self.old.kept now others.items self.old.next self.new.next }
     {
         self.tell_all(others.as_slice(), now, err);
-        self.keep_all(others, now);
+        keep_all(&self.kept, &mut self.next, others, now);
     }
 
     /// The look passed nothing else over: what was told of anything else is forgotten.

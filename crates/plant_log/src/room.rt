@@ -1,8 +1,9 @@
 //! What is kept for each of many keys, as far as there is room for it.
 
-ghost use Rattle.std.specs.Prelude.{◌≡◌, ◌≤◌, true, false, None, Some};
+ghost use Rattle.std.specs.Prelude.{◌≡◌, true, false, None, Some};
 ghost use Rattle.std.specs.Ordering.{nat_cmp};
-ghost use Rattle.std.specs.BTreeMap.{btree_map_len, get, Updates};
+ghost use Rattle.std.specs.BTreeMap.{get, Updates};
+ghost use Rattle.plant_log.specs.Keeping.{HasRoom};
 
 use std::collections::BTreeMap;
 
@@ -14,7 +15,7 @@ pub(crate) fn keep<V: Drop>(map: &mut BTreeMap<u32, V>, key: u32, value: V) -> b
     ensures kept { result ≡ true → Updates nat_cmp map.old map.new key (Some value) }
     ensures off { result ≡ false → get nat_cmp map.old key ≡ None }
     ensures same { result ≡ false → map.new.entries ≡ map.old.entries }
-    ensures bound { btree_map_len map.old ≤ 65_536 → btree_map_len map.new ≤ 65_536 }
+    ensures bound { HasRoom map.old map.new }
 {
     if map.len() >= MOST_KEPT && !map.contains_key(&key) {
         return false;

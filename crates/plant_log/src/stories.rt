@@ -1,8 +1,9 @@
 //! Which of the things that befall numbers are told in the usual log.
 
-ghost use Rattle.std.specs.Prelude.{◌≡◌, ◌≤◌, [], None};
+ghost use Rattle.std.specs.Prelude.{◌≡◌, []};
 ghost use Rattle.std.specs.Ordering.{nat_cmp};
-ghost use Rattle.std.specs.BTreeMap.{btree_map_len, get, Updates};
+ghost use Rattle.std.specs.BTreeMap.{get};
+ghost use Rattle.plant_log.specs.Keeping.{Forgets, HasRoom};
 ghost use Rattle.plant_log.specs.Stories.{known, Hears, HearsOf};
 
 use crate::event::LogEvent;
@@ -39,8 +40,7 @@ impl Stories {
 
     /// Whether this is told of the ballots of a number, at a moment in milliseconds. Where nothing more can be kept in mind, it is.
     fn hear(&mut self, number: u32, turn: BallotTurn, now: u64) -> bool
-        ensures hears { HearsOf number turn now result self.old.kept self.new.kept }
-        ensures bound { btree_map_len self.old.kept ≤ 65_536 → btree_map_len self.new.kept ≤ 65_536 }
+        ensures { HearsOf number turn now result self.old.kept self.new.kept }
     {
         let heard = self.story(number).hear(turn, now);
         if keep(&mut self.kept, number, heard.story) {
@@ -52,8 +52,7 @@ impl Stories {
 
     /// What was kept in mind of a number is forgotten.
     fn forget(&mut self, number: u32)
-        ensures forgets { Updates nat_cmp self.old.kept self.new.kept number None }
-        ensures bound { btree_map_len self.new.kept ≤ btree_map_len self.old.kept }
+        ensures { Forgets number self.old.kept self.new.kept }
     {
         self.kept.remove(&number);
     }
@@ -61,7 +60,7 @@ impl Stories {
     /// Whether something is told in the usual log, at a moment in milliseconds.
     pub(crate) fn are_told(&mut self, event: LogEvent, now: u64) -> bool
         ensures hears { Hears event now result self.old.kept self.new.kept }
-        ensures bound { btree_map_len self.old.kept ≤ 65_536 → btree_map_len self.new.kept ≤ 65_536 }
+        ensures bound { HasRoom self.old.kept self.new.kept }
     {
         match event {
             LogEvent::Began { number, .. } => self.hear(number, BallotTurn::Begins, now),

@@ -1,19 +1,18 @@
 //! What a station that stays up tells, and what it told last, so that it is not told again at each look.
 
-ghost use Rattle.std.specs.Prelude.{◌≡◌, ◌≤◌, [], Bool, None, codes, true};
-ghost use Rattle.std.specs.Ordering.{nat_cmp};
-ghost use Rattle.std.specs.BTreeMap.{btree_map_len, Updates};
+ghost use Rattle.std.specs.Prelude.{◌≡◌, [], None, codes, true};
 ghost use Rattle.folders.specs.LogNames.{shown_name};
 ghost use Rattle.offers.specs.Order.{rank};
-ghost use Rattle.plant_log.specs.Words.{differs_text, event_text, file_text, folder_text, folders_text, refused_text};
+ghost use Rattle.plant_log.specs.Words.{differs_text, file_text, folder_text, refused_text};
 ghost use Rattle.plant_log.specs.Telling.{TellsIf, WasTold};
+ghost use Rattle.plant_log.specs.Keeping.{Forgets, HasRoom};
 ghost use Rattle.plant_log.specs.Standing.{IsToldAnew, Stands};
-ghost use Rattle.plant_log.specs.Skipping.{is_skipping_told, skipped_after};
+ghost use Rattle.plant_log.specs.Skipping.{TellsSkipped, skipped_after};
 ghost use Rattle.plant_log.specs.Passing.{Remembers, TellsPassed};
 ghost use Rattle.plant_log.specs.Differing.{differ_after, differ_told};
-ghost use Rattle.plant_log.specs.Stories.{IsHeard, IsTellingRefused};
+ghost use Rattle.plant_log.specs.Stories.{IsHeard, IsTellingRefused, TellsHeard};
 ghost use Rattle.plant_log.specs.Refusing.{TellsNoOffer};
-ghost use Rattle.plant_log.specs.Troubles.{Notices, TellsTrouble, TellsTroubleIf};
+ghost use Rattle.plant_log.specs.Troubles.{NoticesOf, TellsTrouble};
 
 use crate::differences::Differences;
 use crate::event::LogEvent;
@@ -53,6 +52,18 @@ pub struct Told {
     differences: Differences,
 }
 
+/// Whether something that befell a number is told at a moment, where so much is told.
+fn are_told(loudness: Loudness, stories: &mut Stories, event: LogEvent, now: u64) -> bool
+    ensures hears { IsHeard loudness event now result stories.old.kept stories.new.kept }
+    ensures bound { HasRoom stories.old.kept stories.new.kept }
+{
+    match loudness {
+        Loudness::Faults => false,
+        Loudness::Usual => stories.are_told(event, now),
+        Loudness::All => true,
+    }
+}
+
 impl Told {
     /// Nothing was told yet; so much is told.
     pub fn new(alloc: Global, loudness: Loudness) -> Told
@@ -73,26 +84,13 @@ impl Told {
         }
     }
 
-    /// Whether something is told that befell a number, at a moment.
-    fn are_told(&mut self, event: &LogEvent, now: u64) -> bool
-        ensures hears { IsHeard self.old.loudness event.now now result self.old.stories.kept self.new.stories.kept }
-        ensures bound { btree_map_len self.old.stories.kept ≤ 65_536 → btree_map_len self.new.stories.kept ≤ 65_536 }
-        ensures rest { self.new ≡ record self.old { stories = self.new.stories } }
-    {
-        match self.loudness {
-            Loudness::Faults => false,
-            Loudness::Usual => self.stories.are_told(*event, now),
-            Loudness::All => true,
-        }
-    }
-
     /// Tells what befell a number at a moment, as far as it is told.
     pub fn tell<E: Write>(&mut self, event: LogEvent, now: u64, err: &mut E)
-        ensures tells { (told : Bool) × IsHeard self.old.loudness event now told self.old.stories.kept self.new.stories.kept × TellsIf (told ≡ true) (event_text event) (E.contents err.old) (E.contents err.new) }
-        ensures bound { btree_map_len self.old.stories.kept ≤ 65_536 → btree_map_len self.new.stories.kept ≤ 65_536 }
+        ensures tells { TellsHeard self.old.loudness event now self.old.stories.kept self.new.stories.kept (E.contents err.old) (E.contents err.new) }
+        ensures bound { HasRoom self.old.stories.kept self.new.stories.kept }
         ensures rest { self.new ≡ record self.old { stories = self.new.stories } }
     {
-        if self.are_told(&event, now) {
+        if are_told(self.loudness, &mut self.stories, event, now) {
             tell_event(self.alloc, &event, err);
         }
     }
@@ -161,16 +159,6 @@ impl Told {
         self.unwritten = None;
     }
 
-    /// Tells that names are passed over that are not UTF-8, at a moment, where that is told anew.
-    fn skipped<E: Write>(&mut self, names: usize, now: u64, err: &mut E)
-        ensures tells { TellsIf (is_skipping_told self.old.skipped names now ≡ true) (folders_text (codes "cannot read a name that is not UTF-8")) (E.contents err.old) (E.contents err.new) }
-        ensures rest { self.new ≡ record self.old { skipped = skipped_after self.old.skipped names now } }
-    {
-        if self.skipped.is_told(names, now) {
-            tell_folders(self.alloc, "cannot read a name that is not UTF-8", err);
-        }
-    }
-
     /// Tells of these, which are some of what a look passed over, what is to be told at a moment.
     pub fn passed_over<E: Write>(&mut self, others: Vec<PassedOver>, now: u64, err: &mut E)
         ensures tells { TellsPassed self.old.passed.kept now others.items (E.contents err.old) (E.contents err.new) }
@@ -183,14 +171,16 @@ impl Told {
     /// The folder of offers can be read, and all was told that a look passed over; so many names were not UTF-8, which is told at a moment, where
     /// that is told anew.
     pub fn listed<E: Write>(&mut self, names: usize, now: u64, err: &mut E)
-        ensures tells { TellsIf (is_skipping_told self.old.skipped names now ≡ true) (folders_text (codes "cannot read a name that is not UTF-8")) (E.contents err.old) (E.contents err.new) }
+        ensures tells { TellsSkipped self.old.skipped names now (E.contents err.old) (E.contents err.new) }
         ensures skipped { self.new.skipped ≡ skipped_after self.old.skipped names now }
         ensures kept { self.new.passed.kept ≡ self.old.passed.next }
         ensures next { self.new.passed.next.entries ≡ [] }
         ensures rest { self.new ≡ record self.old { unread = None; skipped = self.new.skipped; passed = self.new.passed } }
     {
         self.passed.end();
-        self.skipped(names, now, err);
+        if self.skipped.is_told(names, now) {
+            tell_folders(self.alloc, "cannot read a name that is not UTF-8", err);
+        }
         self.unread = None;
     }
 
@@ -213,8 +203,7 @@ impl Told {
 
     /// Tells that a file can't be read, at a moment, where that is told anew.
     pub fn cannot_read<E: Write>(&mut self, trouble: &Trouble, now: u64, err: &mut E)
-        ensures tells { (told : Bool) × Notices (rank trouble.now.request) trouble.now.fault now told self.old.files.kept self.new.files.kept × TellsTroubleIf told (codes "cannot read") trouble.now (E.contents err.old) (E.contents err.new) }
-        ensures rest { self.new ≡ record self.old { files = self.new.files } }
+        ensures { NoticesOf (codes "cannot read") trouble.now now self.old self.new (E.contents err.old) (E.contents err.new) }
     {
         if self.files.is_told(trouble, now) {
             self.tell_trouble("cannot read", trouble, err);
@@ -223,8 +212,7 @@ impl Told {
 
     /// Tells that a file can't be moved, at a moment, where that is told anew.
     pub fn cannot_move<E: Write>(&mut self, trouble: &Trouble, now: u64, err: &mut E)
-        ensures tells { (told : Bool) × Notices (rank trouble.now.request) trouble.now.fault now told self.old.files.kept self.new.files.kept × TellsTroubleIf told (codes "cannot move") trouble.now (E.contents err.old) (E.contents err.new) }
-        ensures rest { self.new ≡ record self.old { files = self.new.files } }
+        ensures { NoticesOf (codes "cannot move") trouble.now now self.old self.new (E.contents err.old) (E.contents err.new) }
     {
         if self.files.is_told(trouble, now) {
             self.tell_trouble("cannot move", trouble, err);
@@ -245,7 +233,7 @@ impl Told {
 
     /// A file was read, or moved.
     pub fn is_done(&mut self, request: &FileRequest)
-        ensures forgets { Updates nat_cmp self.old.files.kept self.new.files.kept (rank request.now) None }
+        ensures forgets { Forgets (rank request.now) self.old.files.kept self.new.files.kept }
         ensures rest { self.new ≡ record self.old { files = self.new.files } }
     {
         self.files.done(*request);

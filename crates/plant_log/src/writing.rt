@@ -18,7 +18,7 @@ use streams::put_all;
 
 /// Writes a text. That the writer fails is ignored.
 #[tactic(auto, using(streams::proofs::Fronts::front_of_all))]
-fn put<E: Write>(text: &str, err: &mut E)
+pub fn put_text<E: Write>(text: &str, err: &mut E)
     ensures { AppendsFront (E.contents err.old) (E.contents err.new) text.now }
 {
     match put_all(err, text.as_bytes()) {
@@ -28,10 +28,10 @@ fn put<E: Write>(text: &str, err: &mut E)
 }
 
 /// Writes that there is no memory for a line.
-pub(crate) fn tell_no_memory<E: Write>(err: &mut E)
+pub fn tell_no_memory<E: Write>(err: &mut E)
     ensures { AppendsFront (E.contents err.old) (E.contents err.new) no_memory }
 {
-    put("no memory for a line\n", err);
+    put_text("no memory for a line\n", err);
 }
 
 /// Writes a line, at once. That the writer fails is ignored.
@@ -39,7 +39,7 @@ pub(crate) fn tell_line<E: Write>(alloc: Global, line: &LogLine<'_>, err: &mut E
     ensures { WasTold (line_text line.now) (E.contents err.old) (E.contents err.new) }
 {
     match format!(in alloc; "{line}\n") {
-        Ok(text) => put(text.as_str(), err),
+        Ok(text) => put_text(text.as_str(), err),
         Err(_) => tell_no_memory(err),
     }
 }

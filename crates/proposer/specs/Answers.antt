@@ -1,12 +1,16 @@
 -- What the answers of a proposal's calls say of the marks, and the marks after them.
-use Rattle.std.specs.Prelude.{◌≡◌, ℕ, List, ◌∷◌, Option, Some, None, Bool, true, false, MatchBool, if◌then◌else◌}
-use Rattle.protocol.specs.Ballots.{Ballot, IsNoneOrBelow, is_majority}
+use Rattle.std.specs.Prelude.{◌≡◌, ℕ, List, ◌∷◌, Option, Some, None, Bool, true, false, MatchBool, if◌then◌else◌, option_map}
+use Rattle.std.specs.Bool.{OnFalse}
+use Rattle.protocol.specs.Ballots.{Ballot, IsNoneOrBelow, is_majority, next}
 use Rattle.protocol.specs.Entries.{Entry}
 use Rattle.protocol.specs.Rows.{Vote, Row}
-use Rattle.protocol.specs.Marks.{Mark, Began, Promised, Denied}
+use Rattle.protocol.specs.Marks.{Mark, Began, Promised, Proposed, Denied}
 use Rattle.protocol.specs.Proposals.{Opening, was_released, open_proposal, proposal_at, gathering_at, since_began, counted, is_counted, pick, due_moment, is_due}
 use Rattle.protocol.specs.Turn.{next_ballot}
-use Rattle.proposer.specs.InHand.{InHand, StandsFor}
+use Rattle.protocol.specs.Seats.{Seat}
+use Rattle.tape_frames.specs.Entries.{owned_entry}
+use Rattle.proposer.specs.InHand.{InHand, StandsFor, IsOfTheSame}
+use Rattle.proposer.specs.declared.proposal.Beginning.{Beginning}
 use Rattle.proposer.specs.declared.answer.Counted.{Counted}
 use Rattle.proposer.specs.declared.answer.Counted.TheVariants as kinds
 use Rattle.proposer.specs.declared.answer.DueAnswer.{DueAnswer}
@@ -128,3 +132,42 @@ TellsWhatIsDue answer promised now q =
 abbrev pub StandsAfterDue : DueAnswer → Option Vote → ℕ → InHand → InHand → Type 0
 StandsAfterDue answer report now old new =
     (n : ℕ) (marks : List Mark) → StandsFor old n marks → StandsFor new n (marks_after_due answer n old.own report now marks)
+
+-- a proposal that a seat began with this: it is at the next ballot above the one that was seen
+pub record IsBegun (s : Seat) (first : Beginning) (new : InHand) : Type 0 where
+  pub ballot : next first.seen s.me ≡ Some new.ballot
+  pub stands : StandsAsBegun new (option_map owned_entry first.own) first.report first.now
+  pub me : new.me ≡ s.me
+  pub members : new.members ≡ s.members
+
+-- a promise of a member at b was taken, with this report
+pub record CountsPromise (counts : Counted) (from : ℕ) (b : Ballot) (report : Option Vote) (old new : InHand) : Type 0 where
+  pub kind : TellsCounting counts from b report old
+  pub stands : StandsAfterPromise counts from b report old new
+  pub stays : StaysWhereUncounted counts old new
+  pub circuit : IsOfTheSame old new
+
+-- memory was refused to a promise of a member at b: it is to be counted, and the proposal is as before
+pub record RefusesPromise (from : ℕ) (b : Ballot) (old new : InHand) : Type 0 where
+  pub same : new ≡ old
+  pub is_new : (n : ℕ) (marks : List Mark) → StandsFor old n marks → IsNew old.me n b from marks
+
+-- a Nack of b with this promise was taken: it is kept where the proposal is at b
+pub record KeepsNack (is_kept : Bool) (b promised : Ballot) (old new : InHand) : Type 0 where
+  pub kept : TellsProposal is_kept b old
+  pub stands : StandsAfterNack is_kept promised old new
+  pub stays : OnFalse is_kept (new ≡ old)
+  pub circuit : IsOfTheSame old new
+
+-- the proposal's entry was proposed at this moment
+pub record IsProposed (now : ℕ) (old new : InHand) : Type 0 where
+  pub stands : (n : ℕ) (marks : List Mark) → StandsFor old n marks → StandsFor new n (Proposed n old.ballot now ∷ marks)
+  pub circuit : IsOfTheSame old new
+
+-- it was seen to what is due at a moment, where this is the saved promise, with this report where a ballot is begun
+pub record SeesToDue (does : DueAnswer) (promised : Option Ballot) (report : Option Vote) (now : ℕ) (old new : InHand) : Type 0 where
+  pub answer : TellsWhatIsDue does promised now old
+  pub stands : StandsAfterDue does report now old new
+  pub ballot : IsOwnAndAbove does old.me promised
+  pub stays : StaysWhereNotBegun does old new
+  pub circuit : IsOfTheSame old new

@@ -8,4 +8,4 @@ mod proposal;
 mod slot;
 
 pub use answer::{BeginRefusal, Counted, DueAnswer};
-pub use proposal::Proposal;
+pub use proposal::{Beginning, Proposal};

@@ -10,6 +10,7 @@ use crate::slot::ReportSlot;
 use arrayvec::ArrayVec;
 use ballots::laws::slots_of_members;
 use ballots::{MOST_MEMBERS, Member, Vote, VoteRef, majority};
+use mail::Seat;
 use std::alloc::{AllocError, Global};
 use std::marker::Model;
 
@@ -19,25 +20,23 @@ type Reports = ArrayVec<ReportSlot, MOST_MEMBERS>;
 /// Of each member, in rising order: what it reported, where it is counted. Clauses see this list.
 #[derive(Drop)]
 pub(crate) struct ReportSlots {
-    me: Member,
-    members: u8,
-    /// What `me` reported, as long as it alone is counted.
+    seat: Seat,
+    /// What the seat's member reported, as long as it alone is counted.
     own: Option<Vote>,
-    /// None as long as `me` alone is counted, so that a proposal that is just begun is small and takes no memory.
+    /// None as long as that member alone is counted, so that a proposal that is just begun is small and takes no memory.
     slots: Option<Box<Reports>>,
 }
 
 impl Model for ReportSlots {
-    ghost use Rattle.std.specs.Prelude.{◌≡◌, ◌≤◌, List, Option, length};
+    ghost use Rattle.std.specs.Prelude.{◌≡◌, List, Option, length};
     ghost use Rattle.protocol.specs.Rows.{Vote as VoteValue};
     ghost use Rattle.proposer.specs.Slots.{slots_with};
-    ghost use Rattle.protocol.specs.Limits.{most_members};
 
     ghost Value = { List (Option (Option VoteValue)) };
 
-    ghost view = { λ s. slots_with s.members s.me s.own s.slots };
+    ghost view = { λ s. slots_with s.seat.members s.seat.me s.own s.slots };
 
-    ghost invariant = { λ s. (s.members ≤ most_members) × (s.me ≤ s.members) × (length (slots_with s.members s.me s.own s.slots) ≡ s.members) };
+    ghost invariant = { λ s. length (slots_with s.seat.members s.seat.me s.own s.slots) ≡ s.seat.members };
 }
 
 /// A slot for each of so many members, of whom none is counted.
@@ -53,38 +52,23 @@ fn empty_slots(members: u8) -> Reports
     slots
 }
 
-/// Sets the member's slot: it is counted, with what it reported. The report is taken out of where it stands.
-fn set(
-    alloc: Global,
-    slots: &mut Reports,
-    member: Member,
-    report: &mut Option<Vote>,
-) -> Result<(), AllocError>
+/// Puts the member's slot in.
+fn set(slots: &mut Reports, member: Member, slot: ReportSlot)
     requires { member ≤ length slots.old.items }
-    ensures set { OnOk result (slots.new.items ≡ slice_set slots.old.items (member - 1) (Some report.old)) }
-    ensures err { OnErr result (slots.new.items ≡ slots.old.items) }
-    ensures report { OnErr result (report.new ≡ report.old) }
+    ensures { slots.new.items ≡ slice_set slots.old.items (member - 1) slot }
 {
-    let place = usize::from(member.get()) - 1;
-    slots[place] = ReportSlot::counted(alloc, report)?;
-    Ok(())
+    slots[usize::from(member.get()) - 1] = slot;
 }
 
-/// A slot for each of so many members, of whom `me` alone is counted, with what it reported.
+/// A slot for each member, of whom that of the seat alone is counted, with what it reported.
 /// The report is taken out of where it stands.
-fn spread(
-    alloc: Global,
-    members: u8,
-    me: Member,
-    own: &mut Option<Vote>,
-) -> Result<Box<Reports>, AllocError>
-    requires few { members ≤ most_members }
-    requires member { me ≤ members }
-    ensures spread { IfOk result (λ slots. slots.value.items ≡ slice_set (nothing_counted members) (me - 1) (Some own.old)) }
+fn spread(alloc: Global, seat: Seat, own: &mut Option<Vote>) -> Result<Box<Reports>, AllocError>
+    ensures spread { IfOk result (λ slots. slots.value.items ≡ slice_set (nothing_counted seat.members) (seat.me - 1) (Some own.old)) }
     ensures own { OnErr result (own.new ≡ own.old) }
 {
-    let mut slots = Box::new(alloc, empty_slots(members))?;
-    set(alloc, &mut slots, me, own)?;
+    let me = seat.me();
+    let mut slots = Box::new(alloc, empty_slots(seat.members()))?;
+    set(&mut slots, me, ReportSlot::counted(alloc, own)?);
     Ok(slots)
 }
 
@@ -94,7 +78,7 @@ impl ReportSlots {
         ensures value { result ≡ length self.now }
         ensures few { result ≤ most_members }
     {
-        self.members
+        self.seat.members()
     }
 
     /// Whether the member at this place is counted.
@@ -103,7 +87,7 @@ impl ReportSlots {
         ensures { result ≡ is_some (report_at self.now (place + 1)) }
     {
         slots_of_members::<Option<Option<Vote>>>();
-        let me = usize::from(self.me.get());
+        let me = usize::from(self.seat.me().get());
         match &self.slots {
             None => me == place + 1,
             Some(slots) => slots.as_slice()[place].is_counted(),
@@ -116,7 +100,7 @@ impl ReportSlots {
         ensures { option_copied result ≡ vote_at self.now (place + 1) }
     {
         slots_of_members::<Option<Option<Vote>>>();
-        let me = usize::from(self.me.get());
+        let me = usize::from(self.seat.me().get());
         match &self.slots {
             None => {
                 if me == place + 1 {
@@ -140,42 +124,32 @@ impl ReportSlots {
         ensures err { OnErr result (self.new ≡ self.old) }
     {
         let mut report = report;
+        let slot = ReportSlot::counted(alloc, &mut report)?;
         match &mut self.slots {
             None => {
-                let mut slots = spread(alloc, self.members, self.me, &mut self.own)?;
-                let answer = set(alloc, &mut slots, member, &mut report);
-                // The own report stands in them now, whatever the answer.
+                let mut slots = spread(alloc, self.seat, &mut self.own)?;
+                set(&mut slots, member, slot);
                 self.slots = Some(slots);
-                answer
             }
-            Some(slots) => set(alloc, slots, member, &mut report),
+            Some(slots) => set(slots, member, slot),
         }
+        Ok(())
     }
 }
 
-/// The slots of so many members, of whom this one alone is counted. It takes no memory.
+/// The slots of a seat's circuit, of whose members that of the seat alone is counted. It takes no memory.
 #[tactic(auto, using(crate::proofs::Alone::alone_many))]
-pub(crate) fn counted_alone(me: Member, members: u8, report: Option<Vote>) -> ReportSlots
-    requires few { members ≤ most_members }
-    requires member { me ≤ members }
-    ensures items { result ≡ slice_set (nothing_counted members) (me - 1) (Some report) }
-    ensures many { length result ≡ members }
+pub(crate) fn counted_alone(seat: Seat, report: Option<Vote>) -> ReportSlots
+    ensures items { result ≡ slice_set (nothing_counted seat.members) (seat.me - 1) (Some report) }
+    ensures many { length result ≡ seat.members }
 {
+    // The seat's range is known once it is read.
+    let _me = seat.me();
     ReportSlots {
-        me,
-        members,
+        seat,
         own: report,
         slots: None,
     }
-}
-
-/// Counts anew: of as many members this one alone is counted. It takes no memory.
-pub(crate) fn count_anew(slots: &mut ReportSlots, me: Member, report: Option<Vote>)
-    requires member { me ≤ length slots.old }
-    ensures items { slots.new ≡ slice_set (nothing_counted (length slots.old)) (me - 1) (Some report) }
-    ensures many { length slots.new ≡ length slots.old }
-{
-    *slots = counted_alone(me, slots.len(), report);
 }
 
 /// The vote with frames of its own, where there is one.

@@ -1,28 +1,38 @@
 //! A proposal, with a slot for the promise of each member.
 
-ghost use Rattle.std.specs.Prelude.{◌≡◌, ◌≤◌, ◌<◌, ◌+◌, ◌*◌, ◌-◌, ◌^◌, ℕ, List, ◌∷◌, Option, Some, None, Ok, Err, IfOk, OnErr, IsOk, MatchResult, min, nat_le, option_copied, option_map, ◌&&◌, if◌then◌else◌};
-ghost use Rattle.std.specs.Bool.{OnFalse};
+ghost use Rattle.std.specs.Prelude.{◌≡◌, ◌≤◌, ◌<◌, ◌+◌, ◌*◌, ◌-◌, ◌^◌, ℕ, List, Some, None, IfOk, IfErr, OnErr, IsOk, min, nat_le, option_copied, option_map, ◌&&◌, if◌then◌else◌};
 ghost use Rattle.protocol.specs.Ballots.{next, is_same};
-ghost use Rattle.protocol.specs.Marks.{Mark, Proposed};
+ghost use Rattle.protocol.specs.Marks.{Mark};
 ghost use Rattle.protocol.specs.Proposals.{open_ballot, entry_or};
 ghost use Rattle.protocol.specs.Turn.{greater_ballot, most_ballots};
-ghost use Rattle.protocol.specs.Limits.{most_members};
 ghost use Rattle.tape_frames.specs.Entries.{owned_entry, lent_entry};
-ghost use Rattle.proposer.specs.InHand.{StandsFor, IsOfTheSame};
-ghost use Rattle.proposer.specs.Answers.{IsNew, StandsAsBegun, TellsGathering, TellsCounting, StandsAfterPromise, StaysWhereUncounted, TellsProposal, StandsAfterNack, IsPicked, IsDueMoment, TellsWhatIsDue, StandsAfterDue, StaysWhereNotBegun, IsOwnAndAbove};
+ghost use Rattle.proposer.specs.InHand.{StandsFor};
+ghost use Rattle.proposer.specs.Answers.{IsBegun, TellsGathering, CountsPromise, RefusesPromise, KeepsNack, IsPicked, IsProposed, IsDueMoment, SeesToDue};
 
 use crate::answer::{BeginRefusal, Counted, DueAnswer};
-use crate::promises::{
-    ReportSlots, count_anew, count_once, counted_alone, greatest_vote, is_quorum,
-};
+use crate::promises::{ReportSlots, count_once, counted_alone, greatest_vote, is_quorum};
 use ballots::laws::slots_of_members;
 use ballots::{Ballot, Member, Vote, VoteRef};
+use mail::Seat;
 use std::alloc::{AllocError, Global};
 use std::marker::Model;
 use tape_frames::{Entry, EntryRef};
 
 /// How many ballots a proposal begins at most.
 const MOST_BALLOTS: u8 = 32;
+
+/// What a proposal begins with.
+#[derive(Drop)]
+pub struct Beginning {
+    /// The ballot that was seen: the first one is the next above it.
+    pub seen: Option<Ballot>,
+    /// The entry to propose where no vote is reported, if there is one.
+    pub own: Option<Entry>,
+    /// The vote that the own member reports, if it has one.
+    pub report: Option<Vote>,
+    /// When it begins, in milliseconds.
+    pub now: u64,
+}
 
 /// The proposal of one member for one number.
 ///
@@ -31,7 +41,7 @@ const MOST_BALLOTS: u8 = 32;
 #[derive(Drop)]
 pub struct Proposal {
     alloc: Global,
-    me: Member,
+    seat: Seat,
     ballot: Ballot,
     own: Option<Entry>,
     slots: ReportSlots,
@@ -42,15 +52,14 @@ pub struct Proposal {
 }
 
 impl Model for Proposal {
-    ghost use Rattle.std.specs.Prelude.{◌≤◌, length, option_map};
+    ghost use Rattle.std.specs.Prelude.{◌≡◌, length, option_map};
     ghost use Rattle.tape_frames.specs.Entries.{owned_entry};
     ghost use Rattle.proposer.specs.InHand.{InHand};
-    ghost use Rattle.protocol.specs.Limits.{most_members};
 
     ghost Value = { InHand };
 
     ghost view = { λ p. record {
-      me = p.me;
+      me = p.seat.me;
       members = length p.slots;
       ballot = p.ballot;
       own = option_map owned_entry p.own;
@@ -61,7 +70,7 @@ impl Model for Proposal {
       moved = p.moved;
     } };
 
-    ghost invariant = { λ p. (length p.slots ≤ most_members) × (p.me ≤ length p.slots) };
+    ghost invariant = { λ p. length p.slots ≡ p.seat.members };
 }
 
 /// The greater of two ballots that may be none.
@@ -96,40 +105,28 @@ fn entry_or<'a>(own: &'a Option<Entry>, vote: Option<&'a Vote>) -> Option<EntryR
 }
 
 impl Proposal {
-    /// Begins the member's first ballot above the one that was seen. The own member counts as promised with `report`.
+    /// Begins the first ballot of a seat's member above the one that was seen. The own member counts as promised with its report.
     ///
     /// `RoundsSpent` where there is no such ballot; the entries are given up then. No memory is taken.
-    /// `now` is in milliseconds.
-    pub fn begin(
-        alloc: Global,
-        seen: Option<Ballot>,
-        me: Member,
-        members: u8,
-        own: Option<Entry>,
-        report: Option<Vote>,
-        now: u64,
-    ) -> Result<Proposal, BeginRefusal>
-        requires member { me ≤ members }
-        requires few { members ≤ most_members }
-        ensures ballot { MatchResult result (λ p. next seen me ≡ Some p.ballot) (λ e. (e ≡ BeginRefusal.RoundsSpent) × (next seen me ≡ None)) }
-        ensures stands { IfOk result (λ p. StandsAsBegun p (option_map owned_entry own) report now) }
-        ensures circuit { IfOk result (λ p. (p.me ≡ me) × (p.members ≡ members)) }
+    pub fn begin(alloc: Global, seat: Seat, beginning: Beginning) -> Result<Proposal, BeginRefusal>
+        ensures begun { IfOk result (λ p. IsBegun seat beginning p) }
+        ensures refused { IfErr result (λ e. (e ≡ BeginRefusal.RoundsSpent) × (next beginning.seen seat.me ≡ None)) }
     {
         slots_of_members::<Option<Option<Vote>>>();
         // The member's range is known once it is read.
-        let _range = me.get();
-        match Ballot::next(seen, me) {
+        let me = seat.me();
+        match Ballot::next(beginning.seen, me) {
             None => Err(BeginRefusal::RoundsSpent),
             Some(ballot) => Ok(Proposal {
                 alloc,
-                me,
+                seat,
                 ballot,
-                own,
-                slots: counted_alone(me, members, report),
+                own: beginning.own,
+                slots: counted_alone(seat, beginning.report),
                 gathers: true,
                 denied: None,
                 begun: 1,
-                moved: now,
+                moved: beginning.now,
             }),
         }
     }
@@ -160,12 +157,8 @@ impl Proposal {
         report: Option<VoteRef<'_>>,
     ) -> Result<Counted, AllocError>
         requires { from ≤ self.old.members }
-        ensures kind { IfOk result (λ kind. TellsCounting kind from ballot report.entry self.old) }
-        ensures stands { IfOk result (λ kind. StandsAfterPromise kind from ballot report.entry self.old self.new) }
-        ensures circuit { IsOfTheSame self.old self.new }
-        ensures stays { IfOk result (λ kind. StaysWhereUncounted kind self.old self.new) }
-        ensures err { OnErr result (self.new ≡ self.old) }
-        ensures err_where_new { OnErr result ((n : ℕ) (marks : List Mark) → StandsFor self.old n marks → IsNew self.old.me n ballot from marks) }
+        ensures counted { IfOk result (λ kind. CountsPromise kind from ballot report.entry self.old self.new) }
+        ensures refused { OnErr result (RefusesPromise from ballot self.old self.new) }
     {
         if !self.gathers_at(ballot) {
             return Ok(Counted::Stale);
@@ -187,10 +180,7 @@ impl Proposal {
     ///
     /// `false` where the ballot is another: nothing is kept then.
     pub fn nack(&mut self, ballot: Ballot, promised: Ballot) -> bool
-        ensures kept { TellsProposal result ballot self.old }
-        ensures stands { StandsAfterNack result promised self.old self.new }
-        ensures stays { OnFalse result (self.new ≡ self.old) }
-        ensures circuit { IsOfTheSame self.old self.new }
+        ensures { KeepsNack result ballot promised self.old self.new }
     {
         if !self.ballot.is_same(ballot) {
             return false;
@@ -209,8 +199,7 @@ impl Proposal {
 
     /// It was proposed at this moment, in milliseconds: it gathers no more promises, and its due moment is set anew.
     pub fn proposed(&mut self, now: u64)
-        ensures stands { (n : ℕ) (marks : List Mark) → StandsFor self.old n marks → StandsFor self.new n (Proposed n self.old.ballot now ∷ marks) }
-        ensures circuit { IsOfTheSame self.old self.new }
+        ensures { IsProposed now self.old self.new }
     {
         self.gathers = false;
         self.moved = now;
@@ -222,7 +211,7 @@ impl Proposal {
         ensures value { result ≡ min (self.now.moved + 250 + 40 * self.now.me) (2 ^ 64 - 1) }
         ensures moment { IsDueMoment result self.now }
     {
-        let member = u64::from(self.me.get());
+        let member = u64::from(self.seat.me().get());
         self.moved.saturating_add(250 + 40 * member)
     }
 
@@ -233,7 +222,7 @@ impl Proposal {
         if self.begun >= MOST_BALLOTS {
             return None;
         }
-        Ballot::next(greater(promised, self.denied), self.me)
+        Ballot::next(greater(promised, self.denied), self.seat.me())
     }
 
     /// What it does at this moment, in milliseconds, where `promised` is the saved promise and `report` the saved vote.
@@ -246,11 +235,7 @@ impl Proposal {
         report: Option<Vote>,
         now: u64,
     ) -> Result<DueAnswer, AllocError>
-        ensures answer { IfOk result (λ answer. TellsWhatIsDue answer promised now self.old) }
-        ensures stands { IfOk result (λ answer. StandsAfterDue answer report now self.old self.new) }
-        ensures circuit { IsOfTheSame self.old self.new }
-        ensures ballot { IfOk result (λ answer. IsOwnAndAbove answer self.old.me promised) }
-        ensures stays { IfOk result (λ answer. StaysWhereNotBegun answer self.old self.new) }
+        ensures due { IfOk result (λ answer. SeesToDue answer promised report now self.old self.new) }
         ensures no_memory { IsOk result }
     {
         slots_of_members::<Option<Option<Vote>>>();
@@ -261,7 +246,7 @@ impl Proposal {
             None => Ok(DueAnswer::GaveUp),
             Some(ballot) => {
                 self.ballot = ballot;
-                count_anew(&mut self.slots, self.me, report);
+                self.slots = counted_alone(self.seat, report);
                 self.gathers = true;
                 self.begun += 1;
                 self.moved = now;

@@ -10,8 +10,9 @@ use Rattle.recalls.specs.Recalls.{Recall, IsRecall, Rise}
 use Rattle.recalls.specs.Grammar.{Spells}
 use Rattle.recalls.specs.Spelling.{number_bytes, spelling}
 use Rattle.recalls.specs.declared.fault.RecallFault.{RecallFault}
-use Rattle.recalls.specs.Reading.{mark_at, member_at, members_at, count_at, number_at, numbers_at, recall_at}
-use Rattle.recalls.specs.Laws.{OneRecall, NoPrefix, ReadsItAgain, IsNoPacket}
+use Rattle.recalls.specs.Tickets.{ticket_at}
+use Rattle.recalls.specs.Reading.{mark_at, count_of, number_at, numbers_at, recall_at}
+use Rattle.recalls.specs.Laws.{SpellsOne, NoPrefix, ReadsItAgain, IsNoPacket}
 use Rattle.recalls.proofs.Written.{spelled_is, only_recalls, spelling_length, lengths_are_given}
 
 numbers_again : (ns : List ℕ) (above : ℕ) (rest : List ℕ) → Rise above ns → numbers_at (length ns) above (number_bytes ns ++ rest) ≡ Ok (ns, rest)
@@ -29,7 +30,7 @@ numbers_again (n ∷ ns) above rest h =
     rw (long, back, low_test, high_test, up_test, more) refl
 
 recall_again : (r : Recall) → IsRecall r → recall_at (spelling r) ≡ Ok r
-unfolding recall_at mark_at members_at member_at count_at
+unfolding recall_at mark_at ticket_at count_of
 recall_again r is =
     let long : ltb (length (spelling r)) 17 ≡ false = le-ltb _ _ (let e = spelling_length r in let some = is.some in omega arith) in
     let from_low : leb 1 r.from ≡ true = le-leb 1 r.from is.from.0 in
@@ -45,17 +46,17 @@ recall_again r is =
     subst (λ (l : List ℕ). numbers_at (length r.numbers) 0 l ≡ Ok (r.numbers, [])) (append-nil (number_bytes r.numbers)) (numbers_again r.numbers 0 [] is.rise) in
     rw (long, from_low, from_high, to_low, to_high, apart, some, few, numbers, circuit, asked) refl
 
-pub reads_it_again : ReadsItAgain
+pub reads_it_again : ReadsItAgain Spells recall_at
 reads_it_again bytes r s = ap recall_at (spelled_is bytes r s) ∙ recall_again r (only_recalls bytes r s)
 
 read_once : (read : Result Recall RecallFault) (r q : Recall) → read ≡ Ok r → read ≡ Ok q → r ≡ q
 read_once read r q e f = cc
 
-pub one_recall : OneRecall
+pub one_recall : SpellsOne Spells
 one_recall bytes r q s t = read_once (recall_at bytes) r q (reads_it_again bytes r s) (reads_it_again bytes q t)
 
 -- two spellings of which one begins with the other have one count of numbers, so one length
-pub no_prefix : NoPrefix
+pub no_prefix : NoPrefix Spells
 no_prefix short long rest r q s t is = go rest is
   where
     counts : (rest : List ℕ) → long ≡ short ++ rest → length r.numbers ≡ length q.numbers
@@ -74,7 +75,7 @@ no_prefix short long rest r q s t is = go rest is
         absurd (omega arith)
 
 -- bytes of another mark
-pub is_no_packet : IsNoPacket
+pub is_no_packet : IsNoPacket Spells
 unfolding packet_in header_at kind_at
 is_no_packet v bytes r s =
     let long : ltb (length (spelling r)) 17 ≡ false = le-ltb _ _ (let e = spelling_length r in let some = s.some in omega arith) in

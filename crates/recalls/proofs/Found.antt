@@ -1,16 +1,17 @@
 -- What is read as a recall spells it.
 use Rattle.std.proofs.Common.{◌≡◌, ℕ, zero, suc, ◌<◌, ◌≤◌, Bool, true, false, ltb, leb, eqb, not, ◌&&◌, List, [], ◌∷◌, ◌++◌, length, Result, Ok, Err, refl, sym, ap, subst, ◌∙◌, append-nil, append_assoc}
-use Rattle.std.specs.Prelude.{drop, slice_index, IfOk, OnErr, if◌then◌else◌}
-use Rattle.std.specs.Int.{w16, w32, from_be_bytes}
+use Rattle.std.specs.Prelude.{drop, slice_index, IfOk, OnErr, Option, Some, None, if◌then◌else◌}
+use Rattle.std.specs.Int.{w32, from_be_bytes}
 use Rattle.std.proofs.lemmas.Bool.{eqb-true, eqb-false, ltb-false, leb-true, leb-false}
 use Rattle.protocol.specs.Ballots.{IsMember}
 use Rattle.protocol.specs.Limits.{is_number}
 use Rattle.packets.specs.Grammar.{IsBytes, SpellsFour}
-use Rattle.recalls.specs.Recalls.{Recall, Rise}
+use Rattle.recalls.specs.Recalls.{Recall, Rise, recall_of}
 use Rattle.recalls.specs.Grammar.{SpellsNumbers, Spells}
 use Rattle.recalls.specs.declared.fault.RecallFault.{RecallFault}
 use Rattle.recalls.specs.declared.fault.RecallFault.TheVariants.{Short, BadMark, BadVersion, BadKind, BadMember, BadCount, BadNumber, BadOrder}
-use Rattle.recalls.specs.Reading.{◌>>=◌, u32_at, number_at, mark_at, member_at, members_at, count_at, numbers_at, ends, recall_at}
+use Rattle.recalls.specs.Tickets.{Ticket, u32_at, is_member_at, ticket_in, ticket_at}
+use Rattle.recalls.specs.Reading.{◌>>=◌, wanted, number_at, mark_at, count_of, numbers_at, ends, recall_at}
 use Rattle.recalls.specs.Laws.{FindsWhatIsSpelled}
 use Rattle.recalls.proofs.Numbers.{two_read, four_read}
 use Rattle.recalls.proofs.Again.{reads_it_again}
@@ -135,29 +136,45 @@ marked bytes e =
       eqb-true _ _ (unnot _ kind),
     )
 
-member_found : (bytes : List ℕ) (at m : ℕ) → member_at bytes at ≡ Ok m → (slice_index bytes at ≡ m) × IsMember 15 m
-unfolding member_at
-member_found bytes at m e =
-    let (is, same) = granted (leb 1 (slice_index bytes at) && leb (slice_index bytes at) 15) BadMember _ m e in
-    let both = both_true _ _ is in
-    (same, subst (λ (x : ℕ). IsMember 15 x) same (leb-true _ _ both.0, leb-true _ _ both.1))
+-- a value that was wanted, and is there
+there : {A : Type 0} (fault : RecallFault) (o : Option A) (x : A) → wanted fault o ≡ Ok x → o ≡ Some x
+there fault None x e = absurd (no_ok e)
+there fault (Some y) x e = ap Some (ok_same (Ok y) refl e)
 
-members_found : (bytes : List ℕ) (x : ℕ × ℕ) → members_at bytes ≡ Ok x
-    → (slice_index bytes 6 ≡ x.0) × IsMember 15 x.0 × (slice_index bytes 7 ≡ x.1) × IsMember 15 x.1 × ¬ (x.0 ≡ x.1)
-unfolding members_at
-members_found bytes x e =
-    let (from, e1, e2) = bound (member_at bytes 6) _ x e in
-    let (to, e3, e4) = bound (member_at bytes 7) _ x e2 in
-    let (apart, e5) = passed (eqb from to) BadMember _ x e4 in
-    let f = member_found bytes 6 from e1 in
-    let t = member_found bytes 7 to e3 in
-    subst (λ (y : ℕ × ℕ). (slice_index bytes 6 ≡ y.0) × IsMember 15 y.0 × (slice_index bytes 7 ≡ y.1) × IsMember 15 y.1 × ¬ (y.0 ≡ y.1)) (ok_same _ refl e5)
-    (f.0, f.1, t.0, t.1, eqb-false from to apart)
+-- what the members of a ticket were read from
+record Members (bytes : List ℕ) (h : Ticket) : Type 0 where
+  is : ticket_in bytes ≡ h
+  from : IsMember 15 (slice_index bytes 6)
+  to : IsMember 15 (slice_index bytes 7)
+  differ : ¬ (slice_index bytes 6 ≡ slice_index bytes 7)
 
-count_found : (bytes : List ℕ) (n : ℕ) → count_at bytes ≡ Ok n → (slice_index bytes 12 ≡ n) × (1 ≤ n) × (n ≤ 64)
-unfolding count_at
-count_found bytes n e =
-    let (is, same) = granted (leb 1 (slice_index bytes 12) && leb (slice_index bytes 12) 64) BadCount _ n e in
+member_found : (bytes : List ℕ) (at : ℕ) → not (is_member_at bytes at) ≡ false → IsMember 15 (slice_index bytes at)
+member_found bytes at e = let both = both_true _ _ (unnot _ e) in (leb-true _ _ both.0, leb-true _ _ both.1)
+
+ticket_found : (bytes : List ℕ) (h : Ticket) → wanted BadMember (ticket_at bytes) ≡ Ok h → Members bytes h
+unfolding ticket_at
+ticket_found bytes h e = from (not (is_member_at bytes 6)) refl (there BadMember _ h e)
+  where
+    apart : (b : Bool) → eqb (slice_index bytes 6) (slice_index bytes 7) ≡ b → not (is_member_at bytes 6) ≡ false → not (is_member_at bytes 7) ≡ false
+        → (if b then None else Some (ticket_in bytes)) ≡ Some h → Members bytes h
+    apart true is f t e = cc
+    apart false is f t e = record { is = cc; from = member_found bytes 6 f; to = member_found bytes 7 t; differ = eqb-false _ _ is }
+
+    to : (b : Bool) → not (is_member_at bytes 7) ≡ b → not (is_member_at bytes 6) ≡ false
+        → (if b then None else if eqb (slice_index bytes 6) (slice_index bytes 7) then None else Some (ticket_in bytes)) ≡ Some h → Members bytes h
+    to true is f e = cc
+    to false is f e = apart (eqb (slice_index bytes 6) (slice_index bytes 7)) refl f is e
+
+    from : (b : Bool) → not (is_member_at bytes 6) ≡ b
+        → (if b then None else if not (is_member_at bytes 7) then None else if eqb (slice_index bytes 6) (slice_index bytes 7) then None else Some (ticket_in bytes)) ≡ Some h
+        → Members bytes h
+    from true is e = cc
+    from false is e = to (not (is_member_at bytes 7)) refl is e
+
+count_found : (count n : ℕ) → count_of count ≡ Ok n → (count ≡ n) × (1 ≤ n) × (n ≤ 64)
+unfolding count_of
+count_found count n e =
+    let (is, same) = granted (leb 1 count && leb count 64) BadCount _ n e in
     let both = both_true _ _ is in
     (same, subst (λ (x : ℕ). 1 ≤ x) same (leb-true _ _ both.0), subst (λ (x : ℕ). x ≤ 64) same (leb-true _ _ both.1))
 
@@ -169,34 +186,34 @@ module _ (m1 m2 v k c1 c0 f t a3 a2 a1 a0 n : ℕ) (rest : List ℕ) (r : Recall
   front_found e =
       let bytes : List ℕ = m1 ∷ m2 ∷ v ∷ k ∷ c1 ∷ c0 ∷ f ∷ t ∷ a3 ∷ a2 ∷ a1 ∷ a0 ∷ n ∷ rest in
       let (done, mark, e1) = bound (mark_at bytes) _ r e in
-      let (both, members, e2) = bound (members_at bytes) _ r e1 in
-      let (count, counted, e3) = bound (count_at bytes) _ r e2 in
+      let (ticket, headed, e2) = bound (wanted BadMember (ticket_at bytes)) _ r e1 in
+      let (count, counted, e3) = bound (count_of n) _ r e2 in
       let (numbers, read, e4) = bound (numbers_at count 0 rest) _ r e3 in
       let m = marked bytes mark in
-      let ends_are = members_found bytes both members in
-      let many = count_found bytes count counted in
+      let members = ticket_found bytes ticket headed in
+      let many = count_found n count counted in
       let all = numbers_found count 0 rest numbers.0 numbers.1 (λ i. fit (suc (suc (suc (suc (suc (suc (suc (suc (suc (suc (suc (suc (suc i)))))))))))))) read in
       let last = nothing_behind _ r numbers.1 e4 in
       let is_all : rest ≡ all.front = all.are ∙ ap (λ (l : List ℕ). all.front ++ l) last.0 ∙ append-nil all.front in
-      let read_as : Recall = record { circuit = from_be_bytes w16 (c1 ∷ c0 ∷ []); from = both.0; to = both.1; asked = from_be_bytes w32 (a3 ∷ a2 ∷ a1 ∷ a0 ∷ []); numbers = numbers.0 } in
+      let read_as : Recall = recall_of (ticket_in bytes) numbers.0 in
       let spells : Spells bytes read_as = record {
         circuit = c1 ∷ c0 ∷ [];
         asked = a3 ∷ a2 ∷ a1 ∷ a0 ∷ [];
         numbers = all.front;
-        are = λ i. m.1 i ∷ m.2 i ∷ m.3 i ∷ m.4 i ∷ c1 ∷ c0 ∷ ends_are.0 i ∷ ends_are.2 i ∷ a3 ∷ a2 ∷ a1 ∷ a0 ∷ (many.0 ∙ sym all.many) i ∷ is_all i;
+        are = λ i. m.1 i ∷ m.2 i ∷ m.3 i ∷ m.4 i ∷ c1 ∷ c0 ∷ f ∷ t ∷ a3 ∷ a2 ∷ a1 ∷ a0 ∷ (many.0 ∙ sym all.many) i ∷ is_all i;
         spells_circuit = two_read c1 c0 (fit 4) (fit 5);
-        from_is_member = ends_are.1;
-        to_is_member = ends_are.3;
-        differ = ends_are.4;
+        from_is_member = members.from;
+        to_is_member = members.to;
+        differ = members.differ;
         spells_asked = four_read a3 a2 a1 a0 (fit 8) (fit 9) (fit 10) (fit 11);
         some = subst (λ (x : ℕ). 1 ≤ x) (sym all.many) many.1;
         few = subst (λ (x : ℕ). x ≤ 64) (sym all.many) many.2;
         spells_numbers = all.spells;
         rise = all.rise;
       } in
-      subst (λ (q : Recall). Spells bytes q) last.1 spells
+      subst (λ (q : Recall). Spells bytes q) (ap (λ (h : Ticket). recall_of h numbers.0) members.is ∙ last.1) spells
 
-pub finds_what_is_spelled : FindsWhatIsSpelled
+pub finds_what_is_spelled : FindsWhatIsSpelled Spells recall_at
 unfolding recall_at mark_at
 finds_what_is_spelled [] r fit e = absurd (no_ok e)
 finds_what_is_spelled (m1 ∷ []) r fit e = absurd (no_ok e)

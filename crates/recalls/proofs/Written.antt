@@ -7,7 +7,7 @@ use Rattle.std.specs.Int.{w16, w32, to_be_bytes}
 use Rattle.recalls.specs.Recalls.{Recall, IsRecall, Rise}
 use Rattle.recalls.specs.Grammar.{SpellsNumbers, Spells}
 use Rattle.recalls.specs.Spelling.{number_bytes, spelling}
-use Rattle.recalls.specs.Laws.{HasOneSpelling, OnlyRecalls, LengthsAreGiven}
+use Rattle.recalls.specs.Laws.{HasOneSpelling, OnlyThese, LengthsAreGiven}
 use Rattle.recalls.proofs.Numbers.{two_are, two_below, four_are, four_below, two_written, four_written}
 
 numbers_are : (bytes ns : List ℕ) → SpellsNumbers bytes ns → bytes ≡ number_bytes ns
@@ -41,7 +41,7 @@ written_spells r is = record {
   rise = is.rise;
 }
 
-pub only_recalls : OnlyRecalls
+pub only_recalls : OnlyThese Spells IsRecall
 only_recalls bytes r s = record {
   circuit = two_below s.circuit r.circuit s.spells_circuit;
   from = s.from_is_member;
@@ -53,7 +53,7 @@ only_recalls bytes r s = record {
   rise = s.rise;
 }
 
-pub has_one_spelling : HasOneSpelling
+pub has_one_spelling : HasOneSpelling Spells IsRecall
 has_one_spelling r is = (spelling r, written_spells r is, λ other s. spelled_is other r s)
 
 pub number_length : (ns : List ℕ) → length (number_bytes ns) ≡ 4 * length ns

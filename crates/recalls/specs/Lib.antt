@@ -1,3 +1,4 @@
+pub mod Tickets
 pub mod Recalls
 pub mod Grammar
 pub mod Reading

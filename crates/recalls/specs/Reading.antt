@@ -1,8 +1,8 @@
 -- Reading a recall from its front, with the first fault in the stated order.
-use Rattle.std.specs.Prelude.{◌≡◌, ℕ, zero, suc, List, [], ◌∷◌, length, take, drop, slice_index, not, ◌&&◌, ◌==◌, Result, Ok, Err, nat_lt, nat_le, if◌then◌else◌}
-use Rattle.std.specs.Int.{w16, w32, from_be_bytes}
-use Rattle.protocol.specs.Limits.{most_members, is_number}
-use Rattle.recalls.specs.Recalls.{most_recalled, Recall}
+use Rattle.std.specs.Prelude.{◌≡◌, ℕ, zero, suc, List, [], ◌∷◌, length, drop, slice_index, not, ◌&&◌, ◌==◌, Option, Some, None, Result, Ok, Err, nat_lt, nat_le, if◌then◌else◌}
+use Rattle.protocol.specs.Limits.{is_number}
+use Rattle.recalls.specs.Tickets.{u32_at, ticket_at}
+use Rattle.recalls.specs.Recalls.{most_recalled, Recall, recall_of}
 use Rattle.recalls.specs.declared.fault.RecallFault.{RecallFault}
 use Rattle.recalls.specs.declared.fault.RecallFault.TheVariants.{Short, BadMark, BadVersion, BadKind, BadMember, BadCount, BadNumber, BadOrder, Long}
 
@@ -17,13 +17,10 @@ abbrev pub Seen : {X Y : Type 0} → (X → Y) → Result X RecallFault → Resu
 Seen view (Ok x) read = read ≡ Ok (view x)
 Seen view (Err e) read = read ≡ Err e
 
--- a number of two bytes at this place
-abbrev pub u16_at : List ℕ → ℕ → ℕ
-u16_at bytes at = from_be_bytes w16 (take 2 (drop at bytes))
-
--- a number of four bytes at this place
-abbrev pub u32_at : List ℕ → ℕ → ℕ
-u32_at bytes at = from_be_bytes w32 (take 4 (drop at bytes))
+-- a value, or this fault where there is none
+abbrev pub wanted : {A : Type 0} → RecallFault → Option A → Result A RecallFault
+wanted fault None = Err fault
+wanted fault (Some x) = Ok x
 
 -- the length, the mark, the version and the kind
 unfoldable pub mark_at : List ℕ → Result (Unit {0}) RecallFault
@@ -33,20 +30,9 @@ mark_at bytes =
     if not (slice_index bytes 2 == 1) then Err BadVersion else
     if not (slice_index bytes 3 == 1) then Err BadKind else Ok tt
 
--- the member at this place
-unfoldable pub member_at : List ℕ → ℕ → Result ℕ RecallFault
-member_at bytes at = if nat_le 1 (slice_index bytes at) && nat_le (slice_index bytes at) most_members then Ok (slice_index bytes at) else Err BadMember
-
--- two members that differ
-unfoldable pub members_at : List ℕ → Result (ℕ × ℕ) RecallFault
-members_at bytes = do
-  from ← member_at bytes 6
-  to ← member_at bytes 7
-  if from == to then Err BadMember else Ok (from, to)
-
 -- how many numbers there are
-unfoldable pub count_at : List ℕ → Result ℕ RecallFault
-count_at bytes = if nat_le 1 (slice_index bytes 12) && nat_le (slice_index bytes 12) most_recalled then Ok (slice_index bytes 12) else Err BadCount
+unfoldable pub count_of : ℕ → Result ℕ RecallFault
+count_of count = if nat_le 1 count && nat_le count most_recalled then Ok count else Err BadCount
 
 -- a number that is above this one
 unfoldable pub number_at : ℕ → List ℕ → Result ℕ RecallFault
@@ -69,7 +55,7 @@ ends x (b ∷ bytes) = Err Long
 unfoldable pub recall_at : List ℕ → Result Recall RecallFault
 recall_at bytes = do
   marked ← mark_at bytes
-  both ← members_at bytes
-  count ← count_at bytes
+  ticket ← wanted BadMember (ticket_at bytes)
+  count ← count_of (slice_index bytes 12)
   numbers ← numbers_at count 0 (drop 13 bytes)
-  ends (record { circuit = u16_at bytes 4; from = both.0; to = both.1; asked = u32_at bytes 8; numbers = numbers.0 }) numbers.1
+  ends (recall_of ticket numbers.0) numbers.1

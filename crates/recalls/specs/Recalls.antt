@@ -2,6 +2,7 @@
 use Rattle.std.specs.Prelude.{◌≡◌, ℕ, ◌<◌, ◌≤◌, List, [], ◌∷◌, length}
 use Rattle.protocol.specs.Ballots.{IsMember}
 use Rattle.protocol.specs.Limits.{most_members, last_number}
+use Rattle.recalls.specs.Tickets.{Ticket}
 
 -- the most numbers of a recall
 abbrev pub most_recalled : ℕ
@@ -16,10 +17,24 @@ pub record Recall : Type 0 where
   pub asked : ℕ
   pub numbers : List ℕ
 
+-- what a recall begins with
+abbrev pub ticket_of : Recall → Ticket
+ticket_of r = record { circuit = r.circuit; from = r.from; to = r.to; asked = r.asked }
+
+-- a recall of this ticket and these numbers
+abbrev pub recall_of : Ticket → List ℕ → Recall
+recall_of h numbers = record { circuit = h.circuit; from = h.from; to = h.to; asked = h.asked; numbers = numbers }
+
 -- the numbers rise from above this one, up to the last circuit number
 abbrev pub Rise : ℕ → List ℕ → Type 0
 Rise above [] = Unit {0}
 Rise above (n ∷ ns) = (above < n) × (n ≤ last_number) × Rise n ns
+
+-- one number or more, at most so many, and each above the one before
+pub record AreRecalled (numbers : List ℕ) : Type 0 where
+  pub some : 1 ≤ length numbers
+  pub few : length numbers ≤ most_recalled
+  pub rise : Rise 0 numbers
 
 -- what has a spelling: each field is in its range, and the two members differ
 pub record IsRecall (r : Recall) : Type 0 where

@@ -1,36 +1,20 @@
 //! Reading a recall from bytes, with no memory.
 
-ghost use Rattle.std.specs.Prelude.{◌≡◌, ◌≤◌, ◌<◌, ◌+◌, ◌==◌, length, Ok, IfOk, OnOk, OnErr, true, false};
+ghost use Rattle.std.specs.Prelude.{◌≡◌, ◌≤◌, length, Ok, IfOk, OnOk, OnErr};
 ghost use Rattle.recalls.specs.Recalls.{Recall as RecallValue, Rise, most_recalled};
 ghost use Rattle.recalls.specs.Grammar.{Spells};
-ghost use Rattle.recalls.specs.Reading.{u16_at, u32_at, member_at, members_at, mark_at, count_at, number_at, numbers_at, recall_at, Seen};
+ghost use Rattle.recalls.specs.Reading.{mark_at, count_of, number_at, numbers_at, recall_at, Seen};
 
 use crate::fault::RecallFault;
 use crate::recall::{MOST_RECALLED, Recall, RisingNumbers};
+use crate::ticket::Ticket;
 use arrayvec::ArrayVec;
-use ballots::Member;
 
 /// The fewest bytes of a recall: those before the numbers, and one number.
 const SHORTEST: usize = 17;
 
 /// The bytes before the numbers.
 pub(crate) const HEADER_LEN: usize = 13;
-
-fn u16_of(bytes: &[u8], at: usize) -> u16
-    requires { at + 2 ≤ length bytes.now }
-    ensures { result ≡ u16_at bytes.now at }
-{
-    let (_, rest) = bytes.split_at(at);
-    u16::from_be_bytes([rest[0], rest[1]])
-}
-
-fn u32_of(bytes: &[u8], at: usize) -> u32
-    requires { at + 4 ≤ length bytes.now }
-    ensures { result ≡ u32_at bytes.now at }
-{
-    let (_, rest) = bytes.split_at(at);
-    u32::from_be_bytes([rest[0], rest[1], rest[2], rest[3]])
-}
 
 /// That the bytes are long enough, and of the mark, the version and the kind of a recall.
 #[tactic(auto, unfolding(crate::specs::Reading::mark_at))]
@@ -53,39 +37,13 @@ fn check_mark(bytes: &[u8]) -> Result<(), RecallFault>
     Ok(())
 }
 
-#[tactic(auto, unfolding(crate::specs::Reading::member_at))]
-fn member_of(bytes: &[u8], at: usize) -> Result<Member, RecallFault>
-    requires { at + 1 ≤ length bytes.now }
-    ensures { result ≡ member_at bytes.now at }
-{
-    match Member::new(bytes[at]) {
-        Some(member) => Ok(member),
-        None => Err(RecallFault::BadMember),
-    }
-}
-
-#[tactic(auto, unfolding(crate::specs::Reading::members_at))]
-fn members_of(bytes: &[u8]) -> Result<(Member, Member), RecallFault>
-    requires { 17 ≤ length bytes.now }
-    ensures exact { result ≡ members_at bytes.now }
-    ensures differ { IfOk result (λ m. (m.0 == m.1) ≡ false) }
-{
-    let from = member_of(bytes, 6)?;
-    let to = member_of(bytes, 7)?;
-    if from.get() == to.get() {
-        return Err(RecallFault::BadMember);
-    }
-    Ok((from, to))
-}
-
-#[tactic(auto, unfolding(crate::specs::Reading::count_at))]
-fn count_of(bytes: &[u8]) -> Result<u8, RecallFault>
-    requires { 17 ≤ length bytes.now }
-    ensures exact { result ≡ count_at bytes.now }
+/// How many numbers there are, 1 to 64.
+#[tactic(auto, unfolding(crate::specs::Reading::count_of))]
+fn count_of(count: u8) -> Result<u8, RecallFault>
+    ensures exact { result ≡ count_of count }
     ensures low { IfOk result (λ n. 1 ≤ n) }
     ensures few { IfOk result (λ n. n ≤ most_recalled) }
 {
-    let count = bytes[12];
     if !(1 <= count && usize::from(count) <= MOST_RECALLED) {
         return Err(RecallFault::BadCount);
     }
@@ -101,7 +59,7 @@ fn number_of(above: u32, bytes: &[u8]) -> Result<u32, RecallFault>
     if bytes.len() < 4 {
         return Err(RecallFault::Short);
     }
-    let number = u32_of(bytes, 0);
+    let number = u32::from_be_bytes([bytes[0], bytes[1], bytes[2], bytes[3]]);
     if !(1 <= number && number <= 999_999) {
         return Err(RecallFault::BadNumber);
     }
@@ -136,20 +94,16 @@ fn recall_of(bytes: &[u8]) -> Result<Recall, RecallFault>
     ensures { result ≡ recall_at bytes.now }
 {
     check_mark(bytes)?;
-    let (from, to) = members_of(bytes)?;
-    let count = count_of(bytes)?;
+    let Some(ticket) = Ticket::read(bytes) else {
+        return Err(RecallFault::BadMember);
+    };
+    let count = count_of(bytes[12])?;
     let (_, rest) = bytes.split_at(HEADER_LEN);
     let (numbers, rest) = numbers_of(count, rest)?;
     if !rest.is_empty() {
         return Err(RecallFault::Long);
     }
-    Ok(Recall {
-        circuit: u16_of(bytes, 4),
-        from,
-        to,
-        asked: u32_of(bytes, 8),
-        numbers,
-    })
+    Ok(Recall { ticket, numbers })
 }
 
 /// The recall that the bytes spell, or their first fault. It takes no memory.

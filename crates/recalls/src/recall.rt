@@ -1,10 +1,10 @@
 //! A recall: whose votes for which numbers are to be told again.
 
-ghost use Rattle.std.specs.Prelude.{◌≡◌, ◌≤◌, ◌↔◌, IsSome, IfSome, IsTrue, length};
-ghost use Rattle.recalls.specs.Recalls.{Rise, most_recalled};
+ghost use Rattle.std.specs.Prelude.{◌≡◌, ◌↔◌, IsSome, IfSome, IsTrue};
+ghost use Rattle.recalls.specs.Recalls.{Rise, AreRecalled, ticket_of, recall_of};
 
+use crate::ticket::Ticket;
 use arrayvec::ArrayVec;
-use ballots::Member;
 use std::marker::Model;
 
 /// The most numbers of a recall.
@@ -13,26 +13,22 @@ pub const MOST_RECALLED: usize = 64;
 /// Numbers that rise.
 pub(crate) type RisingNumbers = ArrayVec<u32, MOST_RECALLED>;
 
-/// What a member asks another one to tell again: its votes for 1 to 64 numbers, each 1 to 999,999 and above the one before it. It has
-/// a number of the asker's, by which the asker knows what it asked for. Clauses see the fields.
+/// What a member asks another one to tell again: its votes for 1 to 64 numbers, each 1 to 999,999 and above the one before it. Clauses
+/// see the fields, those of the ticket among them.
 #[derive(Drop)]
 pub struct Recall {
-    pub(crate) circuit: u16,
-    pub(crate) from: Member,
-    pub(crate) to: Member,
-    pub(crate) asked: u32,
+    pub(crate) ticket: Ticket,
     pub(crate) numbers: RisingNumbers,
 }
 
 impl Model for Recall {
-    ghost use Rattle.std.specs.Prelude.{◌≡◌, ◌≤◌, length};
-    ghost use Rattle.recalls.specs.Recalls.{Recall as RecallValue, Rise, most_recalled};
+    ghost use Rattle.recalls.specs.Recalls.{Recall as RecallValue, recall_of, AreRecalled};
 
     ghost Value = { RecallValue };
 
-    ghost view = { λ r. record { circuit = r.circuit; from = r.from; to = r.to; asked = r.asked; numbers = r.numbers.items } };
+    ghost view = { λ r. recall_of r.ticket r.numbers.items };
 
-    ghost invariant = { λ r. (¬ (r.from ≡ r.to)) × (1 ≤ length r.numbers.items) × (length r.numbers.items ≤ most_recalled) × Rise 0 r.numbers.items };
+    ghost invariant = { λ r. AreRecalled r.numbers.items };
 }
 
 /// Whether these numbers may be recalled: each is 1 to 999,999 and above the one before it.
@@ -49,78 +45,34 @@ fn do_rise(numbers: &[u32]) -> bool
     true
 }
 
-/// A copy of up to 64 numbers.
-fn copied(numbers: &[u32]) -> RisingNumbers
-    requires { length numbers.now ≤ most_recalled }
-    ensures { result.items ≡ numbers.now }
-{
-    let mut copy = ArrayVec::new();
-    for number in numbers {
-        copy.push(*number);
-    }
-    copy
-}
-
 impl Recall {
-    /// A recall of these numbers; `None` where the two are one member, or the numbers are none, more than 64, or do not rise from 1 on.
-    pub fn new(
-        circuit: u16,
-        from: Member,
-        to: Member,
-        asked: u32,
-        numbers: &[u32],
-    ) -> Option<Recall>
-        ensures some { IsSome result ↔ ((¬ (from ≡ to)) × (1 ≤ length numbers.now) × (length numbers.now ≤ most_recalled) × Rise 0 numbers.now) }
-        ensures value { IfSome result (λ r. r ≡ record { circuit = circuit; from = from; to = to; asked = asked; numbers = numbers.now }) }
+    /// A recall of these numbers; `None` where they are none, more than 64, or do not rise from 1 on.
+    pub fn new(ticket: Ticket, numbers: &[u32]) -> Option<Recall>
+        ensures some { IsSome result ↔ AreRecalled numbers.now }
+        ensures value { IfSome result (λ r. r ≡ recall_of ticket numbers.now) }
     {
-        let count = numbers.len();
-        if from.get() == to.get() || count < 1 || count > MOST_RECALLED || !do_rise(numbers) {
+        if numbers.is_empty() || !do_rise(numbers) {
             return None;
         }
+        let mut copy = ArrayVec::new();
+        copy.try_extend_from_slice(numbers).ok()?;
         Some(Recall {
-            circuit,
-            from,
-            to,
-            asked,
-            numbers: copied(numbers),
+            ticket,
+            numbers: copy,
         })
     }
 
-    /// The circuit's number.
-    pub fn circuit(&self) -> u16
-        ensures { result ≡ self.now.circuit }
+    /// Who asks whom.
+    pub fn ticket(&self) -> &Ticket
+        ensures { result.now ≡ ticket_of self.now }
     {
-        self.circuit
-    }
-
-    /// The member that asks.
-    pub fn from(&self) -> Member
-        ensures { result ≡ self.now.from }
-    {
-        self.from
-    }
-
-    /// The member that is asked, another one.
-    pub fn to(&self) -> Member
-        ensures value { result ≡ self.now.to }
-        ensures apart { ¬ (self.now.from ≡ self.now.to) }
-    {
-        self.to
-    }
-
-    /// The number of the asker's.
-    pub fn asked(&self) -> u32
-        ensures { result ≡ self.now.asked }
-    {
-        self.asked
+        &self.ticket
     }
 
     /// The numbers, rising.
     pub fn numbers(&self) -> &[u32]
         ensures value { result.now ≡ self.now.numbers }
-        ensures rise { Rise 0 self.now.numbers }
-        ensures some { 1 ≤ length result.now }
-        ensures few { length result.now ≤ most_recalled }
+        ensures recalled { AreRecalled self.now.numbers }
     {
         self.numbers.as_slice()
     }

@@ -47,12 +47,13 @@ fn written(alloc: Global, recall: &Recall) -> Result<Vec<u8>, AllocError>
     ensures exact { IfOk result (λ v. v.items ≡ spelling recall.now) }
     ensures range { OnOk result (IsRecall recall.now) }
 {
-    let (from, to) = (recall.from().get(), recall.to().get());
+    let ticket = recall.ticket();
+    let (from, to) = (ticket.from().get(), ticket.to().get());
     let numbers = recall.numbers();
     let count = numbers.len();
     let mut out = Vec::with_capacity(alloc, HEADER_LEN + 4 * count)?;
-    put_front(&mut out, recall.circuit(), from, to)?;
-    put_count(&mut out, recall.asked(), count as u8)?;
+    put_front(&mut out, ticket.circuit(), from, to)?;
+    put_count(&mut out, ticket.asked(), count as u8)?;
     put_numbers(&mut out, numbers)?;
     Ok(out)
 }

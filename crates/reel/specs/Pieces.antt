@@ -7,6 +7,18 @@ pub record IsGap (least : ℕ) (frames : List ℕ) (from : ℕ) : Type 0 where
   pub within : from + least ≤ length frames
   pub blank : (k : ℕ) → from ≤ k → k < from + least → slice_index frames k ≡ 0
 
+-- blanks stand from one place on up to another, and no blank there, or it is the end of the frames
+pub record AreBlanks (frames : List ℕ) (from to : ℕ) : Type 0 where
+  pub within : (from ≤ to) × (to ≤ length frames)
+  pub blank : (k : ℕ) → from ≤ k → k < to → slice_index frames k ≡ 0
+  pub filled : to < length frames → ¬ (slice_index frames to ≡ 0)
+
+-- the first gap from one place on begins at another, or that is the end of the frames and there is none
+pub record IsNextGap (least : ℕ) (frames : List ℕ) (from to : ℕ) : Type 0 where
+  pub within : (from ≤ to) × (to ≤ length frames)
+  pub none : (k : ℕ) → from ≤ k → k < to → ¬ (IsGap least frames k)
+  pub gap : to < length frames → IsGap least frames to
+
 -- a frame lies in a gap: it is one of so many blanks
 pub record InGap (least : ℕ) (frames : List ℕ) (at : ℕ) : Type 0 where
   pub from : ℕ

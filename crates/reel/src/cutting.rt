@@ -1,7 +1,7 @@
 //! Where a roll is cut into pieces.
 
-ghost use Rattle.std.specs.Prelude.{◌≡◌, ◌<◌, ◌≤◌, ℕ, length, slice_index, IfOk};
-ghost use Rattle.reel.specs.Pieces.{IsGap, IsCut};
+ghost use Rattle.std.specs.Prelude.{◌≤◌, length, IfOk};
+ghost use Rattle.reel.specs.Pieces.{AreBlanks, IsNextGap, IsCut};
 
 use crate::piece::RollPiece;
 use std::alloc::{AllocError, Global};
@@ -9,9 +9,7 @@ use std::alloc::{AllocError, Global};
 /// The first place from one on at which no blank stands, or the end of the frames.
 fn blanks_end(frames: &[u8], from: usize) -> usize
     requires { from ≤ length frames.now }
-    ensures within { (from ≤ result) × (result ≤ length frames.now) }
-    ensures blank { (k : ℕ) → from ≤ k → k < result → slice_index frames.now k ≡ 0 }
-    ensures filled { result < length frames.now → ¬ (slice_index frames.now result ≡ 0) }
+    ensures { AreBlanks frames.now from result }
 {
     let mut at = from;
     while at < frames.len() && frames[at] == 0 {
@@ -23,9 +21,7 @@ fn blanks_end(frames: &[u8], from: usize) -> usize
 /// The first place from one on at which a gap begins, or the end of the frames.
 fn next_gap(frames: &[u8], least: usize, from: usize) -> usize
     requires { (1 ≤ least) × (from ≤ length frames.now) }
-    ensures within { (from ≤ result) × (result ≤ length frames.now) }
-    ensures none { (k : ℕ) → from ≤ k → k < result → ¬ (IsGap least frames.now k) }
-    ensures gap { result < length frames.now → IsGap least frames.now result }
+    ensures { IsNextGap least frames.now from result }
 {
     let mut at = from;
     while at < frames.len() {

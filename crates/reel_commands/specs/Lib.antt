@@ -2,5 +2,4 @@ pub mod Ends
 pub mod Files
 pub mod Importing
 pub mod Report
-pub mod Columns
 pub mod Survey

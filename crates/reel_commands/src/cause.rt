@@ -1,7 +1,6 @@
 //! Why `import` or `survey` did not end well.
 
-ghost use Rattle.std.specs.Prelude.{◌≡◌};
-ghost use Rattle.command_ends.specs.declared.end.End.TheVariants.{Done};
+ghost use Rattle.command_ends.specs.Ends.{EndsBy};
 ghost use Rattle.reel_commands.specs.Ends.{end_in};
 
 use command_ends::{End, Fault};
@@ -76,8 +75,7 @@ impl<'a> fmt::Display for ReelFault<'a> {
 impl<'a> ReelFault<'a> {
     /// Writes the text, and gives how a command ends by this fault. That the writer fails is ignored.
     pub fn tell<E: Write>(&self, err: &mut E) -> End
-        ensures end { result ≡ end_in self.now }
-        ensures fails { ¬ (result ≡ Done) }
+        ensures { EndsBy (end_in self.now) result }
     {
         let _ = writeln!(err, "{self}");
         match self {

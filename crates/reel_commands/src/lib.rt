@@ -3,7 +3,6 @@
 
 mod around;
 mod cause;
-mod columns;
 mod files;
 mod importing;
 mod outputs;

@@ -6,10 +6,9 @@ ghost use Rattle.reel_commands.specs.Ends.{Gives};
 ghost use Rattle.reel_commands.specs.Report.{len_of, is_long, warning, tape_line, lines_from, foot_text, import_text, end_by};
 
 use crate::cause::ReelFault;
-use crate::columns::put_digits;
 use crate::importing::Imported;
 use crate::outputs::put_whole;
-use command_ends::{End, Fault};
+use command_ends::{End, Fault, put_digits};
 use reel::{RollPiece, tape_name};
 use std::alloc::{AllocError, Global};
 use std::io::Write;

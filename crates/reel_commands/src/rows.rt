@@ -6,10 +6,10 @@ ghost use Rattle.tape_frames.specs.Holes.{holes_of};
 ghost use Rattle.reel_commands.specs.Survey.{meaning_word, lack_in, lack_word, lack_of, frame_row, place_line, tape_lines};
 
 use crate::around::put_around;
-use crate::columns::{put_digits, put_left, put_number, put_wide};
 use crate::places::{first_three, places_in};
 use crate::surveying::Surveyed;
 use code_table::{Case, CodeTable, Meaning};
+use command_ends::{put_digits, put_left, put_number};
 use std::alloc::AllocError;
 use tape_frames::holes;
 use widths::Widths;
@@ -110,10 +110,10 @@ pub fn put_row(
     requires { frame < 64 }
     ensures { OnOk result (text.new.items ≡ text.old.items ++ frame_row (mean chart.entry.table.now) chart.entry.widths.now frame times) }
 {
-    put_number(text, 5, frame as usize)?;
+    put_number(text, 5, u128::from(frame))?;
     text.extend_from_slice(b"  ")?;
     put_holes(text, frame)?;
-    put_wide(text, 9, times)?;
+    put_number(text, 9, times)?;
     text.extend_from_slice(b"  ")?;
     put_left(
         text,

@@ -4,11 +4,11 @@ ghost use Rattle.std.specs.Prelude.{◌≡◌, ◌++◌, ◌<◌, ◌≤◌, OnO
 ghost use Rattle.code_table.specs.Tables.{mean};
 ghost use Rattle.reel_commands.specs.Survey.{tape_lines, frame_text_of, is_wanted, all_frames, head_text, foot_text, survey_text};
 
-use crate::columns::put_digits;
 use crate::places::times_in;
 use crate::rows::{Chart, lack_of, put_row, put_tape_lines};
 use crate::surveying::{Survey, Surveyed};
 use code_table::CodeTable;
+use command_ends::put_digits;
 use std::alloc::{AllocError, Global};
 
 /// Writes the lines of the first places of a frame in each tape.

@@ -1,9 +1,13 @@
 -- What a rehearsal has written: what is shown of a circuit that agrees.
-use Rattle.std.specs.Prelude.{◌≡◌, ℕ, ◌⊎◌, List, [], Option, Some, None, Result, Ok, OnOk, OnErr, true, IfSome}
+use Rattle.std.specs.Prelude.{◌≡◌, ℕ, ◌⊎◌, List, [], Option, Some, None, Result, Ok, OnOk, OnErr, IfErr, true, false, IfSome}
 use Rattle.std.specs.List.{All}
 use Rattle.std.specs.Io.KnownBytes.{Appends}
 use Rattle.toml.specs.Parse.{parse_document}
 use Rattle.streams.specs.Fronts.{AppendsFront}
+use Rattle.command_ends.specs.Ends.{IsOfInput, end_of}
+use Rattle.command_ends.specs.declared.end.End.{End}
+use Rattle.command_ends.specs.declared.end.End.TheVariants.{Done}
+use Rattle.command_ends.specs.declared.fault.Fault.{Fault}
 use Rattle.code_table.specs.Reading.{read_table}
 use Rattle.widths.specs.Reading.{read_widths}
 use Rattle.protocol.specs.Versions.{Version}
@@ -60,6 +64,19 @@ GoesOn result was old now new = (by : Inputs) (start : Option (List ℕ)) → St
 abbrev pub Stops : {A E : Type 0} → Result A E → Option (List ℕ) → World MemoryOf → Option (List ℕ) → World MemoryOf → Type 0
 Stops result was old now new = (by : Inputs) (start : Option (List ℕ)) → Stands by start was old → OnErr result (StandsFront by start now new)
 
+-- a step was taken and shown: what was written goes on to be what is shown of the stage's world, or stops as a front of it; the stage is as
+-- new as it was
+pub record ShowsStep {A E : Type 0} (result : Result A E) (was : Option (List ℕ)) (old : Rehearsal) (now : Option (List ℕ)) (new : Rehearsal) : Type 0 where
+  pub goes_on : GoesOn result was old.world now new.world
+  pub stops : Stops result was old.world now new.world
+  pub is_new : new.is_new ≡ old.is_new
+
+-- a line was played that does not set the stage: the same, and the stage is new no more
+pub record PlaysLine {A E : Type 0} (result : Result A E) (was : Option (List ℕ)) (old : Rehearsal) (now : Option (List ℕ)) (new : Rehearsal) : Type 0 where
+  pub goes_on : GoesOn result was old.world now new.world
+  pub stops : Stops result was old.world now new.world
+  pub no_more : new.is_new ≡ false
+
 -- nothing has happened yet, and all members are in this version
 abbrev pub BeginsIn : Version → World MemoryOf → Type 0
 BeginsIn version v = (k : ℕ) × (members : List Given) × IsFresh ghosts k members (λ m. version) v
@@ -110,10 +127,21 @@ abbrev pub StopsStaged : {A E : Type 0} → Given → Result A E → Option (Lis
 StopsStaged member result was old now =
     (by : Inputs) (start : Option (List ℕ)) → IsSetUpBy by member → IsStaged by start was old → OnErr result (Rehearses by (AppendsFront start now))
 
--- all lines were played, and all was written that a rehearsal of such members shows
-abbrev pub PlaysAll : {A E : Type 0} → Given → Result A E → Option (List ℕ) → Option (List ℕ) → Type 0
-PlaysAll member result old new = (by : Inputs) → IsSetUpBy by member → OnOk result (Rehearses by (Appends old new))
+-- members that these texts set up were rehearsed, up to the first fault
+pub record RehearsesUpTo {A : Type 0} (by : Inputs) (result : Result A Fault) (old new : Option (List ℕ)) : Type 0 where
+  -- where there is none, all was written that is shown of such a circuit; otherwise a front of that
+  pub ok : OnOk result (Rehearses by (Appends old new))
+  pub err : OnErr result (Rehearses by (AppendsFront old new))
+  -- the fault is one of the input
+  pub ends : IfErr result (λ fault. IsOfInput (end_of fault))
 
--- the lines were played up to one, and a front of that was written
-abbrev pub PlaysFront : {A E : Type 0} → Given → Result A E → Option (List ℕ) → Option (List ℕ) → Type 0
-PlaysFront member result old new = (by : Inputs) → IsSetUpBy by member → OnErr result (Rehearses by (AppendsFront old new))
+-- the lines of a script were played by such members, up to the first fault, whatever texts set them up
+abbrev pub PlaysScript : {A : Type 0} → Given → Result A Fault → Option (List ℕ) → Option (List ℕ) → Type 0
+PlaysScript member result old new = (by : Inputs) → IsSetUpBy by member → RehearsesUpTo by result old new
+
+-- a rehearsal by these texts ended so: what `rehearse` promises
+pub record HasRehearsed (by : Inputs) (end : End) (old new : Option (List ℕ)) : Type 0 where
+  -- where it ends well, all is written that is shown of such a circuit; otherwise a front of that
+  pub done : end ≡ Done → Rehearses by (Appends old new)
+  pub front : Rehearses by (AppendsFront old new)
+  pub ends : IsOfInput end

@@ -1,17 +1,12 @@
 //! The command `rehearse`: a whole circuit in one process, driven by a script.
 
-ghost use Rattle.std.specs.Prelude.{◌≡◌, ◌+◌, ◌≤◌, OnOk, OnErr, IfOk, IfErr, length, true, false};
+ghost use Rattle.std.specs.Prelude.{◌≡◌, OnOk, OnErr, IfOk, true, false};
 ghost use Rattle.std.specs.List.{All};
-ghost use Rattle.std.specs.Io.KnownBytes.{Appends};
-ghost use Rattle.streams.specs.Fronts.{AppendsFront};
 ghost use Rattle.command_ends.specs.Ends.{IsOfInput, end_of};
-ghost use Rattle.command_ends.specs.Writing.{Writes};
-ghost use Rattle.command_ends.specs.declared.end.End.TheVariants.{Done};
 ghost use Rattle.protocol.specs.Versions.{One};
 ghost use Rattle.tape_frames.specs.Entries.{version_of};
 ghost use Rattle.rehearse_command.specs.Orders.{step_of};
-ghost use Rattle.rehearse_command.specs.Rehearsals.{BeginsIn, BeginsOn, GoesOn, inputs, PlaysAll, PlaysFront, PlaysOn, PlaysStaged, Rehearses, StandsNew, Stops, StopsOn, StopsStaged, TurnsOn};
-ghost use Rattle.rehearse_command.specs.Scenes.{shown_text};
+ghost use Rattle.rehearse_command.specs.Rehearsals.{BeginsIn, BeginsOn, HasRehearsed, inputs, PlaysLine, PlaysOn, PlaysScript, PlaysStaged, RehearsesUpTo, ShowsStep, StandsNew, StopsOn, StopsStaged, TurnsOn};
 
 use crate::scene_lines::{ShownStep, put_scene};
 use code_table::CodeTable;
@@ -148,22 +143,6 @@ fn stop_of(refusal: WorldRefusal) -> LineStop {
     }
 }
 
-/// Writes all that is seen of a step, whose lines are made in `line`.
-fn put_step<W: Write>(
-    alloc: Global,
-    line: &mut String,
-    step: &ShownStep<'_>,
-    out: &mut W,
-) -> Result<(), LineStop>
-    requires { step.now.before + length step.now.sent.now ≤ usize.MAX }
-    ensures { Writes result (W.contents out.old) (W.contents out.new) (shown_text step.now) }
-{
-    match put_scene(alloc, line, step, out) {
-        Ok(()) => Ok(()),
-        Err(fault) => Err(LineStop::Unwritten(fault)),
-    }
-}
-
 impl Rehearsal {
     /// Sets the stage anew with its members in this version, as long as it is new.
     fn turn_to(&mut self, setting: MemberSetting<'_>, version: Version) -> Result<(), LineStop>
@@ -184,9 +163,7 @@ impl Rehearsal {
 
     /// Takes a step, and shows what it did.
     fn show<W: Write>(&mut self, alloc: Global, step: &Step, out: &mut W) -> Result<(), LineStop>
-        ensures goes_on { GoesOn result (W.contents out.old) self.old.world (W.contents out.new) self.new.world }
-        ensures stops { Stops result (W.contents out.old) self.old.world (W.contents out.new) self.new.world }
-        ensures stays { self.new.is_new ≡ self.old.is_new }
+        ensures { ShowsStep result (W.contents out.old) self.old (W.contents out.new) self.new }
     {
         let (sent, released) = (self.world.sent().len(), self.world.releases().len());
         match self.world.step(step) {
@@ -199,7 +176,10 @@ impl Rehearsal {
                     sent: new_sent,
                     releases: new_releases,
                 };
-                put_step(alloc, &mut self.text, &shown, out)
+                match put_scene(alloc, &mut self.text, &shown, out) {
+                    Ok(()) => Ok(()),
+                    Err(fault) => Err(LineStop::Unwritten(fault)),
+                }
             }
             Err(refusal) => Err(stop_of(refusal)),
         }
@@ -207,9 +187,7 @@ impl Rehearsal {
 
     /// Takes the step that a line orders, and shows what it did.
     fn play<W: Write>(&mut self, alloc: Global, order: Order, out: &mut W) -> Result<(), LineStop>
-        ensures goes_on { GoesOn result (W.contents out.old) self.old.world (W.contents out.new) self.new.world }
-        ensures stops { Stops result (W.contents out.old) self.old.world (W.contents out.new) self.new.world }
-        ensures no_more { self.new.is_new ≡ false }
+        ensures { PlaysLine result (W.contents out.old) self.old (W.contents out.new) self.new }
     {
         self.is_new = false;
         if let Order::At(moment) = order {
@@ -284,16 +262,17 @@ fn lines_of<'a>(alloc: Global, script: &'a [u8]) -> Result<Vec<&'a [u8]>, AllocE
     script.split(|b| *b == b'\n').collect(alloc)
 }
 
-/// Plays lines, up to the first fault. Where there is none, the memory of the circuit is not given back.
-fn play_lines<'a, W: Write>(
+/// Plays all lines of a script, up to the first fault. Where there is none, the memory of the circuit is not given back.
+fn play_all<'a, W: Write>(
     setting: MemberSetting<'_>,
-    lines: &[&[u8]],
+    script: &[u8],
     out: &mut W,
 ) -> Result<(), Fault<'a>>
-    ensures ok { PlaysAll (setting.entry.table.now, setting.entry.widths.now) result (W.contents out.old) (W.contents out.new) }
-    ensures err { PlaysFront (setting.entry.table.now, setting.entry.widths.now) result (W.contents out.old) (W.contents out.new) }
-    ensures ends { IfErr result (λ fault. IsOfInput (end_of fault)) }
+    ensures { PlaysScript (setting.entry.table.now, setting.entry.widths.now) result (W.contents out.old) (W.contents out.new) }
 {
+    let Ok(lines) = lines_of(setting.alloc, script) else {
+        return Err(Fault::OutOfMemory);
+    };
     let mut stage = None;
     for (index, words) in lines.iter().enumerate() {
         if !is_ignored(words) {
@@ -305,23 +284,6 @@ fn play_lines<'a, W: Write>(
     // The process ends with its rehearsal, so the memory of the circuit is not given back piece by piece: that took up to a fifth of
     // the time.
     let _left = ManuallyDrop::new(stage);
-    Ok(())
-}
-
-/// Plays all lines, up to the first fault.
-fn play_all<'a, W: Write>(
-    setting: MemberSetting<'_>,
-    script: &[u8],
-    out: &mut W,
-) -> Result<(), Fault<'a>>
-    ensures ok { PlaysAll (setting.entry.table.now, setting.entry.widths.now) result (W.contents out.old) (W.contents out.new) }
-    ensures err { PlaysFront (setting.entry.table.now, setting.entry.widths.now) result (W.contents out.old) (W.contents out.new) }
-    ensures ends { IfErr result (λ fault. IsOfInput (end_of fault)) }
-{
-    let Ok(lines) = lines_of(setting.alloc, script) else {
-        return Err(Fault::OutOfMemory);
-    };
-    play_lines(setting, &lines, out)?;
     match out.flush() {
         Ok(()) => Ok(()),
         Err(_) => Err(Fault::CannotWrite),
@@ -343,11 +305,8 @@ fn rehearsed<'a, R: Read + Drop, S: Read + Drop, T: Read + Drop, W: Write>(
     order: RehearsalOrder<'a, R, S, T>,
     out: &mut W,
 ) -> Result<(), Fault<'a>>
-    ensures ok { OnOk result (Rehearses (inputs (R.remaining order.entry.table) (S.remaining order.entry.widths))
-        (Appends (W.contents out.old) (W.contents out.new))) }
-    ensures err { OnErr result (Rehearses (inputs (R.remaining order.entry.table) (S.remaining order.entry.widths))
-        (AppendsFront (W.contents out.old) (W.contents out.new))) }
-    ensures ends { IfErr result (λ fault. IsOfInput (end_of fault)) }
+    ensures { RehearsesUpTo (inputs (R.remaining order.entry.table) (S.remaining order.entry.widths)) result
+        (W.contents out.old) (W.contents out.new) }
 {
     let RehearsalOrder {
         paths,
@@ -382,12 +341,8 @@ pub fn rehearse<R: Read + Drop, S: Read + Drop, T: Read + Drop, W: Write, E: Wri
     out: &mut W,
     err: &mut E,
 ) -> End
-    // Where it ends well, all is written that is shown of such a circuit; otherwise a front of that.
-    ensures done { result ≡ Done → Rehearses (inputs (R.remaining order.entry.table) (S.remaining order.entry.widths))
-        (Appends (W.contents out.old) (W.contents out.new)) }
-    ensures front { Rehearses (inputs (R.remaining order.entry.table) (S.remaining order.entry.widths))
-        (AppendsFront (W.contents out.old) (W.contents out.new)) }
-    ensures ends { IsOfInput result }
+    ensures { HasRehearsed (inputs (R.remaining order.entry.table) (S.remaining order.entry.widths)) result
+        (W.contents out.old) (W.contents out.new) }
 {
     match rehearsed(alloc, order, out) {
         Ok(()) => End::Done,

@@ -1,5 +1,5 @@
 -- What the members of a circuit ask of the station, and who is answered next.
-use Rattle.std.specs.Prelude.{◌≡◌, ℕ, ◌+◌, ◌-◌, ◌^◌, Bool, false, not, ◌&&◌, nat_lt, nat_le, min, List, [], ◌∷◌, ◌++◌, length, drop, position, replicate, Option, Some, None, slice_index_or, slice_set, if◌then◌else◌}
+use Rattle.std.specs.Prelude.{◌≡◌, ℕ, ◌+◌, ◌-◌, ◌^◌, Bool, false, not, ◌&&◌, nat_lt, nat_le, min, List, [], ◌∷◌, ◌++◌, length, drop, position, replicate, Option, Some, None, option_to_list, slice_index_or, slice_set, if◌then◌else◌}
 use Rattle.roll_call.specs.declared.ask.Ask.{Ask}
 
 -- a member: what it asks and waits for, the first asked first; when its present second began; and how often it was answered in it
@@ -42,6 +42,12 @@ is_ready now s = nat_lt 0 (length s.waiting) && not (is_second_on s.since now &&
 -- one ask more is answered: in the present second, or as the first of one that begins
 abbrev pub answered : ℕ → AskerValue → AskerValue
 answered now s = if is_second_on s.since now then record s { told = s.told + 1 } else record s { since = Some now; told = 1 }
+
+-- the ask that waits longest is taken, if one waits, to be answered now
+pub record IsTaken (now : ℕ) (old new : AskerValue) (ask : Option Ask) : Type 0 where
+  pub first : old.waiting ≡ option_to_list ask ++ new.waiting
+  pub none : ask ≡ None → old.waiting ≡ []
+  pub rest : new ≡ record (answered now old) { waiting = new.waiting }
 
 -- the member at a place
 abbrev pub asker_at : ℕ → AnswersValue → AskerValue

@@ -1,5 +1,5 @@
 -- Whom the station asks for what.
-use Rattle.std.specs.Prelude.{◌≡◌, ◌<◌, ◌≤◌, ◌⊎◌, ℕ, ◌+◌, ◌-◌, ◌^◌, ◌%◌, Bool, true, false, not, ◌&&◌, ◌==◌, nat_lt, nat_le, min, List, replicate, Option, Some, None, IfSome, slice_index_or, slice_set, if◌then◌else◌, count_by}
+use Rattle.std.specs.Prelude.{◌≡◌, ◌<◌, ◌≤◌, ◌⊎◌, ℕ, ◌+◌, ◌-◌, ◌^◌, ◌%◌, Bool, true, false, not, ◌&&◌, ◌==◌, nat_lt, nat_le, min, List, length, replicate, Option, Some, None, IfSome, slice_index_or, slice_set, if◌then◌else◌, count_by}
 use Rattle.gone_out.specs.declared.origin.Origin.{Origin}
 use Rattle.roll_call.specs.declared.look.RollLook.{RollLook}
 use Rattle.roll_call.specs.declared.asks.Question.{Question}
@@ -70,8 +70,8 @@ NoCountsDue own l tellers many = (place : ℕ) → place < many → counts_due_a
 
 -- the first member that is asked for its counts, if one is
 abbrev pub IsFirstDue : Origin → RollLook → List TellerValue → Option ℕ → Type 0
-IsFirstDue own l tellers None = NoCountsDue own l tellers 15
-IsFirstDue own l tellers (Some place) = (place < 15) × (counts_due_at own l tellers place ≡ true) × NoCountsDue own l tellers place
+IsFirstDue own l tellers None = NoCountsDue own l tellers (length tellers)
+IsFirstDue own l tellers (Some place) = (place < length tellers) × (counts_due_at own l tellers place ≡ true) × NoCountsDue own l tellers place
 
 -- the lowest page that one of the first members is asked for, and a member that is, if one is
 abbrev pub IsLowestDue : Origin → ℕ → List TellerValue → ℕ → Option (ℕ × ℕ) → Type 0
@@ -89,13 +89,20 @@ is_lower page (Some (place, low)) = nat_lt page low
 abbrev pub IsChoice : Origin → RollLook → Bool → List TellerValue → Option (ℕ × Topic) → Type 0
 IsChoice own l may tellers (Some (place, None)) = IsFirstDue own l tellers (Some place)
 IsChoice own l may tellers (Some (place, Some page)) =
-    IsFirstDue own l tellers None × (may ≡ true) × IsLowestDue own l.moment tellers 15 (Some (place, page))
-IsChoice own l may tellers None = IsFirstDue own l tellers None × ((may ≡ false) ⊎ IsLowestDue own l.moment tellers 15 None)
+    IsFirstDue own l tellers None × (may ≡ true) × IsLowestDue own l.moment tellers (length tellers) (Some (place, page))
+IsChoice own l may tellers None = IsFirstDue own l tellers None × ((may ≡ false) ⊎ IsLowestDue own l.moment tellers (length tellers) None)
 
 -- a member is asked for something, by the next number
 abbrev pub with_question : RollLook → Question → AsksValue → AsksValue
 with_question l q a =
     with_teller (q.to - 1) (asked_for l q.asked q.page (teller_at (q.to - 1) a.tellers)) (record a { asked = q.asked })
+
+-- the member at a place is asked for something, by the next number
+pub record IsQuestion (l : RollLook) (place : ℕ) (topic : Topic) (old new : AsksValue) (q : Question) : Type 0 where
+  pub to : q.to ≡ place + 1
+  pub page : q.page ≡ topic
+  pub asked : q.asked ≡ (old.asked + 1) % 2 ^ 32
+  pub after : new ≡ with_question l q old
 
 -- what is asked at a moment, if anything is
 abbrev pub IsAsked : Origin → ℕ → Bool → AsksValue → AsksValue → Option Question → Type 0
@@ -125,3 +132,8 @@ is_whole t = t.heard.is_whole
 -- how many members did
 abbrev pub whole_many : AsksValue → ℕ
 whole_many a = count_by is_whole a.tellers
+
+-- so many did, of the 15 of the greatest circuit
+pub record AreWhole (a : AsksValue) (n : ℕ) : Type 0 where
+  pub many : n ≡ whole_many a
+  pub few : n ≤ 15

@@ -1,7 +1,7 @@
 //! What the members ask of the station. Each has its place, and they take turns.
 
-ghost use Rattle.std.specs.Prelude.{◌≡◌, ◌<◌, ◌≤◌, IfOk, IfSome, length, position, replicate};
-ghost use Rattle.roll_call.specs.Answers.{asked_one, is_ready, nobody, nothing_asked, TakesTurn, turn_of};
+ghost use Rattle.std.specs.Prelude.{◌≡◌, ◌<◌, ◌≤◌, IfOk, IfSome, length, position};
+ghost use Rattle.roll_call.specs.Answers.{asked_one, is_ready, nothing_asked, TakesTurn, turn_of};
 
 use crate::ask::Ask;
 use crate::asker::Asker;
@@ -31,17 +31,6 @@ impl Model for Answers {
     ghost invariant = { λ a. (length a.askers.items ≡ 15) × (a.next ≤ 15) };
 }
 
-/// Members that asked for nothing.
-fn new_askers(alloc: Global) -> Result<Vec<Asker>, AllocError>
-    ensures { IfOk result (λ v. v.items ≡ replicate 15 nobody) }
-{
-    let mut askers = Vec::new(alloc);
-    for _ in 0..MOST_MEMBERS {
-        askers.push(Asker::new())?;
-    }
-    Ok(askers)
-}
-
 /// The first place of a member that is ready.
 fn first_of(askers: &[Asker], now: u64) -> Option<usize>
     ensures place { result ≡ position (is_ready now) askers.now }
@@ -55,8 +44,12 @@ impl Answers {
     pub(crate) fn new(alloc: Global) -> Result<Answers, AllocError>
         ensures { IfOk result (λ a. a ≡ nothing_asked) }
     {
+        let mut askers = Vec::new(alloc);
+        for _ in 0..MOST_MEMBERS {
+            askers.push(Asker::new())?;
+        }
         Ok(Answers {
-            askers: new_askers(alloc)?,
+            askers,
             next: 0,
             dropped: 0,
         })

@@ -1,18 +1,16 @@
 //! What one member asks, and how often it was answered of late.
 
-ghost use Rattle.std.specs.Prelude.{◌≡◌, ◌++◌, [], None, true, option_to_list};
-ghost use Rattle.roll_call.specs.Answers.{answered, asks, has_place, is_ready, is_second_on, nobody};
+ghost use Rattle.std.specs.Prelude.{◌≡◌, true};
+ghost use Rattle.roll_call.specs.Answers.{IsTaken, answered, asks, has_place, is_ready, nobody};
 
 use crate::ask::Ask;
+use crate::second::is_second_on;
 use arrayvec::ArrayVec;
 use rolls::Page;
 use std::marker::Model;
 
 /// How many asks of one member wait.
 const MOST_WAITING: usize = 4;
-
-/// How long a second is, in milliseconds.
-const SECOND: u64 = 1000;
 
 /// How often a member is answered in a second before it waits for the next.
 const MOST_ANSWERS: u8 = 8;
@@ -62,30 +60,11 @@ impl Asker {
         true
     }
 
-    /// Whether the second that began last is not over yet.
-    fn is_second_on(&self, now: u64) -> bool
-        ensures { result ≡ is_second_on self.now.since now }
-    {
-        match self.since {
-            Some(since) => now.saturating_sub(since) < SECOND,
-            None => false,
-        }
-    }
-
     /// Whether an ask waits that may be answered now.
     pub(crate) fn is_ready(&self, now: u64) -> bool
         ensures { result ≡ is_ready now self.now }
     {
-        !self.waiting.is_empty() && !(self.is_second_on(now) && self.told >= MOST_ANSWERS)
-    }
-
-    /// Takes the ask that waits longest.
-    fn take_first(&mut self) -> Option<Ask>
-        ensures first { self.old.waiting ≡ option_to_list result ++ self.new.waiting }
-        ensures none { result ≡ None → self.old.waiting ≡ [] }
-        ensures rest { self.new ≡ record self.old { waiting = self.new.waiting } }
-    {
-        self.waiting.pop_at(0)
+        !self.waiting.is_empty() && !(is_second_on(self.since, now) && self.told >= MOST_ANSWERS)
     }
 
     /// It is answered once more.
@@ -93,7 +72,7 @@ impl Asker {
         requires { is_ready now self.old ≡ true }
         ensures { self.new ≡ answered now self.old }
     {
-        if self.is_second_on(now) {
+        if is_second_on(self.since, now) {
             self.told += 1;
         } else {
             self.since = Some(now);
@@ -104,11 +83,9 @@ impl Asker {
     /// Takes the ask that waits longest, to be answered now.
     pub(crate) fn take(&mut self, now: u64) -> Option<Ask>
         requires { is_ready now self.old ≡ true }
-        ensures first { self.old.waiting ≡ option_to_list result ++ self.new.waiting }
-        ensures none { result ≡ None → self.old.waiting ≡ [] }
-        ensures rest { self.new ≡ record (answered now self.old) { waiting = self.new.waiting } }
+        ensures { IsTaken now self.old self.new result }
     {
         self.count(now);
-        self.take_first()
+        self.waiting.pop_at(0)
     }
 }

@@ -1,17 +1,16 @@
 //! What the station asks the members.
 
-ghost use Rattle.std.specs.Prelude.{◌≡◌, ◌≤◌, ◌<◌, ◌+◌, ◌-◌, ◌%◌, ◌^◌, true, Some, IfOk, IfSome, length, replicate};
-ghost use Rattle.rolls.specs.Pages.{pages};
+ghost use Rattle.std.specs.Prelude.{◌≡◌, ◌<◌, ◌-◌, true, Some, IfOk, IfSome, replicate};
 ghost use Rattle.roll_call.specs.Topics.{the_counts};
 ghost use Rattle.roll_call.specs.Tellers.{silent};
-ghost use Rattle.roll_call.specs.Asks.{asks_from, came_at, counts_told, is_asked_for, is_other, look_at, page_told, turned, whole_many, with_question, with_turn, IsAsked};
+ghost use Rattle.roll_call.specs.Asks.{AreWhole, asks_from, came_at, counts_told, is_asked_for, is_other, look_at, page_told, turned, IsAsked, IsQuestion};
 
 use crate::choice::{choice, turn_after};
 use crate::look::RollLook;
 use crate::teller::Teller;
 use ballots::{MOST_MEMBERS, Member};
 use gone_out::Origin;
-use rolls::Page;
+use rolls::{Counts, Page};
 use std::alloc::{AllocError, Global};
 use std::marker::Model;
 
@@ -40,7 +39,7 @@ pub(crate) struct Asks {
     /// The number of the last ask, counted over and over from 0.
     asked: u32,
     /// The member whose turn was last.
-    turn: u8,
+    turn: Member,
     /// When it was, in milliseconds.
     round: u64,
     /// How many packets came and votes were saved, counted over and over from 0.
@@ -50,14 +49,14 @@ pub(crate) struct Asks {
 }
 
 impl Model for Asks {
-    ghost use Rattle.std.specs.Prelude.{◌≡◌, ◌<◌, length};
+    ghost use Rattle.std.specs.Prelude.{◌≡◌, length};
     ghost use Rattle.roll_call.specs.Asks.{AsksValue};
 
     ghost Value = { AsksValue };
 
     ghost view = { λ a. record { tellers = a.tellers.items; asked = a.asked; turn = a.turn; round = a.round; news = a.news; last = a.last } };
 
-    ghost invariant = { λ a. (length a.tellers.items ≡ 15) × (a.turn < 16) };
+    ghost invariant = { λ a. length a.tellers.items ≡ 15 };
 }
 
 /// Members at the start.
@@ -79,7 +78,7 @@ impl Asks {
         Ok(Asks {
             tellers: new_tellers(alloc)?,
             asked: 0,
-            turn: own.member.get(),
+            turn: own.member,
             round: now,
             news: 0,
             last: now,
@@ -112,17 +111,14 @@ impl Asks {
         if now.saturating_sub(self.round) >= ROUND {
             self.turn = turn_after(own, self.turn);
             self.round = now;
-            self.tellers[usize::from(self.turn) - 1].call();
+            self.tellers[usize::from(self.turn.get()) - 1].call();
         }
     }
 
     /// A member is asked for something, by the next number.
     fn question(&mut self, look: &RollLook, place: usize, page: Option<Page>) -> Question
         requires { place < 15 }
-        ensures place { result.to ≡ place + 1 }
-        ensures page { result.page ≡ page }
-        ensures asked { result.asked ≡ (self.old.asked + 1) % 2 ^ 32 }
-        ensures new { self.new ≡ with_question look.now result self.old }
+        ensures { IsQuestion look.now place page self.old self.new result }
     {
         let Some(to) = Member::new(place as u8 + 1) else {
             unreachable!();
@@ -155,8 +151,7 @@ impl Asks {
     }
 
     /// A member told its counts. Whether they were asked for.
-    pub(crate) fn tell_counts(&mut self, member: Member, asked: u32, counts: &[u16]) -> bool
-        requires { length counts.now ≡ pages }
+    pub(crate) fn tell_counts(&mut self, member: Member, asked: u32, counts: &Counts) -> bool
         ensures pending { result ≡ is_asked_for member asked the_counts self.old }
         ensures told { self.new ≡ counts_told member asked counts.now self.old }
     {
@@ -173,8 +168,7 @@ impl Asks {
 
     /// How many members told their counts since the start, and each page of them that has votes.
     pub(crate) fn whole(&self) -> u8
-        ensures many { result ≡ whole_many self.now }
-        ensures few { result ≤ 15 }
+        ensures { AreWhole self.now result }
     {
         let mut whole = 0;
         for teller in &self.tellers {

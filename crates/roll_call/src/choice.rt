@@ -5,7 +5,7 @@ ghost use Rattle.roll_call.specs.Asks.{behind, counts_due_at, is_other, page_due
 
 use crate::look::RollLook;
 use crate::teller::Teller;
-use ballots::MOST_MEMBERS;
+use ballots::Member;
 use gone_out::Origin;
 use rolls::Page;
 
@@ -24,24 +24,24 @@ fn behind(own: &Origin, member: u8) -> u8
     }
 }
 
-/// Whose turn it is after that of a member.
-pub(crate) fn turn_after(own: &Origin, member: u8) -> u8
-    requires { member < 16 }
-    ensures turn { result ≡ turn_after own.now member }
-    ensures low { 0 < result }
-    ensures high { result < 16 }
+/// Whose turn it is after that of a member: the other one behind it, or else the first.
+pub(crate) fn turn_after(own: &Origin, member: Member) -> Member
+    ensures { result ≡ turn_after own.now member }
 {
-    let next = behind(own, member);
-    if next <= own.count && usize::from(next) <= MOST_MEMBERS {
-        next
+    let following = behind(own, member.get());
+    let next = if following <= own.count && following <= Member::LAST {
+        following
     } else {
         behind(own, 0)
-    }
+    };
+    let Some(next) = Member::new(next) else {
+        unreachable!();
+    };
+    next
 }
 
 /// Whether the member at a place is another one of the circuit.
 fn is_other(own: &Origin, place: usize) -> bool
-    requires { place < 15 }
     ensures { result ≡ is_other own.now place }
 {
     place < usize::from(own.count) && place + 1 != usize::from(own.member.get())
@@ -49,8 +49,7 @@ fn is_other(own: &Origin, place: usize) -> bool
 
 /// Whether the member at a place is asked for its counts now.
 fn is_counts_due(own: &Origin, look: &RollLook, tellers: &[Teller], place: usize) -> bool
-    requires many { length tellers.now ≡ 15 }
-    requires within { place < 15 }
+    requires { place < length tellers.now }
     ensures { result ≡ counts_due_at own.now look.now tellers.now place }
 {
     is_other(own, place) && tellers[place].is_counts_due(look)
@@ -58,10 +57,9 @@ fn is_counts_due(own: &Origin, look: &RollLook, tellers: &[Teller], place: usize
 
 /// The first member that is asked for its counts now.
 fn first_due(own: &Origin, look: &RollLook, tellers: &[Teller]) -> Option<usize>
-    requires { length tellers.now ≡ 15 }
     ensures { IsFirstDue own.now look.now tellers.now result }
 {
-    for place in 0..MOST_MEMBERS {
+    for place in 0..tellers.len() {
         if is_counts_due(own, look, tellers, place) {
             return Some(place);
         }
@@ -71,8 +69,7 @@ fn first_due(own: &Origin, look: &RollLook, tellers: &[Teller]) -> Option<usize>
 
 /// The page that the member at a place is asked for now.
 fn page_due(own: &Origin, now: u64, tellers: &[Teller], place: usize) -> Option<Page>
-    requires many { length tellers.now ≡ 15 }
-    requires within { place < 15 }
+    requires { place < length tellers.now }
     ensures { result ≡ page_due_at own.now now tellers.now place }
 {
     if is_other(own, place) {
@@ -94,11 +91,10 @@ fn is_lower(page: Page, lowest: &Lowest) -> bool
 
 /// The lowest page that a member is asked for now, and the member's place.
 fn lowest_due(own: &Origin, now: u64, tellers: &[Teller]) -> Lowest
-    requires { length tellers.now ≡ 15 }
-    ensures { IsLowestDue own.now now tellers.now 15 result }
+    ensures { IsLowestDue own.now now tellers.now (length tellers.now) result }
 {
     let mut lowest = None;
-    for place in 0..MOST_MEMBERS {
+    for place in 0..tellers.len() {
         let Some(page) = page_due(own, now, tellers, place) else {
             continue;
         };
@@ -116,9 +112,8 @@ pub(crate) fn choice(
     tellers: &[Teller],
     may_ask_pages: bool,
 ) -> Option<(usize, Option<Page>)>
-    requires { length tellers.now ≡ 15 }
     ensures choice { IsChoice own.now look.now may_ask_pages tellers.now result }
-    ensures within { IfSome result (λ c. c.0 < 15) }
+    ensures within { IfSome result (λ c. c.0 < length tellers.now) }
 {
     if let Some(place) = first_due(own, look, tellers) {
         return Some((place, None));

@@ -5,7 +5,7 @@ ghost use Rattle.rolls.specs.Pages.{pages};
 ghost use Rattle.roll_call.specs.Heard.{first_other, heard_so, lowest_of, nothing_heard, with_counts, with_page};
 
 use arrayvec::ArrayVec;
-use rolls::{PAGES, Page};
+use rolls::{Counts, PAGES, Page};
 use std::marker::Model;
 
 /// A count for each page.
@@ -34,18 +34,6 @@ impl Model for HeardCounts {
     ghost view = { λ h. record { told = h.told.items; known = h.known.items; lowest = h.lowest; is_whole = h.is_whole } };
 
     ghost invariant = { λ h. (length h.told.items ≡ pages) × (length h.known.items ≡ pages) };
-}
-
-/// A copy of counts.
-fn copied(counts: &[u16]) -> PageTally
-    requires { length counts.now ≡ pages }
-    ensures { result.items ≡ counts.now }
-{
-    let mut copy = ArrayVec::new();
-    for count in counts {
-        copy.push(*count);
-    }
-    copy
 }
 
 /// The first place at which two lists of counts differ, or their length.
@@ -93,11 +81,10 @@ impl HeardCounts {
     }
 
     /// It told its counts.
-    pub(crate) fn counts(&mut self, counts: &[u16])
-        requires { length counts.now ≡ pages }
+    pub(crate) fn counts(&mut self, counts: &Counts)
         ensures { self.new ≡ with_counts counts.now self.old }
     {
-        self.told = copied(counts);
+        self.told = counts.to_array();
         self.look();
     }
 

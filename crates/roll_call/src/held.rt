@@ -1,12 +1,10 @@
 //! Which numbers have a vote at the station, and how many of each page.
 
-ghost use Rattle.std.specs.Prelude.{◌≡◌, ◌≤◌, ◌+◌, ℕ, ◌&&◌, true, slice_index, slice_set, if◌then◌else◌};
+ghost use Rattle.std.specs.Prelude.{◌≡◌, ◌≤◌, ◌+◌, ◌&&◌};
 ghost use Rattle.protocol.specs.Limits.{is_number};
-ghost use Rattle.gone_out.specs.Files.{IsNumber};
 ghost use Rattle.gone_out.specs.Numbers.{has};
-ghost use Rattle.rolls.specs.Pages.{numbers_on, page_of};
-ghost use Rattle.rolls.specs.Votes.{has_vote};
-ghost use Rattle.roll_call.specs.Held.{count_on, AreCounted};
+ghost use Rattle.rolls.specs.Pages.{numbers_on};
+ghost use Rattle.roll_call.specs.Held.{count_on, AreCounted, AreVotesOn, IsVoted, LiesOn};
 
 use ballots::Number;
 use gone_out::Numbers;
@@ -32,8 +30,7 @@ impl Model for HeldVotes {
 
 /// The page that a number lies on.
 fn page_of(number: Number) -> Page
-    ensures page { result ≡ page_of number }
-    ensures number { IsNumber number }
+    ensures { LiesOn number result }
 {
     let _value = number.get();
     Page::of(number)
@@ -89,9 +86,7 @@ impl HeldVotes {
 
     /// A number has a vote.
     pub(crate) fn add(&mut self, number: Number)
-        ensures same { has self.new.votes number ≡ true }
-        ensures others { (n : ℕ) → ¬ (n ≡ number) → has self.new.votes n ≡ has self.old.votes n }
-        ensures counts { self.new.counts ≡ (if has self.old.votes number then self.old.counts else slice_set self.old.counts (page_of number) (slice_index self.old.counts (page_of number) + 1)) }
+        ensures { IsVoted number self.old self.new }
     {
         let page = page_of(number);
         if self.votes.insert(number) {
@@ -110,20 +105,12 @@ impl HeldVotes {
     pub(crate) fn counts(&self) -> Counts
         ensures { result ≡ self.now.counts }
     {
-        let mut counts = Counts::none();
-        for value in 0..PAGES {
-            let Some(page) = Page::new(value as u8) else {
-                unreachable!();
-            };
-            counts.set(page, self.counts.of_page(page));
-        }
-        counts
+        self.counts.copied()
     }
 
     /// Which numbers of a page have a vote.
     pub(crate) fn page(&self, page: Page) -> Votes
-        ensures page { result.page ≡ page }
-        ensures among { (n : ℕ) → IsNumber n → page_of n ≡ page → has_vote result n ≡ has self.now.votes n }
+        ensures { AreVotesOn page self.now.votes result }
     {
         Votes::of(page, &self.votes)
     }

@@ -11,6 +11,8 @@ mod held;
 pub mod laws;
 mod look;
 mod roll_call;
+mod second;
 mod teller;
 
 pub use roll_call::RollCall;
+pub use second::is_second_on;

@@ -1,13 +1,12 @@
 //! What a station knows of the votes of its circuit by roll calls.
 
-ghost use Rattle.std.specs.Prelude.{◌≡◌, ◌≤◌, ℕ, ◌+◌, true, false, IfOk, IfSome, slice_index, slice_set, if◌then◌else◌};
+ghost use Rattle.std.specs.Prelude.{◌≡◌, false, IfOk, IfSome};
 ghost use Rattle.gone_out.specs.Numbers.{has};
-ghost use Rattle.rolls.specs.Pages.{page_of};
 ghost use Rattle.rolls.specs.Bodies.{said};
 ghost use Rattle.roll_call.specs.Answers.{asked_one, nothing_asked, TakesTurn};
-ghost use Rattle.roll_call.specs.Asks.{asks_from, came_at, whole_many};
-ghost use Rattle.roll_call.specs.Held.{AreCounted};
-ghost use Rattle.roll_call.specs.RollCall.{AsksNext, IsAnswer, IsHeard, IsNext, IsTold, Replies, after, asking, is_told, is_wanted};
+ghost use Rattle.roll_call.specs.Asks.{AreWhole, asks_from, came_at};
+ghost use Rattle.roll_call.specs.Held.{AreCounted, IsVoted};
+ghost use Rattle.roll_call.specs.RollCall.{AsksNext, IsHeard, IsNext, IsTold, Replies, after, asking, is_told, is_wanted};
 
 use crate::answers::Answers;
 use crate::ask::{Ask, question_of};
@@ -15,6 +14,7 @@ use crate::asks::Asks;
 use crate::held::HeldVotes;
 use ballots::{Member, Number};
 use gone_out::{Numbers, Origin};
+use recalls::Ticket;
 use rolls::{Page, Roll, RollBody};
 use std::alloc::{AllocError, Global};
 use std::marker::Model;
@@ -63,9 +63,7 @@ impl RollCall {
 
     /// The station's own row of a number has a vote, which is saved.
     pub fn voted(&mut self, number: Number)
-        ensures same { has self.new.held.votes number ≡ true }
-        ensures others { (n : ℕ) → ¬ (n ≡ number) → has self.new.held.votes n ≡ has self.old.held.votes n }
-        ensures counts { self.new.held.counts ≡ (if has self.old.held.votes number then self.old.held.counts else slice_set self.old.held.counts (page_of number) (slice_index self.old.held.counts (page_of number) + 1)) }
+        ensures voted { IsVoted number self.old.held self.new.held }
         ensures rest { self.new ≡ record self.old { held = self.new.held } }
     {
         self.held.add(number);
@@ -82,7 +80,8 @@ impl RollCall {
     pub fn is_wanted(&self, roll: &Roll) -> bool
         ensures { result ≡ is_wanted roll.now.from roll.now.asked roll.now.body self.now }
     {
-        let (from, asked) = (roll.from(), roll.asked());
+        let ticket = roll.ticket();
+        let (from, asked) = (ticket.from(), ticket.asked());
         match roll.body() {
             RollBody::CountsAsked | RollBody::PageAsked(_) => false,
             RollBody::Counts(_) => self.asks.is_asked_for(from, asked, &None),
@@ -98,11 +97,12 @@ impl RollCall {
         ensures wanted { result ≡ is_wanted roll.now.from roll.now.asked roll.now.body self.old }
         ensures after { self.new ≡ after roll.now.from roll.now.asked roll.now.body self.old }
     {
-        let (from, asked) = (roll.from(), roll.asked());
+        let ticket = roll.ticket();
+        let (from, asked) = (ticket.from(), ticket.asked());
         match roll.body() {
             RollBody::CountsAsked => self.ask(from, asked, None),
             RollBody::PageAsked(page) => self.ask(from, asked, Some(*page)),
-            RollBody::Counts(counts) => self.asks.tell_counts(from, asked, counts.as_slice()),
+            RollBody::Counts(counts) => self.asks.tell_counts(from, asked, counts),
             RollBody::Page(votes) => self
                 .asks
                 .tell_page(from, asked, votes.page(), votes.count()),
@@ -148,19 +148,10 @@ impl RollCall {
             member,
             ..
         } = self.own;
-        let Some(roll) = Roll::new(circuit, member, to, asked, body) else {
+        let Some(ticket) = Ticket::new(circuit, member, to, asked) else {
             unreachable!();
         };
-        roll
-    }
-
-    /// The answer to an ask of another member.
-    fn answer(&self, ask: Ask, to: Member) -> Roll
-        requires { ¬ (to ≡ self.now.own.member) }
-        ensures { IsAnswer self.now.own self.now.held ask to result }
-    {
-        let body = self.told(ask.page);
-        self.roll_to(to, ask.asked, body)
+        Roll::new(ticket, body)
     }
 
     /// The next roll that answers, if there is one: at most eight a second to each member.
@@ -168,7 +159,8 @@ impl RollCall {
         ensures { Replies self.old self.new now result }
     {
         let (ask, to) = self.take(now)?;
-        Some(self.answer(ask, to))
+        let body = self.told(ask.page);
+        Some(self.roll_to(to, ask.asked, body))
     }
 
     /// The next roll that asks, if there is one; of pages only where they may be asked for.
@@ -181,9 +173,8 @@ impl RollCall {
 
     /// The next roll to send, if there is one: first answers, then asks. It may be called until there is none.
     pub fn next(&mut self, now: u64, may_ask_pages: bool) -> Option<Roll>
-        ensures own { self.new.own ≡ self.old.own }
-        ensures held { self.new.held ≡ self.old.held }
         ensures next { IsNext self.old self.new now may_ask_pages result }
+        ensures rest { self.new ≡ record self.old { answers = self.new.answers; asks = self.new.asks } }
     {
         match self.reply(now) {
             Some(roll) => Some(roll),
@@ -193,8 +184,7 @@ impl RollCall {
 
     /// How many other members have told their counts since the start, and each page of them that has votes.
     pub fn told_by(&self) -> u8
-        ensures many { result ≡ whole_many self.now.asks }
-        ensures few { result ≤ 15 }
+        ensures { AreWhole self.now.asks result }
     {
         self.asks.whole()
     }

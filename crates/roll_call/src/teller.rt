@@ -1,14 +1,13 @@
 //! What one member is asked for, and what it told.
 
-ghost use Rattle.std.specs.Prelude.{◌≡◌, Some, length};
-ghost use Rattle.rolls.specs.Pages.{pages};
+ghost use Rattle.std.specs.Prelude.{◌≡◌, Some};
 ghost use Rattle.roll_call.specs.Topics.{the_counts};
 ghost use Rattle.roll_call.specs.Tellers.{asked_for, called, is_anew, is_counts_due, is_pending, is_waiting, pending_after, page_due, silent, told_counts, told_page, tries_after, tries_of};
 
 use crate::ask::is_same;
 use crate::heard::HeardCounts;
 use crate::look::RollLook;
-use rolls::Page;
+use rolls::{Counts, Page};
 use std::marker::Model;
 
 /// How long an answer is waited for, in milliseconds.
@@ -166,8 +165,7 @@ impl Teller {
     }
 
     /// It told its counts. Whether they were asked for.
-    pub(crate) fn tell_counts(&mut self, asked: u32, counts: &[u16]) -> bool
-        requires { length counts.now ≡ pages }
+    pub(crate) fn tell_counts(&mut self, asked: u32, counts: &Counts) -> bool
         ensures pending { result ≡ is_pending asked the_counts self.old.pending }
         ensures told { self.new ≡ told_counts asked counts.now self.old }
     {

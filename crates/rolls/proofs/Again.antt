@@ -10,21 +10,22 @@ use Rattle.packets.specs.Reading.{kind_at as packet_kind_at, header_at, packet_i
 use Rattle.recalls.specs.Reading.{mark_at as recall_mark_at, recall_at}
 use Rattle.recalls.specs.Recalls.{Recall}
 use Rattle.recalls.specs.Grammar.{Spells as SpellsRecall}
-use Rattle.recalls.specs.Laws.{ReadsItAgain as RecallsAreReadAgain}
+use Rattle.recalls.specs.Tickets.{ticket_at}
+use Rattle.recalls.specs.Laws.{SpellsOne, NoPrefix, ReadsItAgain, IsNoPacket}
 use Rattle.rolls.specs.Asides.{is_aside_of_rolls, aside_in}
 use Rattle.rolls.proofs.Numbers.{two_are, four_are}
 use Rattle.std.specs.Int.{w16, w32, to_be_bytes}
 use Rattle.rolls.specs.Kinds.{number_of_kind, kind_of_byte, body_len}
 use Rattle.rolls.specs.declared.body.RollKind.{RollKind}
 use Rattle.rolls.specs.declared.body.RollKind.TheVariants as kinds
-use Rattle.rolls.specs.Rolls.{Body, CountsAsked, Counts, PageAsked, Page, Roll, IsBody, IsRoll}
+use Rattle.rolls.specs.Rolls.{Body, CountsAsked, Counts, PageAsked, Page, Roll, ticket_of, IsBody, IsRoll}
 use Rattle.rolls.specs.Bodies.{kind_of}
 use Rattle.rolls.specs.Grammar.{Spells}
 use Rattle.rolls.specs.Spelling.{count_bytes, body_bytes, spelling}
 use Rattle.rolls.specs.declared.fault.RollFault.{RollFault}
 use Rattle.rolls.specs.declared.fault.RollFault.TheVariants.{BadKind}
-use Rattle.rolls.specs.Reading.{wanted, mark_at, kind_at, member_at, members_at, counts_in, counts_at, page_at, pad_at, asked_page_at, votes_at, told_at, body_at, roll_at}
-use Rattle.rolls.specs.Laws.{OneRoll, NoPrefix, ReadsItAgain, IsNoPacket, IsNoRecall, NoRecallIsOne, HearsRolls, HearsRecalls}
+use Rattle.rolls.specs.Reading.{wanted, mark_at, kind_at, counts_in, counts_at, page_at, pad_at, asked_page_at, votes_at, told_at, body_at, roll_at}
+use Rattle.rolls.specs.Laws.{IsNoRecall, NoRecallIsOne, HearsRolls, HearsRecalls}
 use Rattle.rolls.proofs.Counting.{counts_do_fit}
 use Rattle.rolls.proofs.Flags.{only_found}
 use Rattle.rolls.proofs.Written.{spelled_is, only_rolls, counts_small, body_length, spelling_length, lengths_are_given, none_is_short}
@@ -81,30 +82,29 @@ module _ (r : Roll) (is : IsRoll r) where
   unfolding kind_at
   kind_again = ap (λ (o : Option RollKind). wanted BadKind o) (byte_again (kind_of r.body))
 
-  members_again : members_at (spelling r) ≡ Ok (r.from, r.to)
-  unfolding members_at member_at
-  members_again =
+  ticket_again : ticket_at (spelling r) ≡ Some (ticket_of r)
+  unfolding ticket_at
+  ticket_again =
       let from_low : leb 1 r.from ≡ true = le-leb 1 r.from is.from.0 in
       let from_high : leb r.from 15 ≡ true = le-leb r.from 15 is.from.1 in
       let to_low : leb 1 r.to ≡ true = le-leb 1 r.to is.to.0 in
       let to_high : leb r.to 15 ≡ true = le-leb r.to 15 is.to.1 in
       let apart : eqb r.from r.to ≡ false = ne_eqb r.from r.to is.differ in
-      rw (from_low, from_high, to_low, to_high, apart) refl
+      let circuit = from_be_bytes-to_be_bytes_2 r.circuit (let h = is.circuit in omega (arith, h)) in
+      let asked = from_be_bytes-to_be_bytes_4 r.asked (let h = is.asked in omega (arith, h)) in
+      rw (from_low, from_high, to_low, to_high, apart, circuit, asked) refl
 
   pub roll_again : roll_at (spelling r) ≡ Ok r
   unfolding roll_at
-  roll_again =
-      let circuit = from_be_bytes-to_be_bytes_2 r.circuit (let h = is.circuit in omega (arith, h)) in
-      let asked = from_be_bytes-to_be_bytes_4 r.asked (let h = is.asked in omega (arith, h)) in
-      rw (mark_again, kind_again, members_again, body_again r.body is.body, circuit, asked) refl
+  roll_again = rw (mark_again, kind_again, ticket_again, body_again r.body is.body) refl
 
-pub reads_it_again : ReadsItAgain
+pub reads_it_again : ReadsItAgain Spells roll_at
 reads_it_again bytes r s = ap roll_at (spelled_is bytes r s) ∙ roll_again r (only_rolls bytes r s)
 
 read_once : (read : Result Roll RollFault) (r q : Roll) → read ≡ Ok r → read ≡ Ok q → r ≡ q
 read_once read r q e f = cc
 
-pub one_roll : OneRoll
+pub one_roll : SpellsOne Spells
 one_roll bytes r q s t = read_once (roll_at bytes) r q (reads_it_again bytes r s) (reads_it_again bytes q t)
 
 pub is_again : (result : Result (Vec ℕ) AllocError) (r : Roll) → IfOk result (λ v. Spells v.items r) → IfOk result (λ v. roll_at v.items ≡ Ok r)
@@ -115,7 +115,7 @@ one_kind : (k l : RollKind) → Some k ≡ Some l → k ≡ l
 one_kind k l e = cc
 
 -- two spellings of which one begins with the other have one kind, so one length
-pub no_prefix : NoPrefix
+pub no_prefix : NoPrefix Spells
 no_prefix short long rest r q s t is = go rest is
   where
     same_kind : (rest : List ℕ) → long ≡ short ++ rest → kind_of r.body ≡ kind_of q.body
@@ -139,7 +139,7 @@ not_short : (bytes : List ℕ) (r : Roll) → Spells bytes r → ltb (length (sp
 not_short bytes r s = subst (λ (l : List ℕ). ltb (length l) 17 ≡ false) (spelled_is bytes r s) (le-ltb _ _ (none_is_short bytes r s))
 
 -- bytes of another mark
-pub is_no_packet : IsNoPacket
+pub is_no_packet : IsNoPacket Spells
 unfolding packet_in header_at packet_kind_at
 is_no_packet v bytes r s =
     let long : ltb (length (spelling r)) 17 ≡ false = not_short bytes r s in
@@ -184,7 +184,7 @@ hears_rolls bytes r s =
 of_recalls : (r : Recall) (numbers : List ℕ) → is_aside_of_rolls (recall_front r numbers) ≡ false
 of_recalls r numbers = let long : ltb 3 (length (recall_front r numbers)) ≡ true = lt-ltb _ _ (omega arith) in rw long refl
 
-pub hears_recalls : RecallsAreReadAgain → HearsRecalls
+pub hears_recalls : ReadsItAgain SpellsRecall recall_at → HearsRecalls
 unfolding aside_in
 hears_recalls again bytes r s =
     let other : is_aside_of_rolls bytes ≡ false = ap is_aside_of_rolls (recall_is bytes r s) ∙ of_recalls r s.numbers in

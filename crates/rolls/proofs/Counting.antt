@@ -4,7 +4,7 @@ use Rattle.std.specs.Prelude.{drop, slice_index, ◌-◌}
 use Rattle.std.specs.Int.{w16, to_be_bytes}
 use Rattle.std.proofs.lemmas.Bool.{cases_lt, le-leb, leb-true}
 use Rattle.std.proofs.lemmas.List.{take_more, length-replicate, get_or-replicate, get_or_past}
-use Rattle.recalls.specs.Reading.{u16_at}
+use Rattle.recalls.specs.Tickets.{u16_at}
 use Rattle.rolls.specs.Pages.{pages, numbers_on}
 use Rattle.rolls.specs.Counts.{AreCounts, counts_fit}
 use Rattle.rolls.specs.Reading.{counts_in}

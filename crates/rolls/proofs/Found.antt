@@ -1,7 +1,6 @@
 -- What is read as a roll spells it.
 use Rattle.std.proofs.Common.{◌≡◌, ℕ, zero, suc, ◌+◌, ◌*◌, ◌<◌, ◌≤◌, Bool, true, false, ltb, leb, eqb, not, ◌&&◌, List, [], ◌∷◌, length, take, Result, Ok, Err, refl, sym, ap, subst, ◌∙◌, inl, inr, arith}
 use Rattle.std.specs.Prelude.{drop, slice_index, replicate, IfOk, OnErr, Option, Some, None, ◌⊎◌, if◌then◌else◌}
-use Rattle.std.specs.Int.{w16, w32, from_be_bytes}
 use Rattle.std.proofs.Math.Seq.{take-length}
 use Rattle.std.proofs.lemmas.Bool.{eqb-true, eqb-false, ltb-true, ltb-false, leb-true}
 use Rattle.protocol.specs.Ballots.{IsMember}
@@ -12,13 +11,14 @@ use Rattle.rolls.specs.declared.body.RollKind.{RollKind}
 use Rattle.rolls.specs.declared.body.RollKind.TheVariants as kinds
 use Rattle.rolls.specs.Counts.{counts_fit}
 use Rattle.rolls.specs.Votes.{Votes, AreVotes, are_zero, only_numbers}
-use Rattle.rolls.specs.Rolls.{Body, Counts, Roll, IsBody}
+use Rattle.rolls.specs.Rolls.{Body, Counts, Roll, roll_of, IsBody}
 use Rattle.rolls.specs.Bodies.{kind_of}
 use Rattle.rolls.specs.Grammar.{SpellsCounts, SpellsBody, Spells}
 use Rattle.rolls.specs.declared.fault.RollFault.{RollFault}
 use Rattle.rolls.specs.declared.fault.RollFault.TheVariants.{Short, BadMark, BadVersion, BadKind, BadMember, BadPage, BadPad, BadCount, BadBits, Long}
-use Rattle.rolls.specs.Reading.{◌>>=◌, wanted, mark_at, kind_at, member_at, members_at, counts_in, counts_at, page_at, pad_at, asked_page_at, votes_at, told_at, body_at, roll_at}
-use Rattle.rolls.specs.Laws.{FindsWhatIsSpelled}
+use Rattle.rolls.specs.Reading.{◌>>=◌, wanted, mark_at, kind_at, counts_in, counts_at, page_at, pad_at, asked_page_at, votes_at, told_at, body_at, roll_at}
+use Rattle.recalls.specs.Laws.{FindsWhatIsSpelled}
+use Rattle.recalls.specs.Tickets.{Ticket, is_member_at, ticket_in, ticket_at}
 use Rattle.rolls.proofs.Numbers.{two_read, four_read}
 use Rattle.rolls.proofs.Counting.{are_counts}
 use Rattle.rolls.proofs.Flags.{both_true, votes_are}
@@ -82,24 +82,40 @@ kind_found n l e = elim (tried n 2 kinds.CountsAsked l _ refl e) [
   ]
 ]
 
-member_found : (bytes : List ℕ) (at m : ℕ) → member_at bytes at ≡ Ok m → (slice_index bytes at ≡ m) × IsMember 15 m
-unfolding member_at
-member_found bytes at m e =
-    let (is, same) = granted (leb 1 (slice_index bytes at) && leb (slice_index bytes at) 15) BadMember _ m e in
-    let both = both_true _ _ is in
-    (same, subst (λ (x : ℕ). IsMember 15 x) same (leb-true _ _ both.0, leb-true _ _ both.1))
+-- a value that was wanted, and is there
+there : {A : Type 0} (fault : RollFault) (o : Option A) (x : A) → wanted fault o ≡ Ok x → o ≡ Some x
+there fault None x e = absurd (no_ok e)
+there fault (Some y) x e = ap Some (ok_same (Ok y) refl e)
 
-members_found : (bytes : List ℕ) (x : ℕ × ℕ) → members_at bytes ≡ Ok x
-    → (slice_index bytes 6 ≡ x.0) × IsMember 15 x.0 × (slice_index bytes 7 ≡ x.1) × IsMember 15 x.1 × ¬ (x.0 ≡ x.1)
-unfolding members_at
-members_found bytes x e =
-    let (from, e1, e2) = bound (member_at bytes 6) _ x e in
-    let (to, e3, e4) = bound (member_at bytes 7) _ x e2 in
-    let (apart, e5) = passed (eqb from to) BadMember _ x e4 in
-    let f = member_found bytes 6 from e1 in
-    let t = member_found bytes 7 to e3 in
-    subst (λ (y : ℕ × ℕ). (slice_index bytes 6 ≡ y.0) × IsMember 15 y.0 × (slice_index bytes 7 ≡ y.1) × IsMember 15 y.1 × ¬ (y.0 ≡ y.1)) (ok_same _ refl e5)
-    (f.0, f.1, t.0, t.1, eqb-false from to apart)
+-- what the members of a ticket were read from
+record Members (bytes : List ℕ) (h : Ticket) : Type 0 where
+  is : ticket_in bytes ≡ h
+  from : IsMember 15 (slice_index bytes 6)
+  to : IsMember 15 (slice_index bytes 7)
+  differ : ¬ (slice_index bytes 6 ≡ slice_index bytes 7)
+
+member_found : (bytes : List ℕ) (at : ℕ) → not (is_member_at bytes at) ≡ false → IsMember 15 (slice_index bytes at)
+member_found bytes at e = let both = both_true _ _ (unnot _ e) in (leb-true _ _ both.0, leb-true _ _ both.1)
+
+ticket_found : (bytes : List ℕ) (h : Ticket) → wanted BadMember (ticket_at bytes) ≡ Ok h → Members bytes h
+unfolding ticket_at
+ticket_found bytes h e = from (not (is_member_at bytes 6)) refl (there BadMember _ h e)
+  where
+    apart : (b : Bool) → eqb (slice_index bytes 6) (slice_index bytes 7) ≡ b → not (is_member_at bytes 6) ≡ false → not (is_member_at bytes 7) ≡ false
+        → (if b then None else Some (ticket_in bytes)) ≡ Some h → Members bytes h
+    apart true is f t e = cc
+    apart false is f t e = record { is = cc; from = member_found bytes 6 f; to = member_found bytes 7 t; differ = eqb-false _ _ is }
+
+    to : (b : Bool) → not (is_member_at bytes 7) ≡ b → not (is_member_at bytes 6) ≡ false
+        → (if b then None else if eqb (slice_index bytes 6) (slice_index bytes 7) then None else Some (ticket_in bytes)) ≡ Some h → Members bytes h
+    to true is f e = cc
+    to false is f e = apart (eqb (slice_index bytes 6) (slice_index bytes 7)) refl f is e
+
+    from : (b : Bool) → not (is_member_at bytes 6) ≡ b
+        → (if b then None else if not (is_member_at bytes 7) then None else if eqb (slice_index bytes 6) (slice_index bytes 7) then None else Some (ticket_in bytes)) ≡ Some h
+        → Members bytes h
+    from true is e = cc
+    from false is e = to (not (is_member_at bytes 7)) refl is e
 
 -- bytes of a length
 none_left : (bytes : List ℕ) → length bytes ≡ 0 → bytes ≡ []
@@ -223,29 +239,29 @@ module _ (m1 m2 v k c1 c0 f t a3 a2 a1 a0 : ℕ) (rest : List ℕ) (r : Roll) (f
       let bytes : List ℕ = m1 ∷ m2 ∷ v ∷ k ∷ c1 ∷ c0 ∷ f ∷ t ∷ a3 ∷ a2 ∷ a1 ∷ a0 ∷ rest in
       let (done, mark, e1) = bound (mark_at bytes) _ r e in
       let (kind, kinded, e2) = bound (kind_at bytes) _ r e1 in
-      let (both, members, e3) = bound (members_at bytes) _ r e2 in
+      let (ticket, headed, e3) = bound (wanted BadMember (ticket_at bytes)) _ r e2 in
       let (body, read, e4) = bound (body_at kind rest) _ r e3 in
       let m = marked bytes mark in
-      let ends_are = members_found bytes both members in
+      let members = ticket_found bytes ticket headed in
       let told = body_found kind rest body (λ i. fit (suc (suc (suc (suc (suc (suc (suc (suc (suc (suc (suc (suc i))))))))))))) read in
       let of_kind : k ≡ number_of_kind (kind_of body) = kind_found k kind kinded ∙ ap number_of_kind (sym told.kind) in
-      let read_as : Roll = record { circuit = from_be_bytes w16 (c1 ∷ c0 ∷ []); from = both.0; to = both.1; asked = from_be_bytes w32 (a3 ∷ a2 ∷ a1 ∷ a0 ∷ []); body = body } in
+      let read_as : Roll = roll_of (ticket_in bytes) body in
       let spells : Spells bytes read_as = record {
         circuit = c1 ∷ c0 ∷ [];
         asked = a3 ∷ a2 ∷ a1 ∷ a0 ∷ [];
         body = rest;
-        are = λ i. m.0 i ∷ m.1 i ∷ m.2 i ∷ of_kind i ∷ c1 ∷ c0 ∷ ends_are.0 i ∷ ends_are.2 i ∷ a3 ∷ a2 ∷ a1 ∷ a0 ∷ rest;
+        are = λ i. m.0 i ∷ m.1 i ∷ m.2 i ∷ of_kind i ∷ c1 ∷ c0 ∷ f ∷ t ∷ a3 ∷ a2 ∷ a1 ∷ a0 ∷ rest;
         spells_circuit = two_read c1 c0 (fit 4) (fit 5);
-        from_is_member = ends_are.1;
-        to_is_member = ends_are.3;
-        differ = ends_are.4;
+        from_is_member = members.from;
+        to_is_member = members.to;
+        differ = members.differ;
         spells_asked = four_read a3 a2 a1 a0 (fit 8) (fit 9) (fit 10) (fit 11);
         spells_body = told.spells;
         is_body = told.is_body;
       } in
-      subst (λ (q : Roll). Spells bytes q) (ok_same (Ok read_as) refl e4) spells
+      subst (λ (q : Roll). Spells bytes q) (ok_same (Ok (roll_of ticket body)) refl e4) (subst (λ (h : Ticket). Spells bytes (roll_of h body)) members.is spells)
 
-pub finds_what_is_spelled : FindsWhatIsSpelled
+pub finds_what_is_spelled : FindsWhatIsSpelled Spells roll_at
 unfolding roll_at mark_at
 finds_what_is_spelled [] r fit e = absurd (no_ok e)
 finds_what_is_spelled (m1 ∷ []) r fit e = absurd (no_ok e)

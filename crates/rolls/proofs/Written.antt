@@ -14,7 +14,8 @@ use Rattle.rolls.specs.Rolls.{Body, CountsAsked, Counts, PageAsked, Page, Roll, 
 use Rattle.rolls.specs.Bodies.{kind_of}
 use Rattle.rolls.specs.Grammar.{SpellsCounts, SpellsBody, Spells}
 use Rattle.rolls.specs.Spelling.{count_bytes, body_bytes, spelling}
-use Rattle.rolls.specs.Laws.{HasOneSpelling, OnlyRolls, LengthsAreGiven, NoneIsShort}
+use Rattle.recalls.specs.Laws.{HasOneSpelling, OnlyThese}
+use Rattle.rolls.specs.Laws.{LengthsAreGiven, NoneIsShort}
 use Rattle.rolls.proofs.Numbers.{two_are, two_below, four_are, four_below, two_written, four_written}
 
 counts_are : (bytes cs : List ℕ) → SpellsCounts bytes cs → bytes ≡ count_bytes cs
@@ -71,7 +72,7 @@ written_spells r is = record {
   is_body = is.body;
 }
 
-pub only_rolls : OnlyRolls
+pub only_rolls : OnlyThese Spells IsRoll
 only_rolls bytes r s = record {
   circuit = two_below s.circuit r.circuit s.spells_circuit;
   from = s.from_is_member;
@@ -81,7 +82,7 @@ only_rolls bytes r s = record {
   body = s.is_body;
 }
 
-pub has_one_spelling : HasOneSpelling
+pub has_one_spelling : HasOneSpelling Spells IsRoll
 has_one_spelling r is = (spelling r, written_spells r is, λ other s. spelled_is other r s)
 
 -- how long it is

@@ -1,12 +1,11 @@
 -- Reading a roll from its front, with the first fault in the stated order.
-use Rattle.std.specs.Prelude.{◌≡◌, ℕ, zero, suc, List, [], ◌∷◌, length, take, drop, slice_index, not, ◌&&◌, ◌==◌, Option, Some, None, Result, Ok, Err, nat_lt, nat_le, if◌then◌else◌}
-use Rattle.protocol.specs.Limits.{most_members}
-use Rattle.recalls.specs.Reading.{u16_at, u32_at}
+use Rattle.std.specs.Prelude.{◌≡◌, ℕ, zero, suc, List, [], ◌∷◌, length, take, drop, slice_index, not, ◌&&◌, ◌==◌, Option, Some, None, Result, Ok, Err, nat_lt, if◌then◌else◌}
+use Rattle.recalls.specs.Tickets.{u16_at, ticket_at}
 use Rattle.rolls.specs.Pages.{pages, page_bytes}
 use Rattle.rolls.specs.Counts.{counts_fit}
 use Rattle.rolls.specs.Votes.{Votes, are_zero, only_numbers}
 use Rattle.rolls.specs.Kinds.{kind_of_byte, body_len}
-use Rattle.rolls.specs.Rolls.{Body, CountsAsked, Counts, PageAsked, Page, Roll}
+use Rattle.rolls.specs.Rolls.{Body, CountsAsked, Counts, PageAsked, Page, Roll, roll_of}
 use Rattle.rolls.specs.declared.body.RollKind.{RollKind}
 use Rattle.rolls.specs.declared.body.RollKind.TheVariants as kinds
 use Rattle.rolls.specs.declared.fault.RollFault.{RollFault}
@@ -38,17 +37,6 @@ mark_at bytes =
 -- the kind
 unfoldable pub kind_at : List ℕ → Result RollKind RollFault
 kind_at bytes = wanted BadKind (kind_of_byte (slice_index bytes 3))
-
--- the member at this place
-unfoldable pub member_at : List ℕ → ℕ → Result ℕ RollFault
-member_at bytes at = if nat_le 1 (slice_index bytes at) && nat_le (slice_index bytes at) most_members then Ok (slice_index bytes at) else Err BadMember
-
--- two members that differ
-unfoldable pub members_at : List ℕ → Result (ℕ × ℕ) RollFault
-members_at bytes = do
-  from ← member_at bytes 6
-  to ← member_at bytes 7
-  if from == to then Err BadMember else Ok (from, to)
 
 -- so many numbers of two bytes
 unfoldable pub counts_in : ℕ → List ℕ → List ℕ
@@ -98,6 +86,6 @@ unfoldable pub roll_at : List ℕ → Result Roll RollFault
 roll_at bytes = do
   marked ← mark_at bytes
   kind ← kind_at bytes
-  both ← members_at bytes
+  ticket ← wanted BadMember (ticket_at bytes)
   body ← body_at kind (drop 12 bytes)
-  Ok (record { circuit = u16_at bytes 4; from = both.0; to = both.1; asked = u32_at bytes 8; body = body })
+  Ok (roll_of ticket body)

@@ -2,6 +2,7 @@
 use Rattle.std.specs.Prelude.{◌≡◌, ℕ, ◌<◌, List}
 use Rattle.protocol.specs.Ballots.{IsMember}
 use Rattle.protocol.specs.Limits.{most_members}
+use Rattle.recalls.specs.Tickets.{Ticket}
 use Rattle.rolls.specs.Pages.{pages}
 use Rattle.rolls.specs.Counts.{AreCounts}
 use Rattle.rolls.specs.Votes.{AreVotes}
@@ -22,6 +23,14 @@ pub record Roll : Type 0 where
   pub to : ℕ
   pub asked : ℕ
   pub body : Body
+
+-- what a roll begins with
+abbrev pub ticket_of : Roll → Ticket
+ticket_of r = record { circuit = r.circuit; from = r.from; to = r.to; asked = r.asked }
+
+-- a roll of this ticket that says this
+abbrev pub roll_of : Ticket → Body → Roll
+roll_of h body = record { circuit = h.circuit; from = h.from; to = h.to; asked = h.asked; body = body }
 
 -- counts, pages and bits are such
 abbrev pub IsBody : Body → Type 0

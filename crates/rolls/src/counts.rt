@@ -83,6 +83,14 @@ impl Counts {
         }
     }
 
+    /// A copy of the list of them.
+    pub fn to_array(&self) -> ArrayVec<u16, PAGES>
+        ensures value { result.items ≡ self.now }
+        ensures many { length result.items ≡ pages }
+    {
+        copied(self.as_slice())
+    }
+
     /// The counts, from page 0 to page 122.
     pub fn as_slice(&self) -> &[u16]
         ensures value { result.now ≡ self.now }

@@ -1,6 +1,10 @@
 //! Laws over pages and the grammar. The functions do nothing, or call others that do nothing: their contracts are the laws.
 
-ghost use Rattle.rolls.specs.Laws.{EachNumberHasItsPlace, EachPlaceHasItsNumber, FindsWhatIsSpelled, HasOneSpelling, HearsRecalls, HearsRolls, IsNoPacket, IsNoRecall, LengthsAreGiven, NoPrefix, NoRecallIsOne, NoneIsShort, OneRoll, OnlyRolls, ReadsItAgain};
+ghost use Rattle.recalls.specs.Laws.{FindsWhatIsSpelled, HasOneSpelling, IsNoPacket, NoPrefix, OnlyThese, ReadsItAgain, SpellsOne};
+ghost use Rattle.rolls.specs.Rolls.{IsRoll};
+ghost use Rattle.rolls.specs.Grammar.{Spells as SpellsRoll};
+ghost use Rattle.rolls.specs.Reading.{roll_at};
+ghost use Rattle.rolls.specs.Laws.{EachNumberHasItsPlace, EachPlaceHasItsNumber, HearsRecalls, HearsRolls, IsNoRecall, LengthsAreGiven, NoRecallIsOne, NoneIsShort};
 
 /// Each circuit number has one place on one page, and each place has one number.
 pub fn pages()
@@ -10,18 +14,18 @@ pub fn pages()
 
 /// Each roll has exactly one spelling, and nothing else has one.
 pub fn one_spelling()
-    ensures has { HasOneSpelling }
-    ensures only { OnlyRolls }
+    ensures has { HasOneSpelling SpellsRoll IsRoll }
+    ensures only { OnlyThese SpellsRoll IsRoll }
 {}
 
 /// No bytes spell two rolls.
 pub fn one_roll()
-    ensures { OneRoll }
+    ensures { SpellsOne SpellsRoll }
 {}
 
 /// No spelling is a prefix of another's.
 pub fn no_prefix()
-    ensures { NoPrefix }
+    ensures { NoPrefix SpellsRoll }
 {}
 
 /// A roll's spelling has 12 bytes and those of its body: 17, 258, 17 or 1,037. None is shorter than the shortest packet.
@@ -32,13 +36,13 @@ pub fn lengths()
 
 /// Reading from the front, which says what the first fault is, finds what the grammar says.
 pub fn reading()
-    ensures again { ReadsItAgain }
-    ensures found { FindsWhatIsSpelled }
+    ensures again { ReadsItAgain SpellsRoll roll_at }
+    ensures found { FindsWhatIsSpelled SpellsRoll roll_at }
 {}
 
 /// What spells a roll is no packet of either version, and is refused as bytes of a bad mark.
 pub fn is_no_packet()
-    ensures { IsNoPacket }
+    ensures { IsNoPacket SpellsRoll }
 {}
 
 /// What spells a roll is no recall, and is refused as bytes of a bad kind; what spells a recall is no roll.

@@ -1,8 +1,8 @@
 //! Reading a roll from bytes, with no memory.
 
-ghost use Rattle.std.specs.Prelude.{◌≡◌, ◌≤◌, ◌<◌, ◌+◌, ◌==◌, length, Ok, IfOk, OnOk, OnErr, true, false};
+ghost use Rattle.std.specs.Prelude.{◌≡◌, ◌≤◌, ◌<◌, length, Ok, IfOk, OnOk, OnErr};
 ghost use Rattle.packets.specs.Grammar.{IsBytes};
-ghost use Rattle.recalls.specs.Reading.{u16_at, u32_at};
+ghost use Rattle.recalls.specs.Tickets.{u16_at};
 ghost use Rattle.rolls.specs.Pages.{pages};
 ghost use Rattle.rolls.specs.Kinds.{body_len};
 ghost use Rattle.rolls.specs.Counts.{counts_fit};
@@ -10,7 +10,7 @@ ghost use Rattle.rolls.specs.Votes.{are_zero, only_numbers};
 ghost use Rattle.rolls.specs.Bodies.{said};
 ghost use Rattle.rolls.specs.Rolls.{Roll as RollValue};
 ghost use Rattle.rolls.specs.Grammar.{Spells};
-ghost use Rattle.rolls.specs.Reading.{Seen, mark_at, kind_at, member_at, members_at, counts_in, counts_at, page_at, pad_at, asked_page_at, votes_at, told_at, body_at, roll_at};
+ghost use Rattle.rolls.specs.Reading.{Seen, mark_at, counts_in, counts_at, page_at, pad_at, asked_page_at, votes_at, told_at, body_at, roll_at};
 
 use crate::bits::has_bit;
 use crate::body::{ASK_LEN, RollBody, RollKind};
@@ -20,26 +20,10 @@ use crate::page::{PAGE_BYTES, PAGES, Page, numbers_on};
 use crate::roll::Roll;
 use crate::votes::Votes;
 use arrayvec::ArrayVec;
-use ballots::Member;
+use recalls::Ticket;
 
 /// The bytes before the body.
 pub(crate) const HEADER_LEN: usize = 12;
-
-fn u16_of(bytes: &[u8], at: usize) -> u16
-    requires { at + 2 ≤ length bytes.now }
-    ensures { result ≡ u16_at bytes.now at }
-{
-    let (_, rest) = bytes.split_at(at);
-    u16::from_be_bytes([rest[0], rest[1]])
-}
-
-fn u32_of(bytes: &[u8], at: usize) -> u32
-    requires { at + 4 ≤ length bytes.now }
-    ensures { result ≡ u32_at bytes.now at }
-{
-    let (_, rest) = bytes.split_at(at);
-    u32::from_be_bytes([rest[0], rest[1], rest[2], rest[3]])
-}
 
 /// That the bytes are as long as a header, and of the mark and the version of a roll.
 #[tactic(auto, unfolding(crate::specs::Reading::mark_at))]
@@ -59,40 +43,12 @@ fn check_mark(bytes: &[u8]) -> Result<(), RollFault>
     Ok(())
 }
 
-#[tactic(auto, unfolding(crate::specs::Reading::kind_at))]
-fn kind_of(bytes: &[u8]) -> Result<RollKind, RollFault>
-    requires { 12 ≤ length bytes.now }
-    ensures { result ≡ kind_at bytes.now }
+/// The number of the first two bytes.
+fn first_count(bytes: &[u8]) -> u16
+    requires { 2 ≤ length bytes.now }
+    ensures { result ≡ u16_at bytes.now 0 }
 {
-    match RollKind::of_byte(bytes[3]) {
-        Some(kind) => Ok(kind),
-        None => Err(RollFault::BadKind),
-    }
-}
-
-#[tactic(auto, unfolding(crate::specs::Reading::member_at))]
-fn member_of(bytes: &[u8], at: usize) -> Result<Member, RollFault>
-    requires { at + 1 ≤ length bytes.now }
-    ensures { result ≡ member_at bytes.now at }
-{
-    match Member::new(bytes[at]) {
-        Some(member) => Ok(member),
-        None => Err(RollFault::BadMember),
-    }
-}
-
-#[tactic(auto, unfolding(crate::specs::Reading::members_at))]
-fn members_of(bytes: &[u8]) -> Result<(Member, Member), RollFault>
-    requires { 12 ≤ length bytes.now }
-    ensures exact { result ≡ members_at bytes.now }
-    ensures differ { IfOk result (λ m. (m.0 == m.1) ≡ false) }
-{
-    let from = member_of(bytes, 6)?;
-    let to = member_of(bytes, 7)?;
-    if from.get() == to.get() {
-        return Err(RollFault::BadMember);
-    }
-    Ok((from, to))
+    u16::from_be_bytes([bytes[0], bytes[1]])
 }
 
 /// A number of two bytes for each page.
@@ -103,7 +59,7 @@ fn counts_in(bytes: &[u8]) -> ArrayVec<u16, PAGES>
     let mut counts = ArrayVec::new();
     let mut rest = bytes;
     for _ in 0..PAGES {
-        counts.push(u16_of(rest, 0));
+        counts.push(first_count(rest));
         let (_, behind) = rest.split_at(2);
         rest = behind;
     }
@@ -263,22 +219,20 @@ fn body_of(kind: RollKind, bytes: &[u8]) -> Result<RollBody, RollFault>
     Ok(body)
 }
 
-#[tactic(auto, unfolding(crate::specs::Reading::roll_at))]
+#[tactic(auto, unfolding(crate::specs::Reading::roll_at, crate::specs::Reading::kind_at))]
 fn roll_of(bytes: &[u8]) -> Result<Roll, RollFault>
     ensures { result ≡ roll_at bytes.now }
 {
     check_mark(bytes)?;
-    let kind = kind_of(bytes)?;
-    let (from, to) = members_of(bytes)?;
+    let Some(kind) = RollKind::of_byte(bytes[3]) else {
+        return Err(RollFault::BadKind);
+    };
+    let Some(ticket) = Ticket::read(bytes) else {
+        return Err(RollFault::BadMember);
+    };
     let (_, rest) = bytes.split_at(HEADER_LEN);
     let body = body_of(kind, rest)?;
-    Ok(Roll {
-        circuit: u16_of(bytes, 4),
-        from,
-        to,
-        asked: u32_of(bytes, 8),
-        body,
-    })
+    Ok(Roll { ticket, body })
 }
 
 /// The roll that the bytes spell, or their first fault. It takes no memory.

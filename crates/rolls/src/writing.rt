@@ -57,12 +57,13 @@ fn written(alloc: Global, roll: &Roll) -> Result<Vec<u8>, AllocError>
     ensures exact { IfOk result (λ v. v.items ≡ spelling roll.now) }
     ensures range { OnOk result (IsRoll roll.now) }
 {
-    let (from, to) = (roll.from().get(), roll.to().get());
+    let ticket = roll.ticket();
+    let (from, to) = (ticket.from().get(), ticket.to().get());
     let kind = roll.body().kind();
     let mut out = Vec::with_capacity(alloc, HEADER_LEN + kind.body_len())?;
-    put_front(&mut out, kind.byte(), roll.circuit())?;
+    put_front(&mut out, kind.byte(), ticket.circuit())?;
     out.extend_from_slice(&[from, to])?;
-    out.extend_from_slice(&roll.asked().to_be_bytes())?;
+    out.extend_from_slice(&ticket.asked().to_be_bytes())?;
     put_body(&mut out, roll.body())?;
     Ok(out)
 }

@@ -8,6 +8,7 @@ use Rattle.protocol.specs.Versions.{Version}
 use Rattle.saved_rows.specs.declared.fault.RowsFault.{RowsFault}
 use Rattle.saved_rows.specs.declared.fault.RowsFault.TheVariants.{Store, OutOfMemory}
 use Rattle.saved_rows.specs.Saved.{AreFitting}
+use Rattle.row_groups.specs.declared.saves_all.SavesAll.{Ghosts}
 use Rattle.row_groups.specs.Groups.{ArePromised}
 
 -- such rows, as clauses see them: the rows inside, which alone are stored, and those that wait, each with its number, in the order in which they were saved
@@ -18,6 +19,10 @@ pub record GroupedOf (R : Type 0) : Type 0 where
   pub answers : Bool
   -- how many calls were refused beside those that the rows inside refused
   pub refusals : ℕ
+
+-- what a call that saves many rows shows, and what it tells however it ends
+abbrev pub saving : {R : Type 0} → (R → R → List (ℕ × Row) → Type 0) → (R → R → List (ℕ × Row) → Type 0) → Ghosts R
+saving stores leaves = record { stores = stores; leaves = leaves }
 
 -- with other rows inside, which did not answer yet; nothing waits
 abbrev pub with_inside : {R : Type 0} → GroupedOf R → R → GroupedOf R

@@ -1,15 +1,15 @@
 //! Rows whose saves wait to be saved as one.
 
-ghost use Rattle.std.specs.Prelude.{◌≡◌, ◌≤◌, ◌⊎◌, ◌+◌, [], Some, None, Ok, true, false, OnOk, OnErr, IfErr, IsTrue, IsSome, IfSome, IfOk, length, option_copied};
+ghost use Rattle.std.specs.Prelude.{◌≡◌, ◌≤◌, ◌⊎◌, ◌+◌, [], Some, None, Ok, false, OnOk, OnErr, IsSome, IfSome, IfOk, length, option_copied};
 ghost use Rattle.std.specs.Borrow.{LendsIf, sem};
-ghost use Rattle.saved_rows.specs.Saved.{RowFits, Rises, SameRows};
-ghost use Rattle.row_groups.specs.Groups.{WithAll, WithSome, last_of, with_all};
+ghost use Rattle.saved_rows.specs.Saved.{RowFits, Rises};
+ghost use Rattle.row_groups.specs.Groups.{PutsAll, last_of};
 ghost use Rattle.row_groups.specs.Grouped.{IsOwnFault};
 
 use crate::saves_all::SavesAll;
 use crate::settles::Settles;
 use ballots::{Number, Row};
-use saved_rows::{Rows, RowsFault};
+use saved_rows::{Rows, RowsFault, refuse};
 use std::alloc::{AllocError, Global};
 use std::marker::Model;
 use tape_frames::Version;
@@ -38,7 +38,7 @@ impl<R: SavesAll> Model for Grouped<R> {
 }
 
 impl<R: SavesAll> Grouped<R> {
-    ghost use Rattle.row_groups.specs.Grouped.{with_inside};
+    ghost use Rattle.row_groups.specs.Grouped.{saving, with_inside};
     ghost use Rattle.row_groups.specs.contracts.grouped.Grouped.{the_row};
 
     /// These rows; nothing waits.
@@ -77,7 +77,7 @@ impl<R: SavesAll> Grouped<R> {
 
     /// The rows inside, lent, while no save waits; `None` while one does. A row is read before the next is saved.
     pub fn rows_mut(&mut self) -> Option<&mut R>
-        ensures* writes_back { sem 𝓛 (LendsIf (the_row R.row (record { stores = R.SavesAll.stores; leaves = R.SavesAll.leaves }) R.Rows) R.row self.entry result (with_inside self.old) self.old) }
+        ensures* writes_back { sem 𝓛 (LendsIf (the_row R.row (saving R.SavesAll.stores R.SavesAll.leaves) R.Rows) R.row self.entry result (with_inside self.old) self.old) }
         ensures value { IfSome result (λ rows. rows.now ≡ self.old.rows) }
         ensures waits { IsSome result → self.old.waits ≡ [] }
         ensures settled { self.old.waits ≡ [] → IsSome result }
@@ -111,17 +111,6 @@ impl<R: SavesAll> Grouped<R> {
         None
     }
 
-    /// Counts a refusal that is none of the rows inside.
-    fn refuse(&mut self, fault: RowsFault) -> RowsFault
-        ensures fault { result ≡ fault }
-        ensures same { self.new ≡ record self.old { refusals = self.new.refusals } }
-        ensures cause { Rises self.old.refusals self.new.refusals }
-        ensures counts { self.old.refusals ≤ self.new.refusals }
-    {
-        self.refusals = self.refusals.saturating_add(1);
-        fault
-    }
-
     /// A copy of the row that waits last under a number, if one does.
     fn copy_waiting(&self, number: Number) -> Result<Option<Row>, AllocError>
         ensures row { IfOk result (λ o. o ≡ last_of self.now.waits number) }
@@ -131,38 +120,6 @@ impl<R: SavesAll> Grouped<R> {
             Some(row) => Ok(Some(row.copy(self.alloc)?)),
             None => Ok(None),
         }
-    }
-
-    /// Saves all that waits in the rows inside, by one call; after it nothing waits, however it ends.
-    ///
-    /// Where it is refused, nothing may be handed out that speaks of a row that waited: none of them is saved, or some of the
-    /// first, or all.
-    pub fn save_waiting(&mut self) -> Result<(), RowsFault>
-        ensures rows { R.Rows.kept self.new.rows → OnOk result (WithAll (R.Rows.saved self.old.rows) self.old.waits (R.Rows.saved self.new.rows)) }
-        ensures settled { self.new.waits ≡ [] }
-        ensures first { R.Rows.kept self.new.rows → OnErr result ((¬ R.Rows.is_open self.new.rows) ⊎ WithSome (R.Rows.saved self.old.rows) self.old.waits (R.Rows.saved self.new.rows)) }
-        ensures version { R.Rows.version self.new.rows ≡ R.Rows.version self.old.rows }
-        ensures cause { OnErr result (Rises (R.Rows.refusals self.old.rows) (R.Rows.refusals self.new.rows)) }
-        ensures counts { R.Rows.refusals self.old.rows ≤ R.Rows.refusals self.new.rows }
-        ensures own { self.new.refusals ≡ self.old.refusals }
-        ensures made { R.Rows.made self.old.rows → R.Rows.made self.new.rows }
-        ensures was_kept { R.Rows.kept self.new.rows → R.Rows.kept self.old.rows }
-        ensures was_open { R.Rows.kept self.new.rows → R.Rows.is_open self.new.rows → R.Rows.is_open self.old.rows }
-
-        // What the rows inside show and tell of such a save.
-        ensures stores { ¬ (self.old.waits ≡ []) → OnOk result (R.SavesAll.stores self.old.rows self.new.rows self.old.waits) }
-        ensures leaves { ¬ (self.old.waits ≡ []) → R.SavesAll.leaves self.old.rows self.new.rows self.old.waits }
-
-        // Where nothing waits nothing is done.
-        ensures nothing { self.old.waits ≡ [] → (result ≡ Ok tt) × (self.new ≡ self.old) }
-    {
-        if self.waits.is_empty() {
-            return Ok(());
-        }
-        let saved = self.rows.put_all(self.waits.as_slice());
-        self.waits.clear();
-        self.answers = self.answers && saved.is_ok();
-        saved
     }
 }
 
@@ -205,14 +162,14 @@ impl<R: SavesAll> Rows for Grouped<R> {
 
     fn get(&mut self, number: Number) -> Result<Row, RowsFault> {
         let Ok(waiting) = self.copy_waiting(number) else {
-            return Err(self.refuse(RowsFault::OutOfMemory));
+            return Err(refuse(&mut self.refusals, RowsFault::OutOfMemory));
         };
         match waiting {
             Some(row) => {
                 if self.answers {
                     Ok(row)
                 } else {
-                    Err(self.refuse(RowsFault::Store))
+                    Err(refuse(&mut self.refusals, RowsFault::Store))
                 }
             }
             None => match self.rows.get(number) {
@@ -230,13 +187,13 @@ impl<R: SavesAll> Rows for Grouped<R> {
 
     fn put(&mut self, number: Number, row: &Row) -> Result<(), RowsFault> {
         if !self.answers {
-            return Err(self.refuse(RowsFault::Store));
+            return Err(refuse(&mut self.refusals, RowsFault::Store));
         }
         let Ok(copy) = row.copy(self.alloc) else {
-            return Err(self.refuse(RowsFault::OutOfMemory));
+            return Err(refuse(&mut self.refusals, RowsFault::OutOfMemory));
         };
         let Ok(()) = self.waits.push((number, copy)) else {
-            return Err(self.refuse(RowsFault::OutOfMemory));
+            return Err(refuse(&mut self.refusals, RowsFault::OutOfMemory));
         };
         Ok(())
     }
@@ -244,7 +201,7 @@ impl<R: SavesAll> Rows for Grouped<R> {
     /// Refused while a save waits.
     fn upgrade(&mut self) -> Result<(), RowsFault> {
         if !self.waits.is_empty() {
-            return Err(self.refuse(RowsFault::Store));
+            return Err(refuse(&mut self.refusals, RowsFault::Store));
         }
         match self.rows.upgrade() {
             Ok(()) => {
@@ -269,21 +226,30 @@ impl<R: SavesAll> Settles for Grouped<R> {
 
     ghost stored_as_read = { λ s settled n. rw settled refl };
 
+    /// Saves all that waits in the rows inside, by one call; after it nothing waits, however it ends.
+    ///
+    /// Where it is refused, nothing may be handed out that speaks of a row that waited: none of them is saved, or some of the
+    /// first, or all.
     fn settle(&mut self) -> Result<(), RowsFault>
         ensures settled { self.new.waits ≡ [] }
-        ensures same { R.Rows.kept self.new.rows → OnOk result (SameRows (with_all (R.Rows.saved self.old.rows) self.old.waits) (with_all (R.Rows.saved self.new.rows) self.new.waits)) }
-        ensures version { R.Rows.version self.new.rows ≡ R.Rows.version self.old.rows }
+        ensures puts { PutsAll R.Rows result self.old.waits self.old.rows self.new.rows }
+        ensures own { self.new.refusals ≡ self.old.refusals }
+        ensures cause { OnErr result (Rises (R.Rows.refusals self.old.rows + self.old.refusals) (R.Rows.refusals self.new.rows + self.new.refusals)) }
+        ensures counts { R.Rows.refusals self.old.rows + self.old.refusals ≤ R.Rows.refusals self.new.rows + self.new.refusals }
+
+        // Where nothing waits nothing is done.
         ensures nothing { self.old.waits ≡ [] → (result ≡ Ok tt) × (self.new ≡ self.old) }
 
         // What the rows inside show and tell of the save of all that waited.
         ensures stores { ¬ (self.old.waits ≡ []) → OnOk result (R.SavesAll.stores self.old.rows self.new.rows self.old.waits) }
         ensures leaves { ¬ (self.old.waits ≡ []) → R.SavesAll.leaves self.old.rows self.new.rows self.old.waits }
-        ensures cause { OnErr result (Rises (R.Rows.refusals self.old.rows + self.old.refusals) (R.Rows.refusals self.new.rows + self.new.refusals)) }
-        ensures counts { R.Rows.refusals self.old.rows + self.old.refusals ≤ R.Rows.refusals self.new.rows + self.new.refusals }
-        ensures made { R.Rows.made self.old.rows → R.Rows.made self.new.rows }
-        ensures was_kept { R.Rows.kept self.new.rows → R.Rows.kept self.old.rows }
-        ensures was_open { R.Rows.kept self.new.rows → R.Rows.is_open self.new.rows → R.Rows.is_open self.old.rows }
     {
-        self.save_waiting()
+        if self.waits.is_empty() {
+            return Ok(());
+        }
+        let saved = self.rows.put_all(self.waits.as_slice());
+        self.waits.clear();
+        self.answers = self.answers && saved.is_ok();
+        saved
     }
 }

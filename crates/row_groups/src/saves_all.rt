@@ -1,9 +1,8 @@
 //! What is asked of rows that are saved together.
 
-ghost use Rattle.std.specs.Prelude.{◌≡◌, ◌≤◌, ◌⊎◌, ℕ, List, OnOk, OnErr};
+ghost use Rattle.std.specs.Prelude.{ℕ, List, OnOk};
 ghost use Rattle.protocol.specs.Rows.{Row as RowValue};
-ghost use Rattle.saved_rows.specs.Saved.{AreFitting, Rises};
-ghost use Rattle.row_groups.specs.Groups.{ArePromised, WithAll, WithSome};
+ghost use Rattle.row_groups.specs.Groups.{AreRowsOf, PutsAll};
 
 use crate::put_each::put_each;
 use ballots::{Number, Row};
@@ -21,27 +20,10 @@ pub trait SavesAll: Rows {
     /// A refusal is counted; it leaves the rows as they were, or with the first so many of these saved. A store that can saves all
     /// or none.
     fn put_all(&mut self, items: &[(Number, Row)]) -> Result<(), RowsFault>
-        requires promised { ArePromised items.now }
-        requires fits { AreFitting (Self.Rows.version self.old) items.now }
-        ensures rows { Self.Rows.kept self.new → OnOk result (WithAll (Self.Rows.saved self.old) items.now (Self.Rows.saved self.new)) }
-        ensures open { Self.Rows.kept self.new → Self.Rows.is_open self.old → OnOk result (Self.Rows.is_open self.new) }
-        ensures version { Self.Rows.version self.new ≡ Self.Rows.version self.old }
+        requires { AreRowsOf (Self.Rows.version self.old) items.now }
+        ensures puts { PutsAll Self.Rows result items.now self.old self.new }
         ensures stores { OnOk result (stores self.old self.new items.now) }
-        ensures leaves { leaves self.old self.new items.now }
-
-        // Where it is refused and still open, the first so many are saved.
-        ensures first { Self.Rows.kept self.new → OnErr result ((¬ Self.Rows.is_open self.new) ⊎ WithSome (Self.Rows.saved self.old) items.now (Self.Rows.saved self.new)) }
-
-        // It is refused only where the count rises.
-        ensures cause { OnErr result (Rises (Self.Rows.refusals self.old) (Self.Rows.refusals self.new)) }
-        ensures counts { Self.Rows.refusals self.old ≤ Self.Rows.refusals self.new }
-
-        // The store's half, told forwards.
-        ensures made { Self.Rows.made self.old → Self.Rows.made self.new }
-
-        // What held as the call ended held before.
-        ensures was_kept { Self.Rows.kept self.new → Self.Rows.kept self.old }
-        ensures was_open { Self.Rows.kept self.new → Self.Rows.is_open self.new → Self.Rows.is_open self.old };
+        ensures leaves { leaves self.old self.new items.now };
 }
 
 impl SavesAll for MemoryRows {

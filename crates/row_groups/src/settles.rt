@@ -1,7 +1,8 @@
 //! What is asked of rows that are read as they were saved before they are stored.
 
-ghost use Rattle.std.specs.Prelude.{◌≡◌, ◌≤◌, OnOk, OnErr, Ok};
-ghost use Rattle.saved_rows.specs.Saved.{Saved, SameRows, Rises};
+ghost use Rattle.std.specs.Prelude.{◌≡◌, OnOk, Ok};
+ghost use Rattle.saved_rows.specs.Called.{IsCalled};
+ghost use Rattle.saved_rows.specs.Saved.{Saved, SameRows};
 
 use saved_rows::{Balky, MemoryRows, Rows, RowsFault};
 
@@ -24,17 +25,7 @@ pub trait Settles: Rows {
 
         // Where all is stored already, nothing is done.
         ensures nothing { is_settled self.old → (result ≡ Ok tt) × (self.new ≡ self.old) }
-
-        // It is refused only where the count rises.
-        ensures cause { OnErr result (Rises (Self.Rows.refusals self.old) (Self.Rows.refusals self.new)) }
-        ensures counts { Self.Rows.refusals self.old ≤ Self.Rows.refusals self.new }
-
-        // The store's half, told forwards.
-        ensures made { Self.Rows.made self.old → Self.Rows.made self.new }
-
-        // What held as the call ended held before.
-        ensures was_kept { Self.Rows.kept self.new → Self.Rows.kept self.old }
-        ensures was_open { Self.Rows.kept self.new → Self.Rows.is_open self.new → Self.Rows.is_open self.old };
+        ensures call { IsCalled Self.Rows result self.old self.new };
 
     // Settled rows are stored as they are read.
     ghost stored_as_read: { (s : Self) → is_settled s → SameRows (Self.Rows.saved s) (stored s) };
@@ -51,9 +42,7 @@ impl Settles for MemoryRows {
 
     ghost stored_as_read = { λ s settled n. refl };
 
-    fn settle(&mut self) -> Result<(), RowsFault>
-        ensures { (result ≡ Ok tt) × (self.new ≡ self.old) }
-    {
+    fn settle(&mut self) -> Result<(), RowsFault> {
         Ok(())
     }
 }

@@ -1,6 +1,6 @@
 -- The lines of a list, written one after the other.
-use Rattle.std.proofs.Common.{◌≡◌, ℕ, ◌+◌, ◌<◌, List, [], ◌++◌, length, take, drop, get_or, Option, Result, Ok, Err, refl, sym, ap, ◌∙◌}
-use Rattle.std.specs.Prelude.{flat_map, OnErr}
+use Rattle.std.proofs.Common.{◌≡◌, ℕ, ◌+◌, ◌<◌, List, [], ◌++◌, length, take, drop, get_or, Option, refl, sym, ap, ◌∙◌}
+use Rattle.std.specs.Prelude.{flat_map}
 use Rattle.std.specs.Io.KnownBytes.{Appends}
 use Rattle.std.proofs.KnownBytes.{Appends-nil}
 use Rattle.std.proofs.lemmas.Grind.{flat_map-append}
@@ -27,8 +27,3 @@ begun old new text more q = front_more old old new [] text more (text ++ more) (
 -- a text was written, and then a front of the rest
 pub behind : (old mid new : Option (List ℕ)) (text rest : List ℕ) → Appends old mid text → AppendsFront mid new rest → AppendsFront old new (text ++ rest)
 behind old mid new text rest p q = front_more old mid new text rest [] (text ++ rest) p q (ap (λ (ys : List ℕ). text ++ ys) (append-nil rest))
-
--- what holds whatever the result is
-pub on_err : {A E : Type 0} (r : Result A E) (P : Type 0) → P → OnErr r P
-on_err (Ok x) P p = tt
-on_err (Err e) P p = p

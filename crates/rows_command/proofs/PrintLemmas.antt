@@ -9,7 +9,7 @@ use Rattle.streams.proofs.Fronts.{front_of_all}
 use Rattle.saved_rows.specs.Saved.{Saved}
 use Rattle.saved_rows.specs.declared.identity.Identity.{Identity}
 use Rattle.acceptor_store.specs.Reading.{IsFrontOf}
-use Rattle.rows_command.specs.declared.printing.RowLineFault.{RowLineFault}
+use Rattle.command_ends.specs.declared.fault.PutFault.{PutFault}
 use Rattle.rows_command.specs.RowsText.{row_line, station_line, rows_text, IsFrontPrinted}
 use Rattle.rows_command.specs.Printing.{head_text, Prints, PrintsAll}
 use Rattle.rows_command.proofs.Listings.{begun as front_begun, behind}
@@ -34,12 +34,12 @@ module _ (i : Identity) (old mid new : Option (List ℕ)) (rows : List (ℕ × R
       subst (λ l. AppendsFront old new (rows_text i (l ++ p ∷ []))) (sym before.1) (subst (AppendsFront old new) (sym (text_first i p)) (subst (λ o. AppendsFront o new (station_line i ++ row_line p)) before.0 line))
 
 -- once a line was not written, nothing is
-pub stopped_after : (i : Identity) (old new : Option (List ℕ)) (begun : Bool) (fault : Option RowLineFault) (rows : List (ℕ × Row)) (p : ℕ × Row) → is_some fault ≡ true → Prints i old new begun fault rows → Prints i old new begun fault (rows ++ p ∷ [])
+pub stopped_after : (i : Identity) (old new : Option (List ℕ)) (begun : Bool) (fault : Option PutFault) (rows : List (ℕ × Row)) (p : ℕ × Row) → is_some fault ≡ true → Prints i old new begun fault rows → Prints i old new begun fault (rows ++ p ∷ [])
 stopped_after i old new begun None rows p some before = absurd (true≢false (sym some))
 stopped_after i old new begun (Some fault) rows p some before = subst (AppendsFront old new) (sym (text_next i rows p)) (front_begun old new (rows_text i rows) (row_line p) before)
 
 -- what was written of the first rows is a front of the text of all, or nothing
-pub front_printed : (saved : Saved) (i : Identity) (old new : Option (List ℕ)) (begun : Bool) (fault : Option RowLineFault) (rows : List (ℕ × Row)) → IsFrontOf saved rows → Prints i old new begun fault rows
+pub front_printed : (saved : Saved) (i : Identity) (old new : Option (List ℕ)) (begun : Bool) (fault : Option PutFault) (rows : List (ℕ × Row)) → IsFrontOf saved rows → Prints i old new begun fault rows
     → (new ≡ old) ⊎ IsFrontPrinted saved i old new
 front_printed saved i old new begun fault rows front printed = at begun fault printed
   where
@@ -50,7 +50,7 @@ front_printed saved i old new begun fault rows front printed = at begun fault pr
       wrote = subst (AppendsFront old new) (sym (text_of i rows front.0)) (front_begun old new (rows_text i rows) (flat_map row_line front.0) wrote);
     }
 
-    at : (begun : Bool) (fault : Option RowLineFault) → Prints i old new begun fault rows → (new ≡ old) ⊎ IsFrontPrinted saved i old new
+    at : (begun : Bool) (fault : Option PutFault) → Prints i old new begun fault rows → (new ≡ old) ⊎ IsFrontPrinted saved i old new
     at begun (Some f) wrote = inr (whole wrote)
     at true None wrote = inr (whole (front_of_all old new (rows_text i rows) wrote))
     at false None same = inl same.0

@@ -1,2 +1,3 @@
 pub mod RowsText
 pub mod Printing
+pub mod Reading

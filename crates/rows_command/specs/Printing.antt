@@ -5,7 +5,7 @@ use Rattle.protocol.specs.Rows.{Row}
 use Rattle.streams.specs.Fronts.{AppendsFront}
 use Rattle.saved_rows.specs.Saved.{Saved, IsListOf}
 use Rattle.saved_rows.specs.declared.identity.Identity.{Identity}
-use Rattle.rows_command.specs.declared.printing.RowLineFault.{RowLineFault}
+use Rattle.command_ends.specs.declared.fault.PutFault.{PutFault}
 use Rattle.rows_command.specs.declared.printing.RowPrinter.{RowPrinter}
 use Rattle.rows_command.specs.RowsText.{station_line, rows_text}
 
@@ -15,13 +15,13 @@ head_text i true = []
 head_text i false = station_line i
 
 -- These rows came. With no fault they were written behind their station, or there was none and nothing was written; with one a front of that.
-abbrev pub Prints : Identity → Option (List ℕ) → Option (List ℕ) → Bool → Option RowLineFault → List (ℕ × Row) → Type 0
+abbrev pub Prints : Identity → Option (List ℕ) → Option (List ℕ) → Bool → Option PutFault → List (ℕ × Row) → Type 0
 Prints i old new begun (Some fault) rows = AppendsFront old new (rows_text i rows)
 Prints i old new true None rows = Appends old new (rows_text i rows)
 Prints i old new false None rows = (new ≡ old) × (rows ≡ [])
 
 -- no row came, and nothing was written
-abbrev pub PrintsNone : Identity → Option (List ℕ) → Bool → Option RowLineFault → Type 0
+abbrev pub PrintsNone : Identity → Option (List ℕ) → Bool → Option PutFault → Type 0
 PrintsNone i contents begun fault = Prints i contents contents begun fault []
 
 -- the printer writes where it wrote, of the same station, and where none had come before, these rows came

@@ -1,34 +1,23 @@
 //! The command `rows`: what a database of saved rows holds.
 
-ghost use Rattle.std.specs.Prelude.{◌≡◌, None, IsTrue, IsOk, IsErr, IfErr, OnOk, OnErr};
-ghost use Rattle.std.specs.Io.KnownBytes.{Appends};
-ghost use Rattle.streams.specs.Fronts.{AppendsFront};
-ghost use Rattle.saved_rows.specs.Saved.{SameRows};
-ghost use Rattle.acceptor_store.specs.Sqlite.{IsKept, IsOpen, saved_of, MayLeave};
-ghost use Rattle.rows_command.specs.RowsText.{PrintsWhereDone, PrintsNoneOrFront};
-ghost use Rattle.rows_command.specs.Printing.{head_text, PrintsAllWhereOk};
-ghost use Rattle.command_ends.specs.Ends.{end_of, IsOfWriting, IsOfRows};
+ghost use Rattle.std.specs.Prelude.{◌≡◌, None, IsOk, IfErr, OnOk};
+ghost use Rattle.acceptor_store.specs.Sqlite.{IsKept, saved_of};
+ghost use Rattle.rows_command.specs.RowsText.{PrintsWhereDone};
+ghost use Rattle.rows_command.specs.Printing.{head_text};
+ghost use Rattle.rows_command.specs.Reading.{PrintsRows, PrintsSeen};
+ghost use Rattle.command_ends.specs.Ends.{end_of, IsOfRows};
+ghost use Rattle.command_ends.specs.Writing.{Writes};
 
-use crate::printing::{RowLineFault, RowPrinter, put_head};
+use crate::printing::{RowPrinter, RowsHead, put_head};
 use acceptor_store::SqliteRows;
-use command_ends::{End, Fault};
-use saved_rows::{Identity, RowsFault};
+use command_ends::{End, Fault, PutFault};
+use saved_rows::RowsFault;
 use sqlite::Alter;
 use std::alloc::Global;
 use std::io::Write;
 
-/// What a command tells of it.
-fn told(fault: RowLineFault) -> Fault<'static>
-    ensures { IsOfWriting result }
-{
-    match fault {
-        RowLineFault::Memory => Fault::OutOfMemory,
-        RowLineFault::Output => Fault::CannotWrite,
-    }
-}
-
 /// Why it did not come to the last row: a fault of the rows, or one of a line.
-fn ended(seen: Result<bool, RowsFault>, fault: Option<RowLineFault>) -> Result<(), Fault<'static>>
+fn ended(seen: Result<bool, RowsFault>, fault: Option<PutFault>) -> Result<(), Fault<'static>>
     ensures whole { OnOk result ((fault ≡ None) × IsOk seen) }
     ensures ends { IfErr result (λ fault. IsOfRows (end_of fault)) }
 {
@@ -37,7 +26,7 @@ fn ended(seen: Result<bool, RowsFault>, fault: Option<RowLineFault>) -> Result<(
     }
     match fault {
         None => Ok(()),
-        Some(fault) => Err(told(fault)),
+        Some(fault) => Err(Fault::of_writing(fault)),
     }
 }
 
@@ -47,15 +36,7 @@ fn print_seen<S: Alter + Drop, W: Write>(
     rows: &mut SqliteRows<S>,
     out: &mut W,
 ) -> (bool, Result<(), Fault<'static>>)
-    ensures all { IsKept S.Store rows.new → PrintsAllWhereOk result (saved_of S.Store rows.old) rows.old.identity (W.contents out.old) (W.contents out.new) }
-    ensures front { IsKept S.Store rows.new → PrintsNoneOrFront (saved_of S.Store rows.old) rows.old.identity (W.contents out.old) (W.contents out.new) }
-    ensures ends { IfErr result.1 (λ fault. IsOfRows (end_of fault)) }
-    ensures same { IsKept S.Store rows.new → IsOpen S.Store rows.new → SameRows (saved_of S.Store rows.old) (saved_of S.Store rows.new) }
-    ensures crash { IsKept S.Store rows.new → IsOpen S.Store rows.old → (left : _) → MayLeave S.Store rows.new left → MayLeave S.Store rows.old left }
-    ensures was_kept { IsKept S.Store rows.new → IsKept S.Store rows.old }
-    ensures was_open { IsKept S.Store rows.new → IsOpen S.Store rows.new → IsOpen S.Store rows.old }
-    ensures stays { (rows.new.stopped ≡ rows.old.stopped) × (rows.new.identity ≡ rows.old.identity) }
-    ensures stopped { IsTrue rows.old.stopped → (W.contents out.new ≡ W.contents out.old) × IsErr result.1 }
+    ensures { PrintsSeen S.Store result rows.old rows.new (W.contents out.old) (W.contents out.new) }
 {
     let mut printer = RowPrinter {
         alloc,
@@ -69,22 +50,13 @@ fn print_seen<S: Alter + Drop, W: Write>(
 }
 
 /// Writes what is missing behind the last row: whose rows they are, where there was none. All of it is handed on.
-fn put_end<W: Write>(
-    alloc: Global,
-    station: Identity,
-    begun: bool,
-    out: &mut W,
-) -> Result<(), Fault<'static>>
-    ensures ok { OnOk result (Appends (W.contents out.old) (W.contents out.new) (head_text station begun)) }
-    ensures err { OnErr result (AppendsFront (W.contents out.old) (W.contents out.new) (head_text station begun)) }
-    ensures fault { IfErr result IsOfWriting }
+fn put_end<W: Write>(head: RowsHead, out: &mut W) -> Result<(), PutFault>
+    ensures { Writes result (W.contents out.old) (W.contents out.new) (head_text head.station head.begun) }
 {
-    if let Err(fault) = put_head(alloc, station, begun, out) {
-        return Err(told(fault));
-    }
+    put_head(head, out)?;
     match out.flush() {
         Ok(()) => Ok(()),
-        Err(_) => Err(Fault::CannotWrite),
+        Err(_) => Err(PutFault::CannotWrite),
     }
 }
 
@@ -102,28 +74,23 @@ pub fn print_rows<S: Alter + Drop, W: Write, E: Write>(
     err: &mut E,
 ) -> End
     ensures done { IsKept S.Store rows.new → PrintsWhereDone result (saved_of S.Store rows.old) rows.old.identity (W.contents out.old) (W.contents out.new) }
-    ensures front { IsKept S.Store rows.new → PrintsNoneOrFront (saved_of S.Store rows.old) rows.old.identity (W.contents out.old) (W.contents out.new) }
+    ensures prints { PrintsRows S.Store rows.old rows.new (W.contents out.old) (W.contents out.new) }
 
     // A fault of the rows, the output or memory ends it, and nothing else.
     ensures ends { IsOfRows result }
-
-    // No row is written.
-    ensures same { IsKept S.Store rows.new → IsOpen S.Store rows.new → SameRows (saved_of S.Store rows.old) (saved_of S.Store rows.new) }
-    ensures crash { IsKept S.Store rows.new → IsOpen S.Store rows.old → (left : _) → MayLeave S.Store rows.new left → MayLeave S.Store rows.old left }
-    ensures was_kept { IsKept S.Store rows.new → IsKept S.Store rows.old }
-    ensures was_open { IsKept S.Store rows.new → IsOpen S.Store rows.new → IsOpen S.Store rows.old }
-    ensures stays { (rows.new.stopped ≡ rows.old.stopped) × (rows.new.identity ≡ rows.old.identity) }
-
-    // After a refused save nothing is printed.
-    ensures stopped { IsTrue rows.old.stopped → W.contents out.new ≡ W.contents out.old }
 {
     let station = rows.identity();
     let (begun, printed) = print_seen(alloc, rows, out);
     if let Err(fault) = printed {
         return fault.tell(err);
     }
-    match put_end(alloc, station, begun, out) {
+    let head = RowsHead {
+        alloc,
+        station,
+        begun,
+    };
+    match put_end(head, out) {
         Ok(()) => End::Done,
-        Err(fault) => fault.tell(err),
+        Err(fault) => Fault::of_writing(fault).tell(err),
     }
 }

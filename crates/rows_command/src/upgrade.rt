@@ -1,45 +1,30 @@
 //! The command `upgrade`: saved rows that go over to the second layout.
 
-ghost use Rattle.std.specs.Prelude.{◌≡◌, ◌⊎◌, false, IsTrue, IfErr, OnOk, OnErr};
+ghost use Rattle.std.specs.Prelude.{◌≡◌, ◌⊎◌, false, IsTrue};
 ghost use Rattle.std.specs.Io.KnownBytes.{Appends};
-ghost use Rattle.streams.specs.Fronts.{AppendsFront};
 ghost use Rattle.protocol.specs.Versions.{Two};
-ghost use Rattle.saved_rows.specs.Saved.{SameRows};
-ghost use Rattle.acceptor_store.specs.Sqlite.{IsKept, IsOpen, LeavesAll, rows_version, saved_of};
+ghost use Rattle.acceptor_store.specs.Sqlite.{IsKept, IsOpen, LeavesAll, rows_version};
+ghost use Rattle.rows_command.specs.Reading.{KeepsRows};
 ghost use Rattle.rows_command.specs.RowsText.{TellsNoneOrFront, layout_text};
 ghost use Rattle.command_ends.specs.Ends.{IsOfRows};
+ghost use Rattle.command_ends.specs.Writing.{Writes};
 ghost use Rattle.command_ends.specs.declared.end.End.TheVariants.{Done, Store, Memory};
-ghost use Rattle.command_ends.specs.declared.fault.Fault.TheVariants.{CannotWrite};
 
 use acceptor_store::SqliteRows;
 use command_ends::{End, Fault};
 use saved_rows::Rows;
 use sqlite::Alter;
 use std::io::Write;
-use streams::put_all;
+use streams::{CannotWrite, put_all};
 
-/// Writes that rows are in the second layout.
-fn put_layout<'a, W: Write>(out: &mut W) -> Result<(), Fault<'a>>
-    ensures ok { OnOk result (Appends (W.contents out.old) (W.contents out.new) layout_text) }
-    ensures err { OnErr result (AppendsFront (W.contents out.old) (W.contents out.new) layout_text) }
-    ensures fault { IfErr result (λ fault. fault ≡ CannotWrite) }
+/// Writes that rows are in the second layout, and hands it on.
+fn put_layout<W: Write>(out: &mut W) -> Result<(), CannotWrite>
+    ensures { Writes result (W.contents out.old) (W.contents out.new) layout_text }
 {
-    match put_all(out, b"layout 2\n") {
-        Ok(()) => Ok(()),
-        Err(_) => Err(Fault::CannotWrite),
-    }
-}
-
-/// The same, with all of it handed on.
-fn hand_on_layout<'a, W: Write>(out: &mut W) -> Result<(), Fault<'a>>
-    ensures ok { OnOk result (Appends (W.contents out.old) (W.contents out.new) layout_text) }
-    ensures err { OnErr result (AppendsFront (W.contents out.old) (W.contents out.new) layout_text) }
-    ensures fault { IfErr result (λ fault. fault ≡ CannotWrite) }
-{
-    put_layout(out)?;
+    put_all(out, b"layout 2\n")?;
     match out.flush() {
         Ok(()) => Ok(()),
-        Err(_) => Err(Fault::CannotWrite),
+        Err(_) => Err(CannotWrite),
     }
 }
 
@@ -65,10 +50,8 @@ pub fn upgrade_rows<S: Alter + Drop, W: Write, E: Write>(
     ensures ends { IsOfRows result }
 
     // The map and the station stay the same, and so they do after a crash, all in the one layout or all in the other.
-    ensures same { IsKept S.Store rows.new → IsOpen S.Store rows.new → SameRows (saved_of S.Store rows.old) (saved_of S.Store rows.new) }
+    ensures keeps { KeepsRows S.Store rows.old rows.new }
     ensures crash { IsKept S.Store rows.new → IsOpen S.Store rows.old → rows.old.stopped ≡ false → LeavesAll S.Store rows.old rows.new }
-    ensures was_kept { IsKept S.Store rows.new → IsKept S.Store rows.old }
-    ensures was_open { IsKept S.Store rows.new → IsOpen S.Store rows.new → IsOpen S.Store rows.old }
     ensures stays { rows.new.identity ≡ rows.old.identity }
 
     // After a refused save nothing goes over.
@@ -77,8 +60,8 @@ pub fn upgrade_rows<S: Alter + Drop, W: Write, E: Write>(
     if let Err(fault) = rows.upgrade() {
         return Fault::of_rows(fault).tell(err);
     }
-    match hand_on_layout(out) {
+    match put_layout(out) {
         Ok(()) => End::Done,
-        Err(fault) => fault.tell(err),
+        Err(_) => Fault::CannotWrite.tell(err),
     }
 }

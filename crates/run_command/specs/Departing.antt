@@ -20,7 +20,7 @@ use Rattle.plant_log.specs.declared.event.LogEvent.TheVariants as events
 use Rattle.tape_frames.specs.Entries.{owned_entry}
 use Rattle.tape_frames.specs.declared.entry.Entry.{Entry}
 use Rattle.run_command.specs.declared.deeds.Task.{Task}
-use Rattle.run_command.specs.declared.deeds.Task.TheVariants.{Leave, Read, Ask}
+use Rattle.run_command.specs.declared.deeds.Task.TheVariants.{Leave, Read, Ask, SeeToStray, LookOn}
 use Rattle.run_command.specs.declared.departures.Departure.{Departure}
 use Rattle.run_command.specs.declared.departures.LeavingCause.{LeavingCause}
 use Rattle.run_command.specs.declared.departures.LeavingCause.TheVariants.{Released, NoOffer, Answered}
@@ -71,6 +71,8 @@ abbrev pub IsFreeTask : Standing → Bool → Task → Type 0
 IsFreeTask b written (Leave d) = IsFree b written d
 IsFreeTask b written (Read found replaced) = Unit {0}
 IsFreeTask b written (Ask r) = Unit {0}
+IsFreeTask b written SeeToStray = Unit {0}
+IsFreeTask b written LookOn = Unit {0}
 
 -- what befell the number of a file that has left the offers
 abbrev pub event_by : ℕ → LeavingCause → Option LogEvent

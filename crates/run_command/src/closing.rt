@@ -114,7 +114,10 @@ impl Papers {
         };
         self.journal.tell_release(release, now, log);
         for _ in 0..4 {
-            self.settle(folders, release.number, now, log);
+            let Some(departure) = self.next_departure(release.number) else {
+                return;
+            };
+            self.leave(folders, &departure, now, log);
         }
     }
 

@@ -3,7 +3,7 @@
 ghost use Rattle.std.specs.Prelude.{[], ◌≡◌, IfSome, true};
 ghost use Rattle.run_command.specs.Departing.{departure_of, task_of, way_to, IsFree, IsFreeTask};
 ghost use Rattle.run_command.specs.Living.{LivedOn};
-ghost use Rattle.run_command.specs.Working.{Follows, Looked, Settles};
+ghost use Rattle.run_command.specs.Working.{Follows};
 
 use crate::departures::{Departure, LeavingCause};
 use crate::desk::PlantDesk;
@@ -16,15 +16,19 @@ use plant_log::{LogEvent, Trouble};
 use plant_status::StatusFile;
 use std::io::Write;
 
-/// What is to be done with a file.
+/// What is to be done with the offers.
 #[derive(Clone, Copy)]
 pub(crate) enum Task {
-    /// It leaves the offers.
+    /// A file leaves them.
     Leave(Departure),
-    /// It is read; whether it may be in place of one that was under way.
+    /// A file is read; whether it may be in place of one that was under way.
     Read(FoundOffer, bool),
-    /// The station is asked for it.
+    /// The station is asked for a file.
     Ask(FileRequest),
+    /// It is seen to a file whose name asks for nothing.
+    SeeToStray,
+    /// A look at them goes on.
+    LookOn,
 }
 
 /// Why a file leaves the offers that is moved to a place: its number was released, or it is a search that was answered.
@@ -79,52 +83,32 @@ fn task_of(deed: &Deed) -> Option<Task>
 }
 
 impl Papers {
-    /// What is to be done next with a file whose name asks for something. Files leave the offers for what was released only where nothing
-    /// waits to be written among the releases: what is offered again at the next start is released again, and a release that waits would be
-    /// lost.
+    /// What is to be done next: with a file whose name asks for something, or else with one whose name asks for nothing, or else a look goes
+    /// on. Files leave the offers for what was released only where nothing waits to be written among the releases: what is offered again at
+    /// the next start is released again, and a release that waits would be lost.
     fn next_task(&mut self, allowed: Allowed) -> Option<Task>
         ensures book { Follows self.old.book self.new.book }
         ensures free { IfSome result (IsFreeTask self.new.book allowed.moves) }
     {
-        match self.book.next(allowed) {
-            Some(deed) => task_of(&deed),
-            None => None,
+        if let Some(deed) = self.book.next(allowed) {
+            return task_of(&deed);
         }
-    }
-
-    /// Does what is to be done where the book knows of nothing, at a moment: a file whose name asks for nothing is moved, or a look goes on.
-    fn do_other<F: Folders, E: Write>(&mut self, folders: &mut F, now: u64, log: &mut Log<'_, E>)
-        ensures { Looked (F.doings folders.old) (F.doings folders.new) self.old.book self.new.book }
-    {
         if self.strays.find() {
-            self.leave_stray(folders, now, log);
-        } else if self.looking.goes_on() {
-            self.look_at_offers(folders, now, log);
+            return Some(Task::SeeToStray);
         }
+        if self.looking.goes_on() {
+            return Some(Task::LookOn);
+        }
+        None
     }
 
     /// How the next file of a number leaves the offers that was released, if one does. What was released is written.
-    fn next_departure(&self, number: Number) -> Option<Departure>
+    pub(crate) fn next_departure(&self, number: Number) -> Option<Departure>
         ensures { IfSome result (IsFree self.now.book true) }
     {
         match self.book.leaving(number) {
             Some(deed) => departure_of(&deed),
             None => None,
-        }
-    }
-
-    /// Lets a file of a number that was released leave the offers, at a moment, if there is one that may.
-    pub(crate) fn settle<F: Folders, E: Write>(
-        &mut self,
-        folders: &mut F,
-        number: Number,
-        now: u64,
-        log: &mut Log<'_, E>,
-    )
-        ensures { Settles (F.doings folders.old) (F.doings folders.new) self.old.book self.new.book }
-    {
-        if let Some(departure) = self.next_departure(number) {
-            self.leave(folders, &departure, now, log);
         }
     }
 }
@@ -187,11 +171,17 @@ impl<F: Folders, S: StatusFile> PlantDesk<'_, '_, '_, F, S> {
                 self.read_file(&found, replaced, chance.moment, log);
                 None
             }
-            None => {
+            Some(Task::SeeToStray) => {
                 let papers = &mut self.plant.papers;
-                papers.do_other(self.folders, chance.moment, log);
+                papers.leave_stray(self.folders, chance.moment, log);
                 None
             }
+            Some(Task::LookOn) => {
+                let papers = &mut self.plant.papers;
+                papers.look_at_offers(self.folders, chance.moment, log);
+                None
+            }
+            None => None,
         }
     }
 }

@@ -4,7 +4,6 @@ ghost use Rattle.std.specs.Prelude.{[], ◌≡◌, if◌then◌else◌};
 ghost use Rattle.std.proofs.Common.{refl, ◌∙◌};
 ghost use Rattle.run_command.specs.Living.{CameOn, HandsOut, IsSameDesk, LivedOn, MayAsk, kept, kept_of, texts_of};
 ghost use Rattle.run_command.specs.Lives.{plant_fates};
-ghost use Rattle.run_command.specs.Working.{Follows};
 
 use crate::asking::released_tape;
 use crate::closing::is_opened;
@@ -15,7 +14,7 @@ use driver::{
     Call, Chance, Declined, Denied, Desk, HeardDatagram, Log, Sink, TakenStep, Tasks, Todo,
 };
 use folders::{FileRequest, Folders};
-use offers::{Book, OfferFault};
+use offers::OfferFault;
 use pace::Deeds;
 use plant_files::{call_for, is_of_offer, keep_files};
 use plant_status::StatusFile;
@@ -36,24 +35,6 @@ fn deeds_of(deeds: Deeds, has_more: bool) -> Deeds
     ensures { result ≡ (if has_more then Deeds.Others else deeds) }
 {
     if has_more { Deeds::Others } else { deeds }
-}
-
-/// What becomes of a file for which the station did not take the step: another of its number is under way, it is no offer, or it waits.
-fn deny(book: &mut Book, denied: &Denied)
-    ensures { Follows book.old book.new }
-{
-    let number = denied.request.number;
-    match denied.refusal {
-        StepRefusal::AlreadyOpen => {
-            book.busy(number, denied.moment);
-        }
-        refusal if is_of_offer(refusal) => {
-            book.barred(number, OfferFault::Step(refusal));
-        }
-        _ => {
-            book.ended(number, denied.moment);
-        }
-    }
 }
 
 impl<'f, 'p, 's, F: Folders, S: StatusFile> PlantDesk<'f, 'p, 's, F, S> {
@@ -137,7 +118,8 @@ impl<F: Folders, S: StatusFile> Desk for PlantDesk<'_, '_, '_, F, S> {
         self.plant.write(self.folders, now, log);
         let unwritten = self.plant.waits.len();
         let papers = &mut self.plant.papers;
-        papers.look_around(self.folders, now, log);
+        papers.look_if_due(self.folders, now, log);
+        papers.journal.look(self.folders, now, log);
         let is_over = papers.journal.is_over(self.folders, now, log);
         papers.journal.tell_status(unwritten, self.status, now, log);
         is_over
@@ -181,8 +163,21 @@ impl<F: Folders, S: StatusFile> Desk for PlantDesk<'_, '_, '_, F, S> {
         }
     }
 
+    // Another file of its number is under way, it is no offer, or it waits.
     fn deny<E: Write>(&mut self, denied: Denied, _log: &mut Log<'_, E>) {
-        deny(&mut self.plant.papers.book, &denied);
+        let number = denied.request.number;
+        let book = &mut self.plant.papers.book;
+        match denied.refusal {
+            StepRefusal::AlreadyOpen => {
+                book.busy(number, denied.moment);
+            }
+            refusal if is_of_offer(refusal) => {
+                book.barred(number, OfferFault::Step(refusal));
+            }
+            _ => {
+                book.ended(number, denied.moment);
+            }
+        }
     }
 
     fn decline<E: Write>(&mut self, declined: Declined, _log: &mut Log<'_, E>) {

@@ -94,22 +94,8 @@ impl Journal {
         }
     }
 
-    /// A look came to pass: where each number of the range that is asked for has an answer, its file leaves the offers, with what came of
-    /// them beside it.
-    fn answer_asked<F: Folders, E: Write>(&mut self, folders: &mut F, log: &mut Log<'_, E>)
-        ensures { LooksOnly (F.doings folders.old) (F.doings folders.new) }
-    {
-        let Some(ask) = self.care.asked() else {
-            return;
-        };
-        if ask.is_done() {
-            let moved = ask.set_aside(self.alloc, folders);
-            self.end_ask(&moved, log);
-        }
-    }
-
     /// Sees at a look to what is missing here: what went out is read, where it could not be before; what is told, is told; and the file of a
-    /// range whose numbers have answers leaves the offers.
+    /// range whose numbers have answers leaves the offers, with what came of them beside it.
     pub(crate) fn look<F: Folders, E: Write>(
         &mut self,
         folders: &mut F,
@@ -119,7 +105,13 @@ impl Journal {
         ensures { LooksOnly (F.doings folders.old) (F.doings folders.new) }
     {
         self.care.look(folders, now, log);
-        self.answer_asked(folders, log);
+        let Some(ask) = self.care.asked() else {
+            return;
+        };
+        if ask.is_done() {
+            let moved = ask.set_aside(self.alloc, folders);
+            self.end_ask(&moved, log);
+        }
     }
 
     /// Whether the file that ends the run lies among the offers, at a moment. Where it does, the disk has all that was written, and what went

@@ -8,7 +8,7 @@ use crate::plant::Papers;
 use crate::status::note_found;
 use crate::unseen::{Unseen, UnseenPart};
 use driver::Log;
-use folders::{FolderFault, Folders, Listing};
+use folders::{FolderFault, Folders};
 use looks::{EndedLook, MOST_NAMES};
 use plant_log::tell_news;
 use std::io::Write;
@@ -22,24 +22,14 @@ impl Papers {
         let is_crowded = seen.is_crowded();
         let part = UnseenPart::All(seen);
         self.unseen = Some(Unseen { part, looked: now });
-        if !is_crowded {
-            self.see_all(now, log);
+        if is_crowded {
+            return;
         }
-    }
-
-    /// Takes in what was found in a turn of a look, at a moment.
-    fn take_listing<E: Write>(&mut self, listing: Listing, now: u64, log: &mut Log<'_, E>)
-        ensures { Follows self.old.book self.new.book }
-    {
-        tell_news(self.journal.alloc, listing.news.as_slice(), log.err);
-        match self.looking.take(listing, now) {
-            Some(Ok(seen)) => self.take_seen(seen, now, log),
-            Some(Err(_)) => {
-                let told = &mut self.journal.told;
-                told.cannot_list(FolderFault::OutOfMemory, now, log.err);
-            }
-            None => {}
-        }
+        self.see_next(now, log);
+        self.see_next(now, log);
+        self.see_next(now, log);
+        self.see_next(now, log);
+        self.see_next(now, log);
     }
 
     /// Goes on with a look at what lies among the offers, or begins one, at a moment.
@@ -51,12 +41,22 @@ impl Papers {
     )
         ensures { Looked (F.doings folders.old) (F.doings folders.new) self.old.book self.new.book }
     {
-        match folders.list(self.journal.alloc, MOST_NAMES) {
-            Ok(listing) => self.take_listing(listing, now, log),
+        let listing = match folders.list(self.journal.alloc, MOST_NAMES) {
+            Ok(listing) => listing,
             Err(fault) => {
                 self.looking.fail(now);
                 self.journal.told.cannot_list(fault, now, log.err);
+                return;
             }
+        };
+        tell_news(self.journal.alloc, listing.news.as_slice(), log.err);
+        match self.looking.take(listing, now) {
+            Some(Ok(seen)) => self.take_seen(seen, now, log),
+            Some(Err(_)) => {
+                let told = &mut self.journal.told;
+                told.cannot_list(FolderFault::OutOfMemory, now, log.err);
+            }
+            None => {}
         }
     }
 
@@ -68,16 +68,7 @@ impl Papers {
     }
 
     /// The same, where it is time for a look.
-    fn look_if_due<F: Folders, E: Write>(&mut self, folders: &mut F, now: u64, log: &mut Log<'_, E>)
-        ensures { Looked (F.doings folders.old) (F.doings folders.new) self.old.book self.new.book }
-    {
-        if self.is_due(now) {
-            self.look_at_offers(folders, now, log);
-        }
-    }
-
-    /// Looks at the offers where it is time for it, and sees to what is missing here, at a moment.
-    pub(crate) fn look_around<F: Folders, E: Write>(
+    pub(crate) fn look_if_due<F: Folders, E: Write>(
         &mut self,
         folders: &mut F,
         now: u64,
@@ -85,7 +76,8 @@ impl Papers {
     )
         ensures { Looked (F.doings folders.old) (F.doings folders.new) self.old.book self.new.book }
     {
-        self.look_if_due(folders, now, log);
-        self.journal.look(folders, now, log);
+        if self.is_due(now) {
+            self.look_at_offers(folders, now, log);
+        }
     }
 }

@@ -3,7 +3,7 @@
 ghost use Rattle.std.specs.Prelude.{◌≡◌};
 ghost use Rattle.folders.specs.Doings.{WritesSome};
 ghost use Rattle.offers.specs.Book.{IsFresh, still_for};
-ghost use Rattle.looks.specs.Strays.{none_known, still_for as strays_still};
+ghost use Rattle.looks.specs.Strays.{none_known};
 ghost use Rattle.run_command.specs.Minding.{WasRead};
 ghost use Rattle.run_command.specs.Working.{IfRead, Looks};
 
@@ -66,7 +66,7 @@ impl Papers {
     pub(crate) fn new(alloc: Global, manner: Manner, care: Box<Care>) -> Papers
         ensures book { IsFresh result.book }
         ensures still { result.book.still ≡ still_for manner.renamed }
-        ensures strays { result.strays ≡ none_known (strays_still manner.renamed) }
+        ensures strays { result.strays ≡ none_known (still_for manner.renamed) }
         ensures loudness { result.journal.told.loudness ≡ manner.loudness }
         ensures care { result.journal.care ≡ care }
     {

@@ -20,8 +20,8 @@ use std::io::Write;
 fn sender_of(heard: &HeardDatagram) -> Option<Member> {
     match heard {
         HeardDatagram::Taken(Some(said)) => Some(said.sender),
-        HeardDatagram::Aside(Aside::Recall(Ok(recall))) => Some(recall.from()),
-        HeardDatagram::Aside(Aside::Roll(Ok(roll))) => Some(roll.from()),
+        HeardDatagram::Aside(Aside::Recall(Ok(recall))) => Some(recall.ticket().from()),
+        HeardDatagram::Aside(Aside::Roll(Ok(roll))) => Some(roll.ticket().from()),
         _ => None,
     }
 }

@@ -60,8 +60,9 @@ impl Papers {
         }
     }
 
-    /// Moves the next such file to those that are no offers, at a moment. One that can't be moved is put off, which is told.
-    fn refuse_stray<F: Folders, E: Write>(
+    /// Sees to the next such file, at a moment: the range that its name asks for is asked for, if it asks for one, or else it is moved to
+    /// those that are no offers. One that can't be moved is put off, which is told.
+    pub(crate) fn leave_stray<F: Folders, E: Write>(
         &mut self,
         folders: &mut F,
         now: u64,
@@ -69,6 +70,10 @@ impl Papers {
     )
         ensures { Looked (F.doings folders.old) (F.doings folders.new) self.old.book self.new.book }
     {
+        let journal = &mut self.journal;
+        if ask_for_stray(journal.alloc, &mut self.strays, &mut journal.care, now) {
+            return;
+        }
         let Some(stray) = self.strays.first() else {
             return;
         };
@@ -80,21 +85,6 @@ impl Papers {
                 self.strays.moved();
             }
             Err(fault) => self.strays.could_not(fault, now),
-        }
-    }
-
-    /// Sees to the next such file, at a moment: the range that its name asks for is asked for, if it asks for one, or else it is no offer.
-    pub(crate) fn leave_stray<F: Folders, E: Write>(
-        &mut self,
-        folders: &mut F,
-        now: u64,
-        log: &mut Log<'_, E>,
-    )
-        ensures { Looked (F.doings folders.old) (F.doings folders.new) self.old.book self.new.book }
-    {
-        let journal = &mut self.journal;
-        if !ask_for_stray(journal.alloc, &mut self.strays, &mut journal.care, now) {
-            self.refuse_stray(folders, now, log);
         }
     }
 }

@@ -80,8 +80,7 @@ fn drive<R: Settles, N: Wire, F: Folders, E: Write, S: StatusFile + Drop>(
     folders: &mut F,
     outset: Outset<'_, E, S>,
 ) -> End
-    ensures was_kept { R.kept station.new.rows → R.kept station.old.rows }
-    ensures runs { RunsUpTo outset.entry.texts result R.Rows R.Settles.is_settled N.passed F.doings station.old station.new wire.old wire.new folders.old folders.new }
+    ensures { RunsUpTo outset.entry.texts result R.Rows R.Settles.is_settled N.passed F.doings station.old station.new wire.old wire.new folders.old folders.new }
 {
     let Outset {
         alloc,

@@ -175,15 +175,4 @@ impl Papers {
             }
         }
     }
-
-    /// Takes in all parts of what the last look found, at a moment.
-    pub(crate) fn see_all<E: Write>(&mut self, now: u64, log: &mut Log<'_, E>)
-        ensures { Follows self.old.book self.new.book }
-    {
-        self.see_next(now, log);
-        self.see_next(now, log);
-        self.see_next(now, log);
-        self.see_next(now, log);
-        self.see_next(now, log);
-    }
 }

@@ -286,7 +286,7 @@ impl Folders for Stage {
         Ok(listing)
     }
 
-    fn has_stop(&mut self, alloc: Global) -> bool {
+    fn has_stop(&self, alloc: Global) -> bool {
         self.folders.has_stop(alloc)
     }
 

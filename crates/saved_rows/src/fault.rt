@@ -1,5 +1,8 @@
 //! Why rows could not be read or saved.
 
+ghost use Rattle.std.specs.Prelude.{◌≡◌, ◌≤◌};
+ghost use Rattle.saved_rows.specs.Saved.{Rises};
+
 /// Why a call on saved rows was refused.
 #[derive(Clone, Copy, PartialEq, Eq)]
 pub enum RowsFault {
@@ -13,4 +16,14 @@ pub enum RowsFault {
     Damaged { number: i64 },
     /// A growth was refused.
     OutOfMemory,
+}
+
+/// Counts a refusal for this fault.
+pub fn refuse(refusals: &mut u64, fault: RowsFault) -> RowsFault
+    ensures fault { result ≡ fault }
+    ensures cause { Rises refusals.old refusals.new }
+    ensures counts { refusals.old ≤ refusals.new }
+{
+    *refusals = refusals.saturating_add(1);
+    fault
 }

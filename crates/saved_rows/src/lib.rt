@@ -8,7 +8,7 @@ mod memory;
 mod rows;
 
 pub use balky::Balky;
-pub use fault::RowsFault;
+pub use fault::{RowsFault, refuse};
 pub use identity::Identity;
 pub use memory::MemoryRows;
 pub use rows::Rows;

@@ -1,12 +1,13 @@
 //! Rows in memory.
 
-ghost use Rattle.std.specs.Prelude.{◌≡◌, ◌≤◌, ℕ, None, Ok, IfOk, IsOk, OnOk, OnErr, IfErr, option_copied};
+ghost use Rattle.std.specs.Prelude.{◌≡◌, ◌≤◌, None, Ok, IfOk, IsOk, OnErr, IfErr, option_copied};
 ghost use Rattle.protocol.specs.Rows.{blank};
 ghost use Rattle.protocol.specs.Versions.{One, Two};
 ghost use Rattle.tape_frames.specs.Entries.{version_of};
-ghost use Rattle.saved_rows.specs.Saved.{SameRows, WithRow, RowFits, Rises, or_blank};
+ghost use Rattle.saved_rows.specs.Memory.{IsEmpty, Saves};
+ghost use Rattle.saved_rows.specs.Saved.{WithRow, RowFits, Rises, or_blank};
 
-use crate::fault::RowsFault;
+use crate::fault::{RowsFault, refuse};
 use crate::rows::Rows;
 use ballots::{Number, Row};
 use std::alloc::{AllocError, Global};
@@ -41,18 +42,14 @@ impl MemoryRows {
 
     /// The empty map, at version 1.
     pub fn new(alloc: Global) -> MemoryRows
-        ensures blank { (n : ℕ) → saved result n ≡ blank }
-        ensures version { result.version ≡ One }
-        ensures refusals { result.refusals ≡ 0 }
+        ensures { IsEmpty One result }
     {
         MemoryRows::at(alloc, Version::One)
     }
 
     /// The empty map, at this version.
     pub fn at(alloc: Global, version: Version) -> MemoryRows
-        ensures blank { (n : ℕ) → saved result n ≡ blank }
-        ensures version { result.version ≡ version_of version }
-        ensures refusals { result.refusals ≡ 0 }
+        ensures { IsEmpty (version_of version) result }
     {
         MemoryRows {
             rows: HashMap::new(alloc),
@@ -78,8 +75,7 @@ impl MemoryRows {
         ensures row { result ≡ saved self.old number }
         ensures fits { RowFits self.old.version result }
         ensures blank { WithRow (saved self.old) number blank (saved self.new) }
-        ensures version { self.new.version ≡ self.old.version }
-        ensures refusals { self.new.refusals ≡ self.old.refusals }
+        ensures rest { self.new ≡ record self.old { entries = self.new.entries } }
     {
         let key = number.get();
         match self.rows.get_mut(&key) {
@@ -93,16 +89,12 @@ impl MemoryRows {
     /// Where memory is refused the row is given up and the rows stay.
     pub fn save(&mut self, number: Number, row: Row) -> Result<(), AllocError>
         requires { RowFits self.old.version row }
-        ensures ok { OnOk result (WithRow (saved self.old) number row (saved self.new)) }
-        ensures err { OnErr result (SameRows (saved self.old) (saved self.new)) }
-        ensures version { self.new.version ≡ self.old.version }
-        ensures cause { OnErr result (Rises self.old.refusals self.new.refusals) }
-        ensures counts { self.old.refusals ≤ self.new.refusals }
+        ensures { Saves result number row self.old self.new }
     {
         match self.rows.insert(number.get(), row) {
             Ok(_) => Ok(()),
             Err(_) => {
-                self.refusals = self.refusals.saturating_add(1);
+                let _ = refuse(&mut self.refusals, RowsFault::OutOfMemory);
                 Err(AllocError)
             }
         }
@@ -137,9 +129,8 @@ impl Rows for MemoryRows {
 
     fn get(&mut self, number: Number) -> Result<Row, RowsFault>
         ensures row { IfOk result (λ row. row ≡ saved self.old number) }
-        ensures same { SameRows (saved self.old) (saved self.new) }
         ensures fits { IfOk result (RowFits self.old.version) }
-        ensures version { self.new.version ≡ self.old.version }
+        ensures rest { self.new ≡ record self.old { refusals = self.new.refusals } }
         ensures err { IfErr result (λ e. e ≡ RowsFault.OutOfMemory) }
         ensures no_memory { (saved self.old number).vote ≡ None → IsOk result }
         ensures cause { OnErr result (Rises self.old.refusals self.new.refusals) }
@@ -150,25 +141,17 @@ impl Rows for MemoryRows {
         };
         match row.copy(self.alloc) {
             Ok(copy) => Ok(copy),
-            Err(_) => {
-                self.refusals = self.refusals.saturating_add(1);
-                Err(RowsFault::OutOfMemory)
-            }
+            Err(_) => { Err(refuse(&mut self.refusals, RowsFault::OutOfMemory)) }
         }
     }
 
     fn put(&mut self, number: Number, row: &Row) -> Result<(), RowsFault>
         requires { RowFits self.old.version row.now }
-        ensures row { OnOk result (WithRow (saved self.old) number row.now (saved self.new)) }
-        ensures same { OnErr result (SameRows (saved self.old) (saved self.new)) }
-        ensures version { self.new.version ≡ self.old.version }
+        ensures saves { Saves result number row.now self.old self.new }
         ensures err { IfErr result (λ e. e ≡ RowsFault.OutOfMemory) }
-        ensures cause { OnErr result (Rises self.old.refusals self.new.refusals) }
-        ensures counts { self.old.refusals ≤ self.new.refusals }
     {
         let Ok(copy) = row.copy(self.alloc) else {
-            self.refusals = self.refusals.saturating_add(1);
-            return Err(RowsFault::OutOfMemory);
+            return Err(refuse(&mut self.refusals, RowsFault::OutOfMemory));
         };
         match self.save(number, copy) {
             Ok(()) => Ok(()),

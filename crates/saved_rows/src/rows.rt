@@ -2,7 +2,8 @@
 
 ghost use Rattle.std.specs.Prelude.{◌≡◌, ◌≤◌, ◌⊎◌, ◌↔◌, ℕ, IfOk, IfErr, OnOk, OnErr};
 ghost use Rattle.protocol.specs.Rows.{Row as RowValue};
-ghost use Rattle.saved_rows.specs.Saved.{Saved, SameRows, WithRow, IsEither, HasPromise, RowFits, Rises};
+ghost use Rattle.saved_rows.specs.Saved.{Saved, SameRows, WithRow, IsEither, HasPromise, RowFits};
+ghost use Rattle.saved_rows.specs.Calls.{Answered};
 ghost use Rattle.saved_rows.specs.declared.fault.RowsFault.{RowsFault as FaultValue};
 
 use crate::fault::RowsFault;
@@ -67,23 +68,11 @@ pub trait Rows: Drop {
     /// A refusal is counted. `Damaged` tells of a row that nobody saves so: another wrote to the store. No clause says that it never comes else.
     fn get(&mut self, number: Number) -> Result<Row, RowsFault>
         ensures row { kept self.new → IfOk result (λ row. row ≡ saved self.old number) }
-        ensures open { kept self.new → OnOk result (is_open self.new) }
         ensures same { kept self.new → is_open self.new → SameRows (saved self.old) (saved self.new) }
         ensures fits { IfOk result (RowFits (version self.old)) }
         ensures version { version self.new ≡ version self.old }
         ensures alike { alike self.old self.new }
-
-        // It is refused only where the count rises.
-        ensures cause { OnErr result (Rises (refusals self.old) (refusals self.new)) }
-        ensures counts { refusals self.old ≤ refusals self.new }
-        ensures blames { IfErr result (blames self.old self.new) }
-
-        // The store's half, told forwards: rows that lie in what was made for them stay there.
-        ensures made { made self.old → made self.new }
-
-        // What held as the call ended held before.
-        ensures was_kept { kept self.new → kept self.old }
-        ensures was_open { kept self.new → is_open self.new → is_open self.old };
+        ensures answered { Answered kept is_open made refusals blames result self.old self.new };
 
     /// Saves the row of a number, one that the version has, in place of the one before. No other row is changed.
     ///
@@ -92,50 +81,26 @@ pub trait Rows: Drop {
         requires promise { HasPromise row.now }
         requires fits { RowFits (version self.old) row.now }
         ensures row { kept self.new → OnOk result (WithRow (saved self.old) number row.now (saved self.new)) }
-        ensures open { kept self.new → OnOk result (is_open self.new) }
         ensures version { version self.new ≡ version self.old }
         ensures passes { OnOk result (passes self.old self.new) }
 
         // Where it is refused and still open, the map is one of two.
         ensures either { kept self.new → OnErr result ((¬ is_open self.new) ⊎ IsEither (saved self.old) number row.now (saved self.new)) }
         ensures tells { OnErr result (tells self.old self.new number row.now) }
-
-        // It is refused only where the count rises.
-        ensures cause { OnErr result (Rises (refusals self.old) (refusals self.new)) }
-        ensures counts { refusals self.old ≤ refusals self.new }
-        ensures blames { IfErr result (blames self.old self.new) }
-
-        // The store's half, told forwards: rows that lie in what was made for them stay there.
-        ensures made { made self.old → made self.new }
-
-        // What held as the call ended held before.
-        ensures was_kept { kept self.new → kept self.old }
-        ensures was_open { kept self.new → is_open self.new → is_open self.old };
+        ensures answered { Answered kept is_open made refusals blames result self.old self.new };
 
     /// Goes over to version 2 with every row. At version 2 already an Ok changes nothing.
     ///
     /// A refusal is counted; it leaves each row as it was, and all rows at the version before or all at version 2.
     fn upgrade(&mut self) -> Result<(), RowsFault>
         ensures same { kept self.new → is_open self.new → SameRows (saved self.old) (saved self.new) }
-        ensures open { kept self.new → OnOk result (is_open self.new) }
         ensures two { OnOk result (version self.new ≡ Two) }
         ensures upgrades { OnOk result (upgrades self.old self.new) }
 
         // Where it is refused, the version is one of two.
         ensures either { OnErr result ((version self.new ≡ version self.old) ⊎ (version self.new ≡ Two)) }
         ensures balks { OnErr result (balks self.old self.new) }
-
-        // It is refused only where the count rises.
-        ensures cause { OnErr result (Rises (refusals self.old) (refusals self.new)) }
-        ensures counts { refusals self.old ≤ refusals self.new }
-        ensures blames { IfErr result (blames self.old self.new) }
-
-        // The store's half, told forwards: rows that lie in what was made for them stay there.
-        ensures made { made self.old → made self.new }
-
-        // What held as the call ended held before.
-        ensures was_kept { kept self.new → kept self.old }
-        ensures was_open { kept self.new → is_open self.new → is_open self.old };
+        ensures answered { Answered kept is_open made refusals blames result self.old self.new };
 
     // Rows are kept where the host and the store both gave what they owe, and only there.
     ghost halves: { (s : Self) → kept s ↔ (honest s × made s) };

@@ -24,7 +24,8 @@ fn lent_slugs(release: &Release) -> Result<&[Slug], SetFault>
     }
 }
 
-fn put<W: Write>(alloc: Global, release: &Release, out: &mut W) -> Result<(), PutFault>
+/// Writes a release and hands it on at once.
+fn announce<W: Write>(alloc: Global, release: &Release, out: &mut W) -> Result<(), PutFault>
     ensures { Writes result (W.contents out.old) (W.contents out.new) (release_of release.now) }
 {
     let number = release.number.get();
@@ -34,14 +35,7 @@ fn put<W: Write>(alloc: Global, release: &Release, out: &mut W) -> Result<(), Pu
         entry: release.entry.lend(),
         set: lent_slugs(release),
     };
-    put_release(alloc, &printed, out)
-}
-
-/// Writes a release and hands it on at once.
-fn announce<W: Write>(alloc: Global, release: &Release, out: &mut W) -> Result<(), PutFault>
-    ensures { Writes result (W.contents out.old) (W.contents out.new) (release_of release.now) }
-{
-    put(alloc, release, out)?;
+    put_release(alloc, &printed, out)?;
     match out.flush() {
         Ok(()) => Ok(()),
         Err(_) => Err(PutFault::CannotWrite),

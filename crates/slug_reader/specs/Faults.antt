@@ -1,5 +1,5 @@
 -- The first fault of a tape that is read, and what reading gives.
-use Rattle.std.specs.Prelude.{ℕ, List, Option, Some, None, Result, Ok, Err, length, is_some, option_map, if◌then◌else◌}
+use Rattle.std.specs.Prelude.{◌≡◌, ℕ, List, Option, Some, None, Result, Ok, Err, length, is_some, option_map, if◌then◌else◌}
 use Rattle.code_table.specs.declared.meaning.Meaning.{Meaning}
 use Rattle.code_table.specs.declared.meaning.Meaning.TheVariants as meanings
 use Rattle.widths.specs.Widths.{WidthFile, width_of}
@@ -7,9 +7,11 @@ use Rattle.slug_reader.specs.declared.fault.Flaw.{Flaw}
 use Rattle.slug_reader.specs.declared.fault.Flaw.TheVariants as flaws
 use Rattle.slug_reader.specs.declared.fault.ReadFault.{ReadFault}
 use Rattle.slug_reader.specs.declared.fault.ReadFault.TheVariants as faults
+use Rattle.slug_reader.specs.declared.item.Item.{Item}
+use Rattle.slug_reader.specs.declared.item.Rail.{Rail}
 use Rattle.slug_reader.specs.declared.line.Line.{Line}
 use Rattle.slug_reader.specs.Positions.{before, first, or_else}
-use Rattle.slug_reader.specs.Meanings.{Meanings, meaning_at}
+use Rattle.slug_reader.specs.Meanings.{Meanings, item_of, meaning_at}
 use Rattle.slug_reader.specs.Lines.{items_before, is_filled, lines_before}
 
 -- a frame is faulty where it means nothing, and where it means a matrix that has no width
@@ -17,6 +19,11 @@ abbrev pub frame_flaw : WidthFile → Option Meaning → Option Flaw
 frame_flaw widths None = Some flaws.UnknownCode
 frame_flaw widths (Some (meanings.Matrix name)) = if is_some (width_of widths name) then None else Some flaws.NoWidth
 frame_flaw widths (Some _) = None
+
+-- a frame gives what goes into the line, if anything, or tells what is wrong with it
+abbrev pub IsItemOrFlaw : WidthFile → Rail → Option Meaning → Result (Option Item) Flaw → Type 0
+IsItemOrFlaw widths rail m (Ok item) = (frame_flaw widths m ≡ None) × (item ≡ item_of widths rail m)
+IsItemOrFlaw widths rail m (Err flaw) = frame_flaw widths m ≡ Some flaw
 
 -- what is wrong with the frame at a position
 unfoldable pub flaw_at : Meanings → WidthFile → List ℕ → ℕ → Option Flaw

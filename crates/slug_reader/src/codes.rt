@@ -1,8 +1,8 @@
 //! What a meaning does to the line that is assembled.
 
-ghost use Rattle.std.specs.Prelude.{◌≡◌, Some, None, MatchResult};
-ghost use Rattle.slug_reader.specs.Meanings.{rail_of, quad_of, is_elevate, item_of};
-ghost use Rattle.slug_reader.specs.Faults.{frame_flaw};
+ghost use Rattle.std.specs.Prelude.{◌≡◌, Some};
+ghost use Rattle.slug_reader.specs.Meanings.{rail_of, quad_of, is_elevate};
+ghost use Rattle.slug_reader.specs.Faults.{IsItemOrFlaw};
 
 use crate::fault::Flaw;
 use crate::item::{Item, Rail};
@@ -42,9 +42,7 @@ pub fn is_elevate(meaning: &Meaning) -> bool
 
 /// What goes into the line, if anything, where this rail holds.
 pub fn item_of(widths: &Widths, rail: Rail, meaning: &Meaning) -> Result<Option<Item>, Flaw>
-    ensures { MatchResult result
-        (λ item. (frame_flaw widths.now (Some meaning.now) ≡ None) × (item ≡ item_of widths.now rail (Some meaning.now)))
-        (λ flaw. frame_flaw widths.now (Some meaning.now) ≡ Some flaw) }
+    ensures { IsItemOrFlaw widths.now rail (Some meaning.now) result }
 {
     match meaning {
         Meaning::Matrix(name) => match widths.of_name(name) {

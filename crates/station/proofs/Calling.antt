@@ -1,5 +1,5 @@
 -- What a call of a station promises, from what came of it once the station had followed its rows.
-use Rattle.std.proofs.Common.{◌≡◌, ◌≤◌, refl, sym, ap, subst, ◌∙◌, arith, List, [], length, None, Bool, true, false, Result, Ok, Err, IfOk, IfErr}
+use Rattle.std.proofs.Common.{◌≡◌, ◌≤◌, refl, sym, ap, subst, ◌∙◌, arith, List, [], length, Option, None, Bool, true, false, Result, Ok, Err, IfOk, IfErr}
 use Rattle.std.specs.Prelude.{IsErr, IsErrAnd, ◌||◌, if◌then◌else◌}
 use Rattle.protocol.specs.Limits.{most_sent}
 use Rattle.protocol.specs.Marks.{Mark}
@@ -15,6 +15,7 @@ use Rattle.station.specs.declared.station.Station.{Station}
 use Rattle.refusals.specs.declared.refusal.StepRefusal.{StepRefusal}
 use Rattle.refusals.specs.declared.refusal.StepRefusal.TheVariants.{Stopped, BadDatagram, WrongCircuit, NotForMe, Stranger, BadNumber, NoSuchMember, AlreadyReleased, AlreadyOpen, WireTooOld, TapeFaulty, RoundsSpent, Store, OutOfMemory}
 use Rattle.station.specs.Readiness.{IsNumbered}
+use Rattle.station.specs.Refusing.{Refusal, IsRefusal}
 use Rattle.station.specs.Stations.{sight, Follows}
 use Rattle.station.specs.Steps.{Ends, Asks, Steps, TakesStep, OnStore, IfStore, IsBlamed, tears, stopped_after, is_early, IfEarly, IsStep}
 use Rattle.station.proofs.Asking.{stepped, stays_stopped}
@@ -35,6 +36,23 @@ not_of_store (TapeFaulty fault) goes P Q = (tt, tt)
 not_of_store RoundsSpent goes P Q = (tt, tt)
 not_of_store (Store fault) goes P Q = absurd cc
 not_of_store OutOfMemory goes P Q = (tt, tt)
+
+-- what is refused before the store is asked stops no station
+pub steady : (o : Option Refusal) (q : StepRefusal) → IsRefusal o q → tears q ≡ false
+steady o Stopped h = refl
+steady o (BadDatagram fault) h = refl
+steady o WrongCircuit h = refl
+steady o NotForMe h = refl
+steady o Stranger h = refl
+steady o BadNumber h = refl
+steady o NoSuchMember h = refl
+steady o AlreadyReleased h = refl
+steady o AlreadyOpen h = refl
+steady o WireTooOld h = refl
+steady o (TapeFaulty fault) h = refl
+steady o RoundsSpent h = refl
+steady o (Store fault) h = absurd h
+steady o OutOfMemory h = absurd h
 
 -- an answer that is no early refusal owes nothing as one
 never_early : (r : Result Answer StepRefusal) (P : Type 0) → IfErr r (λ q. is_early q ≡ false) → IfEarly r P

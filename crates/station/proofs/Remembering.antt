@@ -1,6 +1,6 @@
 -- All that a station remembers fits the version in which it speaks.
 use Rattle.std.proofs.Common.{◌≡◌, ℕ, refl, sym, ap, subst, ◌∙◌, List, [], Option, Some, None, Result, Ok, Err, IfOk, IfErr, true, false}
-use Rattle.std.specs.Prelude.{IfSome}
+use Rattle.std.specs.Prelude.{◌≤◌, IfSome, IsSome, length}
 use Rattle.protocol.specs.Lists.{IsAmong}
 use Rattle.protocol.specs.Ballots.{IsMember}
 use Rattle.protocol.specs.Entries.{Entry}
@@ -8,18 +8,19 @@ use Rattle.protocol.specs.Rows.{Row, Vote}
 use Rattle.protocol.specs.Packets.{Packet}
 use Rattle.protocol.specs.Versions.{Version, One, Two}
 use Rattle.protocol.specs.Marks.{Mark, Began, Promised, Proposed, Denied, Heard, Closed, Released}
+use Rattle.protocol.specs.Limits.{most_sent}
 use Rattle.protocol.specs.Fitting as fitting
 use Rattle.protocol.specs.Fitting.{Fits, VoteFits, MarkFits, MarksFit, EventFits, TurnsFit}
 use Rattle.saved_rows.specs.Saved.{RowFits}
 use Rattle.node_core.specs.Standing.{Core, StandsFor, seat_of}
-use Rattle.node_core.specs.Turns.{event_value, IsRowAfter}
+use Rattle.node_core.specs.Turns.{event_value, note_value, sent, is_quiet, HandsNothing, IsRowAfter}
 use Rattle.node_core.specs.Calls.{RefusesToStart, RefusesEvent, Refuses, TookTurn}
 use Rattle.node_core.specs.declared.event.Event.{Event}
 use Rattle.node_core.specs.declared.event.Event.TheVariants as events
 use Rattle.node_core.specs.declared.turn.Turn.{Turn}
 use Rattle.node_core.specs.declared.turn.CoreRefusal.{CoreRefusal}
 use Rattle.node_core.specs.declared.turn.CoreRefusal.TheVariants as refusals
-use Rattle.station.specs.Speaking.{Speaks, TurnSpeaks, is_lower}
+use Rattle.station.specs.Speaking.{IsOrderly, Speaks, TurnSpeaks, is_lower}
 
 -- no mark fits every version
 pub nothing_speaks : (core : Core) (wire : Version) → StandsFor core [] → Speaks core wire
@@ -117,3 +118,10 @@ module _ (v : Version) (event : Event) (old new : Core) (row : Row) (law : Turns
   pub answered_fits : (r : Result Turn CoreRefusal) → IfOk r (λ x. (marks : List Mark) → StandsFor old marks → TookTurn old event marks row x new) → IfOk r (TurnSpeaks v row)
   answered_fits (Ok x) ok = turn_speaks v event old new row x law member h row_fits event_fits (ok h.marks h.stands_for)
   answered_fits (Err e) ok = tt
+
+-- a turn of the core's is orderly
+pub orderly :
+    (r : Result Turn CoreRefusal) (row : Row) → IfOk r (λ x. IfSome x.row (λ (after : Row). IsSome after.promised)) → IfOk r (λ x. length (sent row x) ≤ most_sent)
+    → IfOk r (λ x. is_quiet (note_value x.note) ≡ true → HandsNothing x) → IfOk r (IsOrderly row)
+orderly (Ok x) row promised few quiet = record { promised = promised; few = few; quiet = quiet }
+orderly (Err e) row promised few quiet = tt

@@ -1,6 +1,6 @@
 -- A station that took a turn, and saved its row or was refused to.
 use Rattle.std.proofs.Common.{◌≡◌, ℕ, ◌⊎◌, inl, inr, refl, sym, ap, subst, ◌∙◌, List, [], Option, Some, None, Bool, true, false}
-use Rattle.std.specs.Prelude.{Result, Ok, Err, is_err, ◌==◌}
+use Rattle.std.specs.Prelude.{Result, Ok, Err, ◌==◌}
 use Rattle.std.specs.List.{AllZip}
 use Rattle.std.proofs.lemmas.Bool.{eqb-true}
 use Rattle.protocol.specs.Entries.{Entry}
@@ -183,16 +183,16 @@ module _ {R : Type 0} (x : Sight R) (e : said.Event) (old : Station R) (marks : 
       (record { circuit = f.circuit ∙ k.seat.circuit; members = f.members ∙ k.seat.members; me = f.me ∙ k.seat.me; table = f.table; widths = f.widths })
       (ap (λ (t : Station R). t.stopped) is) none (ap (λ (t : Station R). t.rows) is ∙ ap (λ (t : Station R). t.rows) was) (its_save (Err r) s))
 
-  -- what the save answered, handed out where it is no refusal
+  -- what the save answered, handed out
   pub handed_on :
-      (after : Station R) (r : Result Answer StepRefusal) → is_err r ≡ false → after ≡ record old { rows = new; speaker = speaker }
-      → Saves x old.table old.widths n row move mid new r → Ends x e old after marks r
-  handed_on after (Ok a) is same s = subst (λ (t : Station R). Done x e old t marks a) (sym same) (done a s)
-  handed_on after (Err r) is same s = let bad : true ≡ false = is in absurd cc
+      (after : Station R) (r : Result Answer StepRefusal) (a : Answer) → r ≡ Ok a → after ≡ record old { rows = new; speaker = speaker }
+      → Saves x old.table old.widths n row move mid new r → Ends x e old after marks (Ok a)
+  handed_on after r a is same s =
+      subst (λ (t : Station R). Done x e old t marks a) (sym same) (done a (subst (λ (q : Result Answer StepRefusal). Saves x old.table old.widths n row move mid new q) is s))
 
-  -- and where it is one, of a station that the code stopped
+  -- the refusal of a save, of a station that the code stopped
   pub stopped_at :
-      (before after : Station R) (r : Result Answer StepRefusal) → is_err r ≡ true → before ≡ record old { rows = new; speaker = speaker } → IsFixed before after
-      → after ≡ record before { speaker = after.speaker; stopped = true } → StandsFor after.speaker.core [] → Saves x old.table old.widths n row move mid new r → Ends x e old after marks r
-  stopped_at before after (Ok a) is was fixed same none s = let bad : false ≡ true = is in absurd cc
-  stopped_at before after (Err r) is was fixed same none s = ended before after r r was fixed same refl none s
+      (before after : Station R) (r : Result Answer StepRefusal) (f q : StepRefusal) → r ≡ Err f → before ≡ record old { rows = new; speaker = speaker } → IsFixed before after
+      → after ≡ record before { speaker = after.speaker; stopped = true } → q ≡ f → StandsFor after.speaker.core [] → Saves x old.table old.widths n row move mid new r → Ends x e old after marks (Err q)
+  stopped_at before after r f q is was fixed stopped same none s =
+      ended before after f q was fixed stopped same none (subst (λ (t : Result Answer StepRefusal). Saves x old.table old.widths n row move mid new t) is s)

@@ -3,5 +3,7 @@ pub mod Speaking
 pub mod Stations
 pub mod Readiness
 pub mod Steps
+pub mod Checking
+pub mod Saving
 pub mod Settling
 pub mod Upgrading

@@ -1,5 +1,5 @@
 -- What a turn hands out, made ready before its row is saved; and what the save leaves.
-use Rattle.std.specs.Prelude.{◌≡◌, ◌≤◌, ◌⊎◌, ℕ, List, [], Option, Some, None, IfSome, Result, Ok, Err, option_map}
+use Rattle.std.specs.Prelude.{◌≡◌, ◌≤◌, ◌⊎◌, ℕ, List, [], Option, Some, None, IfSome, Result, Ok, Err, option_map, slice_get, take}
 use Rattle.std.specs.List.{AllZip}
 use Rattle.std.specs.declared.vec.Vec.{Vec}
 use Rattle.std.specs.Global.{Global}
@@ -12,7 +12,7 @@ use Rattle.protocol.specs.Circuit.{Datagram}
 use Rattle.saved_rows.specs.Saved.{WithRow, IsEither}
 use Rattle.saved_rows.specs.declared.fault.RowsFault.{RowsFault}
 use Rattle.tape_frames.specs.Entries.{owned_entry}
-use Rattle.packets.specs.Grammar.{Spells}
+use Rattle.packets.specs.Grammar.{Spells, SpellsAlike}
 use Rattle.packets.specs.Reading.{packet_in}
 use Rattle.code_table.specs.Tables.{Places, mean}
 use Rattle.code_table.specs.declared.case.Case.{Case}
@@ -23,6 +23,7 @@ use Rattle.line_check.specs.declared.fault.SetFault.{SetFault}
 use Rattle.line_check.specs.declared.slug.Slug.{Slug}
 use Rattle.node_core.specs.Turns.{HandsNothing, sent}
 use Rattle.node_core.specs.declared.turn.Turn.{Turn}
+use Rattle.node_core.specs.declared.turn.Note.TheVariants as notes
 use Rattle.station.specs.declared.answer.Answer.{Answer}
 use Rattle.station.specs.declared.answer.Release.{Release}
 use Rattle.station.specs.declared.setting.Checked.{Checked}
@@ -37,6 +38,11 @@ Carries v p d = (d.to ≡ p.to) × (packet_in v d.bytes ≡ Ok p)
 -- and its bytes are the packet's spelling
 abbrev pub IsSpelled : Version → Packet → Datagram → Type 0
 IsSpelled v p d = Carries v p d × Spells v d.bytes p
+
+-- the bytes say the same as the packet at this place, in whatever version the packets before it were spelled
+abbrev pub SaysTheSameAt : List Packet → ℕ → List Datagram → List ℕ → Type 0
+SaysTheSameAt packets place out bytes =
+    (v : Version) (p : Packet) → AllZip (IsSpelled v) (take place packets) out → slice_get packets place ≡ Some p → SpellsAlike v bytes p
 
 -- what setting a tape gave, its slugs as a list
 abbrev pub slugs_of : Result (Vec Slug Global) SetFault → Result (List Slug) SetFault
@@ -67,6 +73,13 @@ IsNumber n = (1 ≤ n) × (n ≤ last_number)
 -- what is released, if anything is, has a number that a story has
 abbrev pub IsNumbered : Option Release → Type 0
 IsNumbered o = IfSome o (λ r. IsNumber r.number)
+
+-- nothing was due: the answer is about no number, and hands nothing out
+pub record IsIdle (a : Answer) : Type 0 where
+  pub number : a.number ≡ None
+  pub out : a.out.items ≡ []
+  pub release : a.release ≡ None
+  pub note : a.note ≡ notes.Idle
 
 -- the rows after a save of the turn's row that was done; where it has none, the rows stay
 abbrev pub RowSaved : {R : Type 0} → Sight R → ℕ → Option Row → R → R → Type 0

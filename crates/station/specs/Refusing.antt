@@ -42,13 +42,9 @@ Checks o (Err r) = IsRefusal o r
 abbrev pub ChecksPacket : {A : Type 0} → Seat → Packet → Result A StepRefusal → Type 0
 ChecksPacket s p r = Checks (refusals.packet_refusal s p) r
 
--- a number that is offered or sought, checked
-abbrev pub ChecksNumber : {A : Type 0} → ℕ → List Mark → Result A StepRefusal → Type 0
-ChecksNumber n marks r = Checks (refusals.number_refusal n marks) r
-
--- a number for which an entry is offered, checked by a station that speaks this version
-abbrev pub ChecksOffer : {A : Type 0} → Version → ℕ → Entry → List Mark → Result A StepRefusal → Type 0
-ChecksOffer v n entry marks r = Checks (or_else (refusals.number_refusal n marks) (refusals.wire_refusal (fits v entry))) r
+-- why a station that speaks this version refuses an entry for a number, before the entry is set
+abbrev pub offer_refusal : Version → ℕ → Entry → List Mark → Option Refusal
+offer_refusal v n entry marks = or_else (refusals.number_refusal n marks) (refusals.wire_refusal (fits v entry))
 
 -- a number and a member to which a vote is to be told again by one of c members, checked
 abbrev pub ChecksRecall : {A : Type 0} → (c n to : ℕ) → Result A StepRefusal → Type 0

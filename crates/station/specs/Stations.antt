@@ -13,7 +13,7 @@ use Rattle.packets.specs.Reading.{packet_at}
 use Rattle.packets.specs.declared.fault.PacketFault.{PacketFault}
 use Rattle.line_check.specs.Sets.{first_fault}
 use Rattle.line_check.specs.declared.fault.SetFault.{SetFault}
-use Rattle.node_core.specs.Standing.{StandsFor, seat_of}
+use Rattle.node_core.specs.Standing.{StandsFor, IsSameSeat, seat_of}
 use Rattle.station.specs.Speaking.{is_lower}
 use Rattle.station.specs.declared.station.Station.{Station}
 
@@ -99,3 +99,10 @@ pub record Follows {R : Type 0} (x : Sight R) (old new : Station R) : Type 0 whe
   pub wire : new.speaker.wire ≡ wire_at x old
   pub keeps : is_lower (wire_at x old) old.speaker.wire ≡ false → new.speaker.core ≡ old.speaker.core
   pub forgets : is_lower (wire_at x old) old.speaker.wire ≡ true → StandsFor new.speaker.core []
+
+-- the station speaks the version of its rows from now on, in which circuit and as which member it did; one that has not stopped takes it over
+pub record FollowsRows {R : Type 0} (g : Ghosts R) (old new : Station R) : Type 0 where
+  pub same : new ≡ record old { speaker = new.speaker }
+  pub wire : new.speaker.wire ≡ g.version old.rows
+  pub seat : IsSameSeat old.speaker.core new.speaker.core
+  pub follows : old.stopped ≡ false → Follows (sight g) old new

@@ -1,13 +1,14 @@
 -- What an upgrade of a station does, whether the station had stopped or not.
-use Rattle.std.specs.Prelude.{◌≡◌, ◌⊎◌, [], Result, Ok, Err, is_err}
+use Rattle.std.specs.Prelude.{◌≡◌, ◌≤◌, ◌⊎◌, [], Result, Ok, Err, OnErr, is_err}
 use Rattle.protocol.specs.Versions.{Two}
-use Rattle.saved_rows.specs.Saved.{SameRows}
+use Rattle.saved_rows.specs.Saved.{SameRows, Rises}
 use Rattle.saved_rows.specs.declared.fault.RowsFault.{RowsFault}
+use Rattle.saved_rows.specs.declared.rows.Rows.{Ghosts}
 use Rattle.node_core.specs.Standing.{StandsFor}
 use Rattle.station.specs.declared.station.Station.{Station}
 use Rattle.refusals.specs.declared.refusal.StepRefusal.{StepRefusal}
 use Rattle.refusals.specs.declared.refusal.StepRefusal.TheVariants.{Store}
-use Rattle.station.specs.Stations.{Sight, IsFixed}
+use Rattle.station.specs.Stations.{Sight, sight, IsFixed}
 
 -- the rows went over to version 2
 pub record WentOver {R : Type 0} (x : Sight R) (old new : R) : Type 0 where
@@ -37,3 +38,13 @@ pub record TakesUpgrade {R : Type 0} (x : Sight R) (old new : Station R) (result
   pub ends : UpgradeEnds x old.rows new.rows result
   pub same : x.kept new.rows → x.is_open new.rows → SameRows (x.saved old.rows) (x.saved new.rows)
   pub was_open : x.kept new.rows → x.is_open new.rows → x.is_open old.rows
+
+-- a call to upgrade a station, answered so: what `Station::upgrade` promises
+pub record IsUpgrade {R : Type 0} (g : Ghosts R) (old new : Station R) (answer : Result (Unit {0}) StepRefusal) : Type 0 where
+  pub takes : TakesUpgrade (sight g) old new answer
+  -- what held of the rows as the call ended held before, and rows that were made for the store stay so
+  pub was_kept : g.kept new.rows → g.kept old.rows
+  pub made : g.made old.rows → g.made new.rows
+  -- it is refused only where the count of the rows' refusals rises, and that never falls
+  pub cause : OnErr answer (Rises (g.refusals old.rows) (g.refusals new.rows))
+  pub counts : g.refusals old.rows ≤ g.refusals new.rows

@@ -1,6 +1,6 @@
 //! What a step of a station hands out.
 
-ghost use Rattle.std.specs.Prelude.{◌≡◌, [], None};
+ghost use Rattle.station.specs.Readiness.{IsIdle};
 
 use crate::datagram::Datagram;
 use ballots::Number;
@@ -31,10 +31,7 @@ pub struct Answer {
 impl Answer {
     /// The answer where nothing is due.
     pub(crate) fn idle(alloc: Global) -> Answer
-        ensures number { result.number ≡ None }
-        ensures out { result.out.items ≡ [] }
-        ensures release { result.release ≡ None }
-        ensures note { result.note ≡ Note.Idle }
+        ensures { IsIdle result }
     {
         Answer {
             number: None,

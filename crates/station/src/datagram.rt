@@ -8,8 +8,8 @@ use std::marker::Model;
 /// The spelling of a packet on its way to a member. Clauses see its addressee and its bytes.
 #[derive(Drop)]
 pub struct Datagram {
-    to: Member,
-    bytes: Vec<u8>,
+    pub(crate) to: Member,
+    pub(crate) bytes: Vec<u8>,
 }
 
 impl Model for Datagram {
@@ -21,12 +21,6 @@ impl Model for Datagram {
 }
 
 impl Datagram {
-    pub(crate) fn new(to: Member, bytes: Vec<u8>) -> Datagram
-        ensures { result ≡ record { to = to; bytes = bytes.items } }
-    {
-        Datagram { to, bytes }
-    }
-
     /// The member that it goes to.
     pub fn to(&self) -> Member
         ensures { result ≡ self.now.to }

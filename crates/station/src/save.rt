@@ -1,18 +1,13 @@
 //! What a turn hands out is made ready, and then its row is saved.
 
-ghost use Rattle.std.specs.Prelude.{◌≡◌, ◌≤◌, [], None, Some, IfOk, IfErr, OnOk, OnErr, IfSome, true, false, length, option_map, slice_get, take};
+ghost use Rattle.std.specs.Prelude.{◌≡◌, ◌≤◌, [], None, Some, IfOk, IfErr, OnOk, OnErr, IfSome, length, option_map};
 ghost use Rattle.std.specs.List.{AllZip};
-ghost use Rattle.protocol.specs.Fitting.{BodyFits};
-ghost use Rattle.protocol.specs.Packets.{Packet};
-ghost use Rattle.protocol.specs.Versions.{Version as VersionValue};
 ghost use Rattle.tape_frames.specs.Entries.{owned_entry, version_of};
-ghost use Rattle.packets.specs.Grammar.{SpellsAlike};
 ghost use Rattle.saved_rows.specs.Saved.{HasPromise, RowFits, Rises};
-ghost use Rattle.node_core.specs.Turns.{sent};
-ghost use Rattle.station.specs.Speaking.{AllFit, TurnSpeaks};
+ghost use Rattle.station.specs.Speaking.{AllFit};
 ghost use Rattle.station.specs.Stations.{StaysMade, sight};
-ghost use Rattle.station.specs.Readiness.{Carries, IsSpelled, IsReleased, IsNumbered, RowSaved, RowBalked, Saves, WasChecked};
-ghost use Rattle.station.specs.Steps.{OnStore, IfStore, tears, is_early};
+ghost use Rattle.station.specs.Readiness.{Carries, IsReleased, IsNumbered, RowSaved, RowBalked, SaysTheSameAt, WasChecked};
+ghost use Rattle.station.specs.Saving.{CanBeSaved, SavesTurn};
 
 use crate::answer::{Answer, Release};
 use crate::datagram::Datagram;
@@ -20,30 +15,15 @@ use crate::setting::Checked;
 use crate::station::Station;
 use ballots::{Number, Row};
 use node_core::{Outgoing, Turn};
-use packets::{PacketRef, encode_beside};
+use packets::encode_beside;
 use refusals::StepRefusal;
 use saved_rows::{Rows, RowsFault};
 use std::alloc::{AllocError, Global};
 use tape_frames::{Entry, Version};
 
-/// The datagram of a packet, spelled in this version; beside the bytes of one that says the same to another member, where there is such.
-fn spell(
-    alloc: Global,
-    packet: &PacketRef<'_>,
-    alike: Option<&[u8]>,
-    version: Version,
-) -> Result<Datagram, AllocError>
-    requires fits { BodyFits (version_of version) packet.now.body }
-    requires alike { IfSome alike (λ bytes. SpellsAlike (version_of version) bytes.now packet.now) }
-    ensures { IfOk result (λ d. IsSpelled (version_of version) packet.now d) }
-{
-    let bytes = encode_beside(alloc, alike, packet, version)?;
-    Ok(Datagram::new(packet.to(), bytes))
-}
-
 /// The bytes of the first datagram that says the same as the packet at this place, where it was spelled already.
 fn spelled_alike<'a>(packets: &Outgoing<'_>, out: &'a [Datagram], place: usize) -> Option<&'a [u8]>
-    ensures { (v : VersionValue) (p : Packet) → AllZip (IsSpelled v) (take place packets.now) out.entry.now → slice_get packets.now place ≡ Some p → IfSome result (λ bytes. SpellsAlike v bytes.now p) }
+    ensures { IfSome result (λ bytes. SaysTheSameAt packets.now place out.entry.now bytes.now) }
 {
     match out.get(packets.first_alike(place)) {
         None => None,
@@ -73,8 +53,9 @@ fn spell_all(
             None => unreachable!(),
             Some(packet) => {
                 let alike = spelled_alike(packets, &out, place);
-                let datagram = spell(alloc, &packet, alike, version)?;
-                out.push(datagram)?
+                let bytes = encode_beside(alloc, alike, &packet, version)?;
+                let to = packet.to();
+                out.push(Datagram { to, bytes })?
             }
         }
     }
@@ -99,7 +80,8 @@ fn save_row<R: Rows>(rows: &mut R, number: Number, row: &Option<Row>) -> Result<
 }
 
 impl<R: Rows> Station<R> {
-    /// A released entry, set by the code table and the widths. No memory is taken where there is none.
+    /// A released entry, set by the code table and the widths. A tape that was checked is not set again, and no memory is taken where there
+    /// is no entry.
     fn release(
         &self,
         number: Number,
@@ -114,7 +96,13 @@ impl<R: Rows> Station<R> {
         let Some(entry) = entry else {
             return Ok(None);
         };
-        let set = self.set_entry(&entry, checked)?;
+        let set = match (&entry, checked) {
+            (Entry::Void, _) => Ok(Vec::new(self.alloc)),
+            (Entry::Tape(tape), Some(checked)) if checked.tape.lend().same(tape.lend()) => {
+                Ok(checked.slugs)
+            }
+            (Entry::Tape(tape), _) => self.setting(tape)?,
+        };
         // A number is in its range.
         let _range = number.get();
         Ok(Some(Release { number, entry, set }))
@@ -129,19 +117,8 @@ impl<R: Rows> Station<R> {
         turn: Turn,
         checked: Option<Checked<'_>>,
     ) -> Result<Answer, StepRefusal>
-        requires promised { IfSome turn.row HasPromise }
-        requires fits { TurnSpeaks (R.version self.old.rows) before.now turn }
-        requires checked { WasChecked self.old.table self.old.widths checked }
-        ensures saves { R.kept self.new.rows → Saves (sight R.Rows) self.old.table self.old.widths number before.now turn self.old.rows self.new.rows result }
-        ensures rest { self.new ≡ record self.old { rows = self.new.rows } }
-        ensures rows { StaysMade R.Rows self.old.rows self.new.rows }
-        ensures many { IfOk result (λ a. length a.out.items ≡ length (sent before.now turn)) }
-        ensures numbered { IfOk result (λ a. IsNumbered a.release) }
-        ensures cause { OnStore result (Rises (R.refusals self.old.rows) (R.refusals self.new.rows)) }
-        ensures blames { IfStore result (R.blames self.old.rows self.new.rows) }
-        ensures counts { R.refusals self.old.rows ≤ R.refusals self.new.rows }
-        ensures tears { IfErr result (λ r. tears r ≡ true) }
-        ensures late { IfErr result (λ r. is_early r ≡ false) }
+        requires { CanBeSaved R.version self.old before.now turn checked }
+        ensures { SavesTurn R.Rows number before.now turn self.old self.new result }
     {
         let Ok(out) = spell_all(self.alloc, &turn.out(before), self.rows.version()) else {
             return Err(StepRefusal::OutOfMemory);

@@ -1,17 +1,16 @@
 //! What a station remembers, in the version in which it speaks.
 
-ghost use Rattle.std.specs.Prelude.{◌≡◌, ◌≤◌, List, [], IfOk, IfErr, IsSome, IfSome, true, false, length};
+ghost use Rattle.std.specs.Prelude.{◌≡◌, List, [], IfOk, IfErr};
 ghost use Rattle.protocol.specs.Versions.{fits};
 ghost use Rattle.protocol.specs.Marks.{Mark};
 ghost use Rattle.protocol.specs.Fitting.{BodyFits, EventFits};
-ghost use Rattle.protocol.specs.Limits.{most_members, most_sent};
 ghost use Rattle.saved_rows.specs.Saved.{RowFits};
 ghost use Rattle.tape_frames.specs.Entries.{version_of, lent_entry};
 ghost use Rattle.packets.specs.Reading.{packet_at};
 ghost use Rattle.node_core.specs.Calls.{MayCome, TookTurn, RefusesEvent, MayWantMemory};
 ghost use Rattle.node_core.specs.Standing.{StandsFor, OfItsMarks, IsSameSeat};
-ghost use Rattle.node_core.specs.Turns.{event_value, note_value, is_quiet, HandsNothing, sent};
-ghost use Rattle.station.specs.Speaking.{is_lower, TurnSpeaks};
+ghost use Rattle.node_core.specs.Turns.{event_value};
+ghost use Rattle.station.specs.Speaking.{Forgets, IsOrderly, SpeaksFromNow, TurnSpeaks, is_lower};
 
 use ballots::Row;
 use node_core::{CoreRefusal, Event, NodeCore, Turn};
@@ -85,9 +84,7 @@ impl Speaker {
     /// Forgets all that was taken in, as at a start.
     #[tactic(auto, using(crate::proofs::Remembering::nothing_speaks))]
     pub fn clear(&mut self)
-        ensures stands { StandsFor self.new.core [] }
-        ensures seat { IsSameSeat self.old.core self.new.core }
-        ensures wire { self.new.wire ≡ self.old.wire }
+        ensures { Forgets self.old self.new }
     {
         self.core.clear();
     }
@@ -95,10 +92,7 @@ impl Speaker {
     /// Speaks this version from now on. Where it is below the one before, all that was taken in is forgotten: some of it
     /// may not fit.
     pub fn follow(&mut self, version: Version)
-        ensures wire { self.new.wire ≡ version_of version }
-        ensures seat { IsSameSeat self.old.core self.new.core }
-        ensures keeps { is_lower (version_of version) self.old.wire ≡ false → self.new.core ≡ self.old.core }
-        ensures forgets { is_lower (version_of version) self.old.wire ≡ true → StandsFor self.new.core [] }
+        ensures { SpeaksFromNow (version_of version) self.old self.new }
     {
         if is_lower(version, self.wire) {
             self.core.clear();
@@ -117,9 +111,7 @@ impl Speaker {
         ensures stands { (marks : List Mark) × StandsFor self.old.core marks }
         ensures ok { IfOk result (λ x. OfItsMarks self.old.core (λ marks. TookTurn self.old.core event.entry marks row.now x self.new.core)) }
         ensures fits { IfOk result (λ x. TurnSpeaks self.old.wire row.now x) }
-        ensures promised { IfOk result (λ x. IfSome x.row (λ r. IsSome r.promised)) }
-        ensures few { IfOk result (λ x. length (sent row.now x) ≤ most_sent) }
-        ensures quiet { IfOk result (λ x. is_quiet (note_value x.note) ≡ true → HandsNothing x) }
+        ensures orderly { IfOk result (IsOrderly row.now) }
         ensures refused { IfErr result (λ e. RefusesEvent event.entry e self.old.core row.now self.new.core) }
         ensures memory { IfErr result (λ e. MayWantMemory e self.old.core event.entry row.now) }
         ensures seat { IsSameSeat self.old.core self.new.core }

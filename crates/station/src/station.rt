@@ -5,8 +5,8 @@ ghost use Rattle.std.specs.Borrow.{Lends, sem};
 ghost use Rattle.protocol.specs.Marks.{Mark};
 ghost use Rattle.protocol.specs.Proposals.{was_released, open_ballot};
 ghost use Rattle.protocol.specs.Limits.{most_members};
-ghost use Rattle.node_core.specs.Standing.{StandsFor, OfItsMarks, IsSameSeat};
-ghost use Rattle.station.specs.Stations.{sight, IsFixed, Follows, with_rows};
+ghost use Rattle.node_core.specs.Standing.{StandsFor, OfItsMarks};
+ghost use Rattle.station.specs.Stations.{IsFixed, FollowsRows, with_rows};
 ghost use Rattle.station.specs.contracts.station.Station.{the_row};
 
 use crate::speaker::Speaker;
@@ -105,10 +105,7 @@ impl<R: Rows> Station<R> {
     /// Speaks the version of its rows from now on, as each step does before all else. Where another left the rows at a
     /// lower version, it forgets what it took in.
     pub(crate) fn follow_rows(&mut self)
-        ensures same { self.new ≡ record self.old { speaker = self.new.speaker } }
-        ensures wire { self.new.speaker.wire ≡ R.version self.old.rows }
-        ensures seat { IsSameSeat self.old.speaker.core self.new.speaker.core }
-        ensures follows { self.old.stopped ≡ false → Follows (sight R.Rows) self.old self.new }
+        ensures { FollowsRows R.Rows self.old self.new }
     {
         self.speaker.follow(self.rows.version());
     }

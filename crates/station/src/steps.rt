@@ -1,22 +1,22 @@
 //! The steps of a station.
 
-ghost use Rattle.std.specs.Prelude.{◌≡◌, ◌≤◌, List, [], true, false, IfOk, OnOk, IfErr, length};
+ghost use Rattle.std.specs.Prelude.{◌≡◌, ◌≤◌, true, false, IfOk, OnOk, IfErr, length};
 ghost use Rattle.protocol.specs.Entries.{Void, Taped};
 ghost use Rattle.protocol.specs.Versions.{fits};
-ghost use Rattle.protocol.specs.Marks.{Mark};
 ghost use Rattle.protocol.specs.Turn.{number_of};
-ghost use Rattle.protocol.specs.Refusals.{Offering, Seeking, Falling_due, Receiving, Recalling};
+ghost use Rattle.protocol.specs.Refusals.{Offering, Seeking, Falling_due, Receiving, Recalling, number_refusal};
 ghost use Rattle.protocol.specs.Fitting.{EventFits};
 ghost use Rattle.protocol.specs.Limits.{most_sent};
 ghost use Rattle.tape_frames.specs.Entries.{lent_entry};
 ghost use Rattle.saved_rows.specs.Saved.{Rises};
-ghost use Rattle.node_core.specs.Standing.{StandsFor, OfItsMarks};
+ghost use Rattle.node_core.specs.Standing.{OfItsMarks};
 ghost use Rattle.node_core.specs.Calls.{MayCome};
 ghost use Rattle.node_core.specs.Turns.{event_value};
 ghost use Rattle.station.specs.Readiness.{WasChecked, IsNumbered};
-ghost use Rattle.station.specs.Refusing.{ChecksNumber, ChecksOffer};
+ghost use Rattle.station.specs.Refusing.{offer_refusal};
+ghost use Rattle.station.specs.Checking.{ChecksAsked};
 ghost use Rattle.station.specs.Stations.{Halts, StaysMade, sight};
-ghost use Rattle.station.specs.Steps.{Ends, IsFree, IsStep, OnStore, IfStore, IsBlamed, tears, is_early, stopped_after};
+ghost use Rattle.station.specs.Steps.{Ends, IsFree, IsStep, OnStore, IfStore, IsBlamed, is_early, stopped_after};
 
 use crate::answer::Answer;
 use crate::checks::{check_packet, check_recall};
@@ -120,9 +120,7 @@ impl<R: Rows> Station<R> {
             Ok(packet) => packet,
             Err(fault) => return Err(StepRefusal::BadDatagram(fault)),
         };
-        let core = self.speaker.core();
-        let (circuit, members, me) = (core.circuit(), core.members(), core.me());
-        check_packet(circuit, members, me, &packet)?;
+        check_packet(self.speaker.core(), &packet)?;
         let number = packet.number();
         self.take(number, Event::Arrived { packet, now }, None)
     }
@@ -138,15 +136,13 @@ impl<R: Rows> Station<R> {
             return Err(StepRefusal::Stopped);
         }
         self.follow_rows();
-        let (number, to) = check_recall(self.speaker.core().members(), number, to)?;
+        let (number, to) = check_recall(self.speaker.core(), number, to)?;
         self.take(number, Event::Recall { number, to }, None)
     }
 
     /// The number, where it is one that can be asked for.
     fn check_number(&self, number: u32) -> Result<Number, StepRefusal>
-        ensures value { IfOk result (λ n. n ≡ number) }
-        ensures checks { (marks : List Mark) → StandsFor self.now.speaker.core marks → ChecksNumber number marks result }
-        ensures goes_on { IfErr result (λ r. tears r ≡ false) }
+        ensures { ChecksAsked number self.now.speaker.core (number_refusal number) result }
     {
         let Some(number) = Number::new(number) else {
             return Err(StepRefusal::BadNumber);
@@ -163,10 +159,8 @@ impl<R: Rows> Station<R> {
 
     /// The number, where it is one that can be asked for, and the station has a spelling for the entry that is offered.
     fn check_offer(&self, number: u32, entry: EntryRef<'_>) -> Result<Number, StepRefusal>
-        ensures value { IfOk result (λ n. n ≡ number) }
         ensures fits { OnOk result (fits self.now.speaker.wire (lent_entry entry.entry) ≡ true) }
-        ensures checks { OfItsMarks self.now.speaker.core (λ marks. ChecksOffer self.now.speaker.wire number (lent_entry entry.entry) marks result) }
-        ensures goes_on { IfErr result (λ r. tears r ≡ false) }
+        ensures asked { ChecksAsked number self.now.speaker.core (offer_refusal self.now.speaker.wire number (lent_entry entry.entry)) result }
     {
         let number = self.check_number(number)?;
         if !self.speaker.has_spelling(&entry) {
@@ -208,13 +202,10 @@ impl<R: Rows> Station<R> {
             Err(fault) => return Err(self.stop(StepRefusal::Store(fault))),
         };
         match self.speaker.handle(event, &row) {
-            Ok(turn) => {
-                let answer = self.save(number, &row, turn, checked);
-                if answer.is_err() {
-                    self.halt();
-                }
-                answer
-            }
+            Ok(turn) => match self.save(number, &row, turn, checked) {
+                Ok(answer) => Ok(answer),
+                Err(refusal) => Err(self.stop(refusal)),
+            },
             Err(CoreRefusal::RoundsSpent) => Err(StepRefusal::RoundsSpent),
             Err(CoreRefusal::AlreadyReleased) => Err(StepRefusal::AlreadyReleased),
             Err(CoreRefusal::AlreadyOpen) => Err(StepRefusal::AlreadyOpen),
@@ -223,20 +214,13 @@ impl<R: Rows> Station<R> {
         }
     }
 
-    /// It forgets what it took in, and takes no step until a restart, or an upgrade that is Ok.
-    fn halt(&mut self)
-        ensures halts { Halts self.old self.new }
-    {
-        self.speaker.clear();
-        self.stopped = true;
-    }
-
-    /// The same, with the refusal that stops it.
+    /// It forgets what it took in, and takes no step until a restart, or an upgrade that is Ok. Handed on is the refusal that stops it.
     pub(crate) fn stop(&mut self, refusal: StepRefusal) -> StepRefusal
         ensures same { result ≡ refusal }
         ensures halts { Halts self.old self.new }
     {
-        self.halt();
+        self.speaker.clear();
+        self.stopped = true;
         refusal
     }
 }

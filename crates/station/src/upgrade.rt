@@ -1,9 +1,6 @@
 //! A station goes over to version 2.
 
-ghost use Rattle.std.specs.Prelude.{◌≤◌, OnErr};
-ghost use Rattle.saved_rows.specs.Saved.{Rises};
-ghost use Rattle.station.specs.Stations.{sight};
-ghost use Rattle.station.specs.Upgrading.{TakesUpgrade};
+ghost use Rattle.station.specs.Upgrading.{IsUpgrade};
 
 use crate::station::Station;
 use refusals::StepRefusal;
@@ -17,13 +14,7 @@ impl<R: Rows> Station<R> {
     /// Refused as `Store` alone, where its rows refuse: each stands as it was, at the version before or at version 2,
     /// and the station stops.
     pub fn upgrade(&mut self) -> Result<(), StepRefusal>
-        ensures takes { TakesUpgrade (sight R.Rows) self.old self.new result }
-        ensures was_kept { R.kept self.new.rows → R.kept self.old.rows }
-        ensures made { R.made self.old.rows → R.made self.new.rows }
-
-        // It is refused only where the count of the rows' refusals rises.
-        ensures cause { OnErr result (Rises (R.refusals self.old.rows) (R.refusals self.new.rows)) }
-        ensures counts { R.refusals self.old.rows ≤ R.refusals self.new.rows }
+        ensures { IsUpgrade R.Rows self.old self.new result }
     {
         match self.rows.upgrade() {
             Ok(()) => {

@@ -8,7 +8,7 @@ use Rattle.line_fit.specs.Fitting.{Fits, first_told}
 use Rattle.code_table.specs.Tables.{mean}
 use Rattle.tape_drawing.specs.declared.document.DrawingOrder.{DrawingOrder}
 use Rattle.tape_drawing.specs.declared.document.HeadCounts.{HeadCounts}
-use Rattle.tape_drawing.specs.declared.document.Heading.{Heading}
+use Rattle.tape_drawing.specs.declared.document.DrawingHead.{DrawingHead}
 use Rattle.tape_drawing.specs.declared.document.Names.{Names}
 use Rattle.tape_drawing.specs.declared.page.DrawingForm.{DrawingForm}
 use Rattle.tape_drawing.specs.declared.page.DrawingForm.TheVariants as pages
@@ -127,15 +127,23 @@ page_told title counts faults =
 unfoldable pub page_head : List ℕ → List ℕ → ℕ → ℕ → List ℕ
 page_head title counts size faults = page_open title size ++ page_told title counts faults
 
--- a document of this height: what is told before its lines, and its lines, whose text is this
-abbrev pub page_text : DrawingForm → List ℕ → ℕ → List ℕ → List ℕ → ℕ → ℕ → List ℕ
-page_text pages.Svg lines height title counts size faults = svg_head height title counts size ++ (lines ++ codes "</svg>\n")
-page_text pages.Html lines height title counts size faults =
-    page_head title counts size faults ++ (lines ++ codes "</main>\n</body>\n</html>\n")
+-- all of a document or a page of this height as far as its lines
+abbrev pub head_text : DrawingForm → ℕ → List ℕ → List ℕ → ℕ → ℕ → List ℕ
+head_text pages.Svg height title counts size faults = svg_head height title counts size
+head_text pages.Html height title counts size faults = page_head title counts size faults
 
 -- the same under a heading
-abbrev pub page_by : DrawingForm → List ℕ → Heading → List ℕ
-page_by page lines heading = page_text page lines heading.height heading.title.now heading.counts.now heading.size heading.faults
+abbrev pub head_by : DrawingForm → DrawingHead → List ℕ
+head_by page heading = head_text page heading.height heading.title.now heading.counts.now heading.size heading.faults
+
+-- what stands behind its lines
+abbrev pub end_text : DrawingForm → List ℕ
+end_text pages.Svg = codes "</svg>\n"
+end_text pages.Html = codes "</main>\n</body>\n</html>\n"
+
+-- a document of this height: what is told before its lines, and its lines, whose text is this
+abbrev pub page_text : DrawingForm → List ℕ → ℕ → List ℕ → List ℕ → ℕ → ℕ → List ℕ
+page_text page lines height title counts size faults = head_text page height title counts size faults ++ (lines ++ end_text page)
 
 -- the document of a tape whose lines end here, with what is counted
 abbrev pub text_with : DrawingForm → Meanings → WidthFile → List ℕ → Called → Fitting → Spot → HeadCounts → List ℕ

@@ -82,10 +82,14 @@ abbrev pub number_style : Option SetFault → ℕ → Style
 number_style None faults = styles.Line
 number_style (Some fault) faults = if faults == 0 then styles.FirstFaulty else styles.Faulty
 
+-- the number of a line that begins here
+abbrev pub number_shape : Spot → Option SetFault → Shape
+number_shape spot fault = Words (number_style fault spot.faults) 48 (spot.top + 45) (decimal spot.number)
+
 -- the number of a line, its frames, and the mark of its fault
 abbrev pub taped_shapes : Meanings → List ℕ → Spot → ℕ → Option SetFault → List Shape
 taped_shapes means tape spot frames fault =
-    Words (number_style fault spot.faults) 48 (spot.top + 45) (decimal spot.number)
+    number_shape spot fault
     ∷ (strip_shapes means tape spot.from frames spot.top ++ mark_shapes spot.from spot.top fault)
 
 -- a line: its number, its frames, the mark of its fault, and what stands below them

@@ -102,9 +102,9 @@ box_lead looks.Space = codes "<rect class='s' x='"
 box_lead looks.Blank = codes "<rect class='q' x='"
 box_lead looks.Over = codes "<rect class='v' x='"
 
--- what begins a group with the number of a line
-unfoldable pub group_text : ℕ → List ℕ
-group_text number = count_text (codes "<g id='line") number ++ codes "'>\n"
+-- what begins a group: its name, with a number
+unfoldable pub group_text : List ℕ → ℕ → List ℕ
+group_text lead number = count_text lead number ++ codes "'>\n"
 
 -- what begins a drawing with the number of a line, that reaches down from an upper edge
 unfoldable pub view_text : ℕ → ℕ → ℕ → List ℕ
@@ -113,7 +113,7 @@ view_text number y height =
 
 -- the elements of a line are one group of a document, and one drawing of a page
 abbrev pub open_text : DrawingForm → ℕ → ℕ → ℕ → List ℕ
-open_text pages.Svg number y height = group_text number
+open_text pages.Svg number y height = group_text (codes "<g id='line") number
 open_text pages.Html number y height = view_text number y height
 
 -- the end of a line

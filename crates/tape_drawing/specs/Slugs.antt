@@ -49,17 +49,25 @@ abbrev pub width_shapes : Stretch → List Shape
 width_shapes s =
     if nat_lt (across s) 10 then [] else Words styles.Width (edge s.measure s.from + across s / 2) (s.top + 43) (decimal s.width) ∷ []
 
+-- a matrix with its name
+abbrev pub matrix_shapes : Stretch → Rail → List ℕ → List Shape
+matrix_shapes s rail name = box_shapes (look_in s looks.Matrix) s ++ name_shapes s rail name
+
+-- a band or a space of this look with its width
+abbrev pub room_shapes : Stretch → Look → List Shape
+room_shapes s look = box_shapes (look_in s look) s ++ width_shapes s
+
 -- a piece of a slug: a matrix with its name, a spaceband or a fixed space with its width in units
 abbrev pub sort_shapes : Sort → Stretch → List Shape
-sort_shapes (sorts.Matrix name rail width) s = box_shapes (look_in s looks.Matrix) s ++ name_shapes s rail name
-sort_shapes (sorts.Band width) s = box_shapes (look_in s looks.Band) s ++ width_shapes s
-sort_shapes (sorts.Space width) s = box_shapes (look_in s looks.Space) s ++ width_shapes s
+sort_shapes (sorts.Matrix name rail width) s = matrix_shapes s rail name
+sort_shapes (sorts.Band width) s = room_shapes s looks.Band
+sort_shapes (sorts.Space width) s = room_shapes s looks.Space
 
 -- a piece of a line that does not set, the same way
 abbrev pub item_shapes : Item → Stretch → List Shape
-item_shapes (items.Matrix name rail width) s = box_shapes (look_in s looks.Matrix) s ++ name_shapes s rail name
-item_shapes items.Band s = box_shapes (look_in s looks.Band) s ++ width_shapes s
-item_shapes (items.Space width) s = box_shapes (look_in s looks.Space) s ++ width_shapes s
+item_shapes (items.Matrix name rail width) s = matrix_shapes s rail name
+item_shapes items.Band s = room_shapes s looks.Band
+item_shapes (items.Space width) s = room_shapes s looks.Space
 
 -- the width of a piece of a line whose bands have this width
 abbrev pub item_width : ℕ → Item → ℕ

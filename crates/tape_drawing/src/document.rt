@@ -8,7 +8,7 @@ ghost use Rattle.slug_reader.specs.Positions.{first, or_else};
 ghost use Rattle.tape_drawing.specs.Shapes.{text_of, escaped};
 ghost use Rattle.tape_drawing.specs.Layout.{after, first_spot, IsWithin};
 ghost use Rattle.tape_drawing.specs.Lines.{AreLinesOf, tape_by};
-ghost use Rattle.tape_drawing.specs.Document.{called_by, title_words, rest_lines, rest_faults, counted, tape_counts, line_counts, counted_words, height_of, style_text, svg_open, svg_styled, svg_style, svg_head, head_shapes, fault_link, page_styled, page_look, page_titled, page_open, page_told, page_head, page_by, document_by, IsDrawingBy};
+ghost use Rattle.tape_drawing.specs.Document.{called_by, title_words, rest_lines, rest_faults, counted, tape_counts, line_counts, counted_words, height_of, style_text, svg_open, svg_styled, svg_style, svg_head, head_shapes, fault_link, page_styled, page_look, page_titled, page_open, page_told, page_head, head_by, end_text, document_by, IsDrawingBy};
 
 use crate::elements::{Point, Style, add_count, add_number, add_pair, add_words};
 use crate::escaping::add_escaped;
@@ -66,7 +66,7 @@ struct HeadCounts {
 
 /// What the head of a document shows.
 #[derive(Clone, Copy)]
-struct Heading<'a> {
+struct DrawingHead<'a> {
     title: &'a [u8],
     counts: &'a [u8],
     /// The size of the type.
@@ -89,17 +89,15 @@ fn title_words(alloc: Global, names: &Names<'_>) -> Result<Vec<u8>, AllocError>
 }
 
 /// One, where there are frames behind the last elevate code.
-fn rest_lines(from: u64, frames: u64) -> u64
-    ensures value { result ≡ rest_lines from frames }
-    ensures small { result ≤ 1 }
+fn rest_lines(from: u64, frames: u64) -> u8
+    ensures { result ≡ rest_lines from frames }
 {
     if from < frames { 1 } else { 0 }
 }
 
 /// One, where there is a fault.
-fn rest_faults(fault: Option<SetFault>) -> u64
-    ensures value { result ≡ rest_faults fault }
-    ensures small { result ≤ 1 }
+fn rest_faults(fault: Option<SetFault>) -> u8
+    ensures { result ≡ rest_faults fault }
 {
     match fault {
         Some(_) => 1,
@@ -115,9 +113,9 @@ fn counted(measure: u16, frames: u64, end: Spot, rest: Option<SetFault>) -> Head
     HeadCounts {
         measure: u64::from(measure),
         frames,
-        lines: end.number - 1 + rest_lines(end.from, frames),
+        lines: end.number - 1 + u64::from(rest_lines(end.from, frames)),
         slugs: end.slug - 1,
-        faults: end.faults + rest_faults(rest),
+        faults: end.faults + u64::from(rest_faults(rest)),
     }
 }
 
@@ -215,7 +213,7 @@ fn add_head(text: &mut Vec<u8>, title: &[u8], counts: &[u8]) -> Result<(), Alloc
 
 /// Adds a document in SVG as far as its lines.
 #[tactic(auto, unfolding(crate::specs::Document::svg_head))]
-fn add_svg_head(text: &mut Vec<u8>, heading: &Heading<'_>) -> Result<(), AllocError>
+fn add_svg_head(text: &mut Vec<u8>, heading: &DrawingHead<'_>) -> Result<(), AllocError>
     ensures { OnOk result (text.new.items ≡ text.old.items
         ++ svg_head heading.now.height heading.now.title.now heading.now.counts.now heading.now.size) }
 {
@@ -283,7 +281,7 @@ fn add_page_counts(text: &mut Vec<u8>, title: &[u8], counts: &[u8]) -> Result<()
 
 /// Adds what a page tells before its drawings.
 #[tactic(auto, unfolding(crate::specs::Document::page_told))]
-fn add_page_told(text: &mut Vec<u8>, heading: &Heading<'_>) -> Result<(), AllocError>
+fn add_page_told(text: &mut Vec<u8>, heading: &DrawingHead<'_>) -> Result<(), AllocError>
     ensures { OnOk result (text.new.items ≡ text.old.items ++ page_told heading.now.title.now heading.now.counts.now heading.now.faults) }
 {
     add_page_counts(text, heading.title, heading.counts)?;
@@ -294,7 +292,7 @@ fn add_page_told(text: &mut Vec<u8>, heading: &Heading<'_>) -> Result<(), AllocE
 
 /// Adds all of a page as far as its lines.
 #[tactic(auto, unfolding(crate::specs::Document::page_head))]
-fn add_page_head(text: &mut Vec<u8>, heading: &Heading<'_>) -> Result<(), AllocError>
+fn add_page_head(text: &mut Vec<u8>, heading: &DrawingHead<'_>) -> Result<(), AllocError>
     ensures { OnOk result (text.new.items ≡ text.old.items
         ++ page_head heading.now.title.now heading.now.counts.now heading.now.size heading.now.faults) }
 {
@@ -302,27 +300,27 @@ fn add_page_head(text: &mut Vec<u8>, heading: &Heading<'_>) -> Result<(), AllocE
     add_page_told(text, heading)
 }
 
-/// Adds the document of a tape whose lines fit so.
-fn add_document(
+/// Adds all of a document as far as its lines.
+fn add_heading(
     text: &mut Vec<u8>,
-    plan: &DrawingPlan<'_>,
-    fitting: &Fitting,
-    heading: &Heading<'_>,
+    page: DrawingForm,
+    heading: &DrawingHead<'_>,
 ) -> Result<(), AllocError>
-    requires { AreLinesOf plan.now fitting.now.lines.items }
-    ensures { OnOk result (text.new.items ≡ text.old.items ++ page_by plan.now.page (text_of (tape_by plan.now fitting.now)) heading.now) }
+    ensures { OnOk result (text.new.items ≡ text.old.items ++ head_by page heading.now) }
 {
-    match plan.page {
-        DrawingForm::Svg => {
-            add_svg_head(text, heading)?;
-            add_tape(text, plan, fitting)?;
-            text.extend_from_slice(b"</svg>\n")
-        }
-        DrawingForm::Html => {
-            add_page_head(text, heading)?;
-            add_tape(text, plan, fitting)?;
-            text.extend_from_slice(b"</main>\n</body>\n</html>\n")
-        }
+    match page {
+        DrawingForm::Svg => add_svg_head(text, heading),
+        DrawingForm::Html => add_page_head(text, heading),
+    }
+}
+
+/// Adds what stands behind its lines.
+fn add_end(text: &mut Vec<u8>, page: DrawingForm) -> Result<(), AllocError>
+    ensures { OnOk result (text.new.items ≡ text.old.items ++ end_text page) }
+{
+    match page {
+        DrawingForm::Svg => text.extend_from_slice(b"</svg>\n"),
+        DrawingForm::Html => text.extend_from_slice(b"</main>\n</body>\n</html>\n"),
     }
 }
 
@@ -372,7 +370,7 @@ fn document_of(
     let counts = counted(measure, frames as u64, end, fitting.rest);
     let title = title_words(plan.alloc, names)?;
     let words = counted_words(plan.alloc, counts)?;
-    let heading = Heading {
+    let heading = DrawingHead {
         title: &title,
         counts: &words,
         size: type_size(plan.widths),
@@ -380,7 +378,9 @@ fn document_of(
         faults: counts.faults,
     };
     let mut text = Vec::new(plan.alloc);
-    add_document(&mut text, plan, fitting, &heading)?;
+    add_heading(&mut text, plan.page, &heading)?;
+    add_tape(&mut text, plan, fitting)?;
+    add_end(&mut text, plan.page)?;
     Ok(text)
 }
 

@@ -130,25 +130,16 @@ fn add_sheet(text: &mut Vec<u8>, at: Point, frames: u64) -> Result<(), AllocErro
     text.extend_from_slice(b"'/>\n")
 }
 
-/// Adds their feed holes.
-#[tactic(auto, unfolding(crate::specs::Shapes::feed_text))]
-fn add_feed(text: &mut Vec<u8>, at: Point, frames: u64) -> Result<(), AllocError>
-    requires { (1 ≤ frames) × (frames ≤ 40) × (at.x ≤ 2 ^ 40) × (at.y ≤ 2 ^ 41) }
-    ensures { OnOk result (text.new.items ≡ text.old.items ++ feed_text at.x at.y frames) }
-{
-    add_pair(text, "<path class='d' d='M", " ", (at.x + 9, at.y + 29))?;
-    add_pair(text, "h", "v", (18 * frames - 9, 0))?;
-    text.extend_from_slice(b"'/>\n")
-}
-
 /// Adds the paper of a row of so many frames, and its feed holes.
-#[tactic(auto, unfolding(crate::specs::Shapes::shape_text))]
+#[tactic(auto, unfolding(crate::specs::Shapes::shape_text, crate::specs::Shapes::feed_text))]
 pub fn add_paper(text: &mut Vec<u8>, at: Point, frames: u64) -> Result<(), AllocError>
     requires { (1 ≤ frames) × (frames ≤ 40) × (at.x ≤ 2 ^ 40) × (at.y ≤ 2 ^ 41) }
     ensures { OnOk result (text.new.items ≡ text.old.items ++ shape_text (Paper at.x at.y frames)) }
 {
     add_sheet(text, at, frames)?;
-    add_feed(text, at, frames)
+    add_pair(text, "<path class='d' d='M", " ", (at.x + 9, at.y + 29))?;
+    add_pair(text, "h", "v", (18 * frames - 9, 0))?;
+    text.extend_from_slice(b"'/>\n")
 }
 
 /// Adds the outline of a faulty frame.
@@ -268,12 +259,12 @@ pub fn add_fitted(
     add_words_end(text, words)
 }
 
-/// Adds what begins a group with the number of a line.
+/// Adds what begins a group: its name, with a number.
 #[tactic(auto, unfolding(crate::specs::Shapes::group_text))]
-fn add_group(text: &mut Vec<u8>, number: u64) -> Result<(), AllocError>
-    ensures { OnOk result (text.new.items ≡ text.old.items ++ group_text number) }
+pub fn add_group(text: &mut Vec<u8>, lead: &str, number: u64) -> Result<(), AllocError>
+    ensures { OnOk result (text.new.items ≡ text.old.items ++ group_text lead.now number) }
 {
-    add_count(text, "<g id='line", number)?;
+    add_count(text, lead, number)?;
     text.extend_from_slice(b"'>\n")
 }
 
@@ -298,7 +289,7 @@ pub fn add_open(
     ensures { OnOk result (text.new.items ≡ text.old.items ++ shape_text (Open page number extent.top extent.height)) }
 {
     match page {
-        DrawingForm::Svg => add_group(text, number),
+        DrawingForm::Svg => add_group(text, "<g id='line", number),
         DrawingForm::Html => add_view(text, number, extent),
     }
 }

@@ -31,11 +31,14 @@ pub struct Strip<'a> {
     pub top: u64,
 }
 
-/// A frame at its position.
+/// A frame at its position, and where it is drawn.
 #[derive(Clone, Copy)]
 struct Punched {
     position: u64,
     frame: u8,
+    at: Point,
+    ghost known: { frame < 64 },
+    ghost near: { at.y ≤ 2 ^ 58 },
 }
 
 /// Adds what a frame means in full, and ends its title.
@@ -113,17 +116,12 @@ fn add_mark_word(text: &mut Vec<u8>, style: Style, at: Point, word: &[u8]) -> Re
 }
 
 /// Adds the title of a frame and its holes.
-fn add_punched(
-    text: &mut Vec<u8>,
-    punched: Punched,
-    word: &[u8],
-    at: Point,
-) -> Result<(), AllocError>
-    requires { (punched.frame < 64) × (at.y ≤ 2 ^ 58) }
-    ensures { OnOk result (text.new.items ≡ text.old.items ++ (title_text punched.position word.now ++ (holes_text punched.frame at.x at.y ++ codes "'/>"))) }
+fn add_punched(text: &mut Vec<u8>, punched: Punched, word: &[u8]) -> Result<(), AllocError>
+    ensures { OnOk result (text.new.items ≡ text.old.items
+        ++ (title_text punched.position word.now ++ (holes_text punched.frame punched.at.x punched.at.y ++ codes "'/>"))) }
 {
     add_title(text, punched.position, word)?;
-    add_holes(text, punched.frame, at)?;
+    add_holes(text, punched.frame, punched.at)?;
     text.extend_from_slice(b"'/>")
 }
 
@@ -133,15 +131,14 @@ fn add_frame(
     text: &mut Vec<u8>,
     punched: Punched,
     meaning: Option<&Meaning>,
-    at: Point,
 ) -> Result<(), AllocError>
-    requires { (punched.frame < 64) × (at.y ≤ 2 ^ 58) }
-    ensures { OnOk result (text.new.items ≡ text.old.items ++ shape_text (Frame at.x at.y punched.position punched.frame (option_copied meaning.entry))) }
+    ensures { OnOk result (text.new.items ≡ text.old.items
+        ++ shape_text (Frame punched.at.x punched.at.y punched.position punched.frame (option_copied meaning.entry))) }
 {
-    add_punched(text, punched, meaning_word(meaning), at)?;
+    add_punched(text, punched, meaning_word(meaning))?;
     let below = Point {
-        x: at.x,
-        y: at.y + 69,
+        x: punched.at.x,
+        y: punched.at.y + 69,
     };
     add_mark_word(text, mark_style(meaning), below, mark_word(meaning))?;
     text.extend_from_slice(b"</g>\n")
@@ -202,17 +199,17 @@ fn add_frame_alone(
     ensures { OnOk result (text.new.items ≡ text.old.items ++ shape_text (alone_in strip.now k)) }
 {
     let position = strip.from + k;
+    let at = corner(strip.top, k as u64);
     let punched = Punched {
         position: position as u64,
         frame: strip.tape[position],
-    };
-    let at = corner(strip.top, k as u64);
-    let middle = Point {
-        x: at.x + 9,
-        y: at.y,
+        at: Point {
+            x: at.x + 9,
+            y: at.y,
+        },
     };
     let meaning = strip.table.meaning(case, punched.frame);
-    add_frame(text, punched, meaning, middle)
+    add_frame(text, punched, meaning)
 }
 
 /// Adds the k-th frame of a line, where this case holds.

@@ -94,9 +94,8 @@ fn height_below(verdict: &Verdict, line: &Option<Line>) -> u64
 }
 
 /// How many slugs a verdict has.
-fn slugs_in(verdict: &Verdict) -> u64
-    ensures value { result ≡ slugs_in verdict.now }
-    ensures small { result ≤ 1 }
+fn slugs_in(verdict: &Verdict) -> u8
+    ensures { result ≡ slugs_in verdict.now }
 {
     match verdict {
         Verdict::Sets(_) => 1,
@@ -105,9 +104,8 @@ fn slugs_in(verdict: &Verdict) -> u64
 }
 
 /// How many faults.
-fn faults_in(verdict: &Verdict) -> u64
-    ensures value { result ≡ faults_in verdict.now }
-    ensures small { result ≤ 1 }
+fn faults_in(verdict: &Verdict) -> u8
+    ensures { result ≡ faults_in verdict.now }
 {
     match verdict {
         Verdict::Faulty(_) => 1,
@@ -140,8 +138,8 @@ pub fn next(spot: Spot, fit: &LineFit) -> Spot
 {
     Spot {
         number: spot.number + 1,
-        slug: spot.slug + slugs_in(&fit.verdict),
-        faults: spot.faults + faults_in(&fit.verdict),
+        slug: spot.slug + u64::from(slugs_in(&fit.verdict)),
+        faults: spot.faults + u64::from(faults_in(&fit.verdict)),
         from: u64::from(fit.cut_at) + 1,
         top: spot.top + line_height(spot.from, fit),
     }

@@ -15,7 +15,8 @@ mod texts;
 
 pub use document::{Drawing, DrawingOrder, Names, draw_tape};
 pub use elements::{
-    Point, Room, Style, add_count, add_fitted, add_number, add_pair, add_paper, add_words,
+    Point, Room, Style, add_count, add_fitted, add_group, add_number, add_pair, add_paper,
+    add_words,
 };
 pub use escaping::add_escaped;
 pub use frames::add_holes;

@@ -8,7 +8,7 @@ ghost use Rattle.line_check.specs.Galley.{kind_text};
 ghost use Rattle.line_fit.specs.Fitting.{fault_in};
 ghost use Rattle.tape_drawing.specs.Shapes.{text_of, shape_text, Words};
 ghost use Rattle.tape_drawing.specs.Layout.{IsFull, IsFilled, IsWithin, after, first_spot};
-ghost use Rattle.tape_drawing.specs.Lines.{cause_words, fault_words, band_in, kind_words, slug_shapes, unset_pieces, unset_shapes, foot_shapes, mark_shapes, number_style, taped_shapes, rest_height, rest_words, rest_shapes, HoldsHere, IsTaped, IsLineOf, IsBehindLines, AreLinesOf, line_by, lines_by, tape_by};
+ghost use Rattle.tape_drawing.specs.Lines.{cause_words, fault_words, band_in, kind_words, slug_shapes, unset_pieces, unset_shapes, foot_shapes, mark_shapes, number_style, number_shape, taped_shapes, rest_height, rest_words, rest_shapes, HoldsHere, IsTaped, IsLineOf, IsBehindLines, AreLinesOf, line_by, lines_by, tape_by};
 
 use crate::elements::{
     Extent, Point, Style, add_bar, add_close, add_mark, add_number, add_open, add_words,
@@ -49,6 +49,15 @@ struct Below {
 struct UnsetLine<'a> {
     fault: SetFault,
     items: &'a [Item],
+    ghost few: { length items.now ≤ most_frames },
+}
+
+/// Where a line begins that is drawn, not too far down, and why it does not set.
+#[derive(Clone, Copy)]
+struct LineStart {
+    spot: Spot,
+    fault: Option<SetFault>,
+    ghost near: { spot.top ≤ 2 ^ 40 },
 }
 
 /// The frames of a line: where it begins, and the case that holds there.
@@ -215,7 +224,6 @@ fn add_unset_pieces(
     below: Below,
     unset: &UnsetLine<'_>,
 ) -> Result<(), AllocError>
-    requires { length unset.now.items.now ≤ most_frames }
     ensures { OnOk result (text.new.items ≡ text.old.items ++ text_of (unset_pieces plan.now.widths.now below.top unset.now.fault unset.now.items.now)) }
 {
     let band = band_in(plan.widths, unset.fault.cause);
@@ -230,7 +238,6 @@ fn add_unset(
     below: Below,
     unset: &UnsetLine<'_>,
 ) -> Result<(), AllocError>
-    requires { length unset.now.items.now ≤ most_frames }
     ensures { OnOk result (text.new.items ≡ text.old.items ++ text_of (unset_shapes plan.now.widths.now below.top unset.now.fault unset.now.items.now)) }
 {
     let at = Point {
@@ -294,14 +301,14 @@ fn number_style(fault: Option<SetFault>, faults: u64) -> Style
     }
 }
 
-/// Adds the mark of a fault of a line that begins here.
-fn add_mark_of(text: &mut Vec<u8>, spot: Spot, fault: Option<SetFault>) -> Result<(), AllocError>
-    requires { spot.top ≤ 2 ^ 40 }
-    ensures { OnOk result (text.new.items ≡ text.old.items ++ text_of (mark_shapes spot.from spot.top fault)) }
+/// Adds the mark of the fault of a line, if it has one.
+fn add_mark_of(text: &mut Vec<u8>, line: LineStart) -> Result<(), AllocError>
+    ensures { OnOk result (text.new.items ≡ text.old.items ++ text_of (mark_shapes line.spot.from line.spot.top line.fault)) }
 {
-    let Some(fault) = fault else {
+    let Some(fault) = line.fault else {
         return Ok(());
     };
+    let spot = line.spot;
     let at = corner(spot.top, u64::from(fault.at).saturating_sub(spot.from));
     add_mark(
         text,
@@ -313,25 +320,16 @@ fn add_mark_of(text: &mut Vec<u8>, spot: Spot, fault: Option<SetFault>) -> Resul
 }
 
 /// Adds the number of a line.
-fn add_line_number(
-    text: &mut Vec<u8>,
-    spot: Spot,
-    fault: Option<SetFault>,
-) -> Result<(), AllocError>
-    requires { spot.top ≤ 2 ^ 40 }
-    ensures { OnOk result (text.new.items ≡ text.old.items ++ shape_text (Words (number_style fault spot.faults) 48 (spot.top + 45) (decimal spot.number))) }
+fn add_line_number(text: &mut Vec<u8>, line: LineStart) -> Result<(), AllocError>
+    ensures { OnOk result (text.new.items ≡ text.old.items ++ shape_text (number_shape line.spot line.fault)) }
 {
     let mut digits = Buffer::new();
+    let style = number_style(line.fault, line.spot.faults);
     let at = Point {
         x: 48,
-        y: spot.top + 45,
+        y: line.spot.top + 45,
     };
-    add_words(
-        text,
-        number_style(fault, spot.faults),
-        at,
-        digits.format(spot.number).as_bytes(),
-    )
+    add_words(text, style, at, digits.format(line.spot.number).as_bytes())
 }
 
 /// Adds the number of a line, its frames and the mark of its fault, and answers the case that holds behind it.
@@ -348,9 +346,13 @@ fn add_taped(text: &mut Vec<u8>, plan: &DrawingPlan<'_>, taped: Taped) -> Result
         frames: taped.frames as usize,
         top: taped.spot.top,
     };
-    add_line_number(text, taped.spot, taped.fault)?;
+    let line = LineStart {
+        spot: taped.spot,
+        fault: taped.fault,
+    };
+    add_line_number(text, line)?;
     let behind = add_strip(text, taped.case, &strip)?;
-    add_mark_of(text, taped.spot, taped.fault)?;
+    add_mark_of(text, line)?;
     Ok(behind)
 }
 

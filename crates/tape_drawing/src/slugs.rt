@@ -6,10 +6,11 @@ ghost use Rattle.line_check.specs.Slugs.{sort_width};
 ghost use Rattle.line_check.specs.Galley.{kind_text};
 ghost use Rattle.tape_drawing.specs.Shapes.{text_of};
 ghost use Rattle.tape_drawing.specs.Layout.{IsFull};
-ghost use Rattle.tape_drawing.specs.Slugs.{is_over, look_in, type_style, box_shapes, blank_shapes, name_shapes, width_shapes, sort_shapes, item_shapes, item_width, AddsSorts, AddsItems, pieces_shapes, gap_shapes, filled_shapes};
+ghost use Rattle.tape_drawing.specs.Slugs.{is_over, look_in, type_style, box_shapes, blank_shapes, name_shapes, width_shapes, matrix_shapes, room_shapes, sort_shapes, item_shapes, item_width, AddsSorts, AddsItems, pieces_shapes, gap_shapes, filled_shapes};
 
 use crate::elements::{Look, Point, Room, Style, add_bar, add_box, add_fitted, add_gap, add_words};
 use crate::layout::{Stretch, across, edge};
+use code_table::Name;
 use itoa::Buffer;
 use line_check::{Slug, Sort};
 use slug_reader::{Item, Rail};
@@ -24,37 +25,44 @@ pub struct Bed {
     pub top: u64,
 }
 
+/// A stretch of a line that is drawn: none is so long or so far down that the numbers of a drawing could not say it.
+#[derive(Clone, Copy)]
+struct Drawn {
+    stretch: Stretch,
+    ghost scaled: { 1 ≤ stretch.measure },
+    ghost from_near: { stretch.from ≤ 2 ^ 38 },
+    ghost narrow: { stretch.width ≤ 2 ^ 38 },
+    ghost top_near: { stretch.top ≤ 2 ^ 59 },
+}
+
 /// Whether a stretch runs over the measure.
-fn is_over(stretch: Stretch) -> bool
-    requires { (stretch.from ≤ 2 ^ 38) × (stretch.width ≤ 2 ^ 38) }
-    ensures { result ≡ is_over stretch }
+fn is_over(piece: Drawn) -> bool
+    ensures { result ≡ is_over piece.stretch }
 {
-    stretch.measure < stretch.from + stretch.width
+    piece.stretch.measure < piece.stretch.from + piece.stretch.width
 }
 
 /// How a piece looks, where it lies.
-fn look_in(stretch: Stretch, look: Look) -> Look
-    requires { (stretch.from ≤ 2 ^ 38) × (stretch.width ≤ 2 ^ 38) }
-    ensures { result ≡ look_in stretch look }
+fn look_in(piece: Drawn, look: Look) -> Look
+    ensures { result ≡ look_in piece.stretch look }
 {
-    if is_over(stretch) { Look::Over } else { look }
+    if is_over(piece) { Look::Over } else { look }
 }
 
 /// How type looks, where it lies: that of the upper rail is bold.
-fn type_style(stretch: Stretch, rail: Rail) -> Style
-    requires { (stretch.from ≤ 2 ^ 38) × (stretch.width ≤ 2 ^ 38) }
-    ensures { result ≡ type_style stretch rail }
+fn type_style(piece: Drawn, rail: Rail) -> Style
+    ensures { result ≡ type_style piece.stretch rail }
 {
     match rail {
         Rail::Lower => {
-            if is_over(stretch) {
+            if is_over(piece) {
                 Style::Over
             } else {
                 Style::Type
             }
         }
         Rail::Upper => {
-            if is_over(stretch) {
+            if is_over(piece) {
                 Style::UpperOver
             } else {
                 Style::Upper
@@ -64,10 +72,10 @@ fn type_style(stretch: Stretch, rail: Rail) -> Style
 }
 
 /// Adds the box of a stretch.
-fn add_stretch(text: &mut Vec<u8>, look: Look, stretch: Stretch) -> Result<(), AllocError>
-    requires { (1 ≤ stretch.measure) × (stretch.from ≤ 2 ^ 38) × (stretch.width ≤ 2 ^ 38) }
-    ensures { OnOk result (text.new.items ≡ text.old.items ++ text_of (box_shapes look stretch)) }
+fn add_stretch(text: &mut Vec<u8>, look: Look, piece: Drawn) -> Result<(), AllocError>
+    ensures { OnOk result (text.new.items ≡ text.old.items ++ text_of (box_shapes look piece.stretch)) }
 {
+    let stretch = piece.stretch;
     let at = Point {
         x: edge(stretch.measure, stretch.from),
         y: stretch.top,
@@ -76,27 +84,27 @@ fn add_stretch(text: &mut Vec<u8>, look: Look, stretch: Stretch) -> Result<(), A
 }
 
 /// Adds the blank beside the pieces, if there is any.
-fn add_blank(text: &mut Vec<u8>, stretch: Stretch) -> Result<(), AllocError>
-    requires { (1 ≤ stretch.measure) × (stretch.from ≤ 2 ^ 38) × (stretch.width ≤ 2 ^ 38) }
-    ensures { OnOk result (text.new.items ≡ text.old.items ++ text_of (blank_shapes stretch)) }
+fn add_blank(text: &mut Vec<u8>, piece: Drawn) -> Result<(), AllocError>
+    ensures { OnOk result (text.new.items ≡ text.old.items ++ text_of (blank_shapes piece.stretch)) }
 {
-    if stretch.width == 0 {
+    if piece.stretch.width == 0 {
         return Ok(());
     }
-    add_stretch(text, Look::Blank, stretch)
+    add_stretch(text, Look::Blank, piece)
 }
 
 /// Adds the name of a matrix, in the middle of its box; one of more letters is fitted to it.
-fn add_name(text: &mut Vec<u8>, stretch: Stretch, rail: Rail, name: &[u8]) -> Result<(), AllocError>
-    requires { (1 ≤ stretch.measure) × (stretch.from ≤ 2 ^ 38) × (stretch.width ≤ 2 ^ 38) × (stretch.top ≤ 2 ^ 59) × (length name.now ≤ 8) }
-    ensures { OnOk result (text.new.items ≡ text.old.items ++ text_of (name_shapes stretch rail name.now)) }
+fn add_name(text: &mut Vec<u8>, piece: Drawn, rail: Rail, name: &Name) -> Result<(), AllocError>
+    ensures { OnOk result (text.new.items ≡ text.old.items ++ text_of (name_shapes piece.stretch rail name.now)) }
 {
+    let name = name.as_bytes();
+    let stretch = piece.stretch;
     let width = across(stretch);
     let at = Point {
         x: edge(stretch.measure, stretch.from) + width / 2,
         y: stretch.top + 34,
     };
-    let style = type_style(stretch, rail);
+    let style = type_style(piece, rail);
     if name.len() >= 2 {
         let length = width.min(22 * name.len() as u64);
         add_fitted(text, style, Room { at, length }, name)
@@ -106,10 +114,10 @@ fn add_name(text: &mut Vec<u8>, stretch: Stretch, rail: Rail, name: &[u8]) -> Re
 }
 
 /// Adds the width of a band or a space in units, at the foot of its box, if there is room.
-fn add_width(text: &mut Vec<u8>, stretch: Stretch) -> Result<(), AllocError>
-    requires { (1 ≤ stretch.measure) × (stretch.from ≤ 2 ^ 38) × (stretch.width ≤ 2 ^ 38) × (stretch.top ≤ 2 ^ 59) }
-    ensures { OnOk result (text.new.items ≡ text.old.items ++ text_of (width_shapes stretch)) }
+fn add_width(text: &mut Vec<u8>, piece: Drawn) -> Result<(), AllocError>
+    ensures { OnOk result (text.new.items ≡ text.old.items ++ text_of (width_shapes piece.stretch)) }
 {
+    let stretch = piece.stretch;
     let width = across(stretch);
     if width < 10 {
         return Ok(());
@@ -129,73 +137,60 @@ fn add_width(text: &mut Vec<u8>, stretch: Stretch) -> Result<(), AllocError>
 
 /// Adds a matrix with its name.
 #[tactic(auto, using(crate::proofs::Sequences::text_append))]
-fn add_matrix(
-    text: &mut Vec<u8>,
-    stretch: Stretch,
-    rail: Rail,
-    name: &[u8],
-) -> Result<(), AllocError>
-    requires { (1 ≤ stretch.measure) × (stretch.from ≤ 2 ^ 38) × (stretch.width ≤ 2 ^ 38) × (stretch.top ≤ 2 ^ 59) × (length name.now ≤ 8) }
-    ensures { OnOk result (text.new.items ≡ text.old.items ++ text_of (box_shapes (look_in stretch Look.Matrix) stretch ++ name_shapes stretch rail name.now)) }
+fn add_matrix(text: &mut Vec<u8>, piece: Drawn, rail: Rail, name: &Name) -> Result<(), AllocError>
+    ensures { OnOk result (text.new.items ≡ text.old.items ++ text_of (matrix_shapes piece.stretch rail name.now)) }
 {
-    add_stretch(text, look_in(stretch, Look::Matrix), stretch)?;
-    add_name(text, stretch, rail, name)
+    add_stretch(text, look_in(piece, Look::Matrix), piece)?;
+    add_name(text, piece, rail, name)
 }
 
 /// Adds a band or a space with its width.
 #[tactic(auto, using(crate::proofs::Sequences::text_append))]
-fn add_room(text: &mut Vec<u8>, stretch: Stretch, look: Look) -> Result<(), AllocError>
-    requires { (1 ≤ stretch.measure) × (stretch.from ≤ 2 ^ 38) × (stretch.width ≤ 2 ^ 38) × (stretch.top ≤ 2 ^ 59) }
-    ensures { OnOk result (text.new.items ≡ text.old.items ++ text_of (box_shapes (look_in stretch look) stretch ++ width_shapes stretch)) }
+fn add_room(text: &mut Vec<u8>, piece: Drawn, look: Look) -> Result<(), AllocError>
+    ensures { OnOk result (text.new.items ≡ text.old.items ++ text_of (room_shapes piece.stretch look)) }
 {
-    add_stretch(text, look_in(stretch, look), stretch)?;
-    add_width(text, stretch)
+    add_stretch(text, look_in(piece, look), piece)?;
+    add_width(text, piece)
 }
 
 /// Adds what stands in a slug.
-fn add_sort(text: &mut Vec<u8>, sort: &Sort, stretch: Stretch) -> Result<(), AllocError>
-    requires { (1 ≤ stretch.measure) × (stretch.from ≤ 2 ^ 38) × (stretch.width ≤ 2 ^ 38) × (stretch.top ≤ 2 ^ 59) }
-    ensures { OnOk result (text.new.items ≡ text.old.items ++ text_of (sort_shapes sort.now stretch)) }
+fn add_sort(text: &mut Vec<u8>, sort: &Sort, piece: Drawn) -> Result<(), AllocError>
+    ensures { OnOk result (text.new.items ≡ text.old.items ++ text_of (sort_shapes sort.now piece.stretch)) }
 {
     match sort {
-        Sort::Matrix { name, rail, .. } => add_matrix(text, stretch, *rail, name.as_bytes()),
-        Sort::Band { .. } => add_room(text, stretch, Look::Band),
-        Sort::Space { .. } => add_room(text, stretch, Look::Space),
+        Sort::Matrix { name, rail, .. } => add_matrix(text, piece, *rail, name),
+        Sort::Band { .. } => add_room(text, piece, Look::Band),
+        Sort::Space { .. } => add_room(text, piece, Look::Space),
     }
 }
 
 /// Adds what stands in a line that does not set.
-fn add_item(text: &mut Vec<u8>, item: &Item, stretch: Stretch) -> Result<(), AllocError>
-    requires { (1 ≤ stretch.measure) × (stretch.from ≤ 2 ^ 38) × (stretch.width ≤ 2 ^ 38) × (stretch.top ≤ 2 ^ 59) }
-    ensures { OnOk result (text.new.items ≡ text.old.items ++ text_of (item_shapes item.now stretch)) }
+fn add_item(text: &mut Vec<u8>, item: &Item, piece: Drawn) -> Result<(), AllocError>
+    ensures { OnOk result (text.new.items ≡ text.old.items ++ text_of (item_shapes item.now piece.stretch)) }
 {
     match item {
-        Item::Matrix { name, rail, .. } => add_matrix(text, stretch, *rail, name.as_bytes()),
-        Item::Band => add_room(text, stretch, Look::Band),
-        Item::Space { .. } => add_room(text, stretch, Look::Space),
+        Item::Matrix { name, rail, .. } => add_matrix(text, piece, *rail, name),
+        Item::Band => add_room(text, piece, Look::Band),
+        Item::Space { .. } => add_room(text, piece, Look::Space),
     }
 }
 
 /// The width of what stands in a slug, in units.
-fn width_of(sort: &Sort) -> u64
-    ensures value { result ≡ sort_width sort.now }
-    ensures small { result ≤ 65535 }
+fn width_of(sort: &Sort) -> u16
+    ensures { result ≡ sort_width sort.now }
 {
     match sort {
-        Sort::Matrix { width, .. } | Sort::Band { width } | Sort::Space { width } => {
-            u64::from(*width)
-        }
+        Sort::Matrix { width, .. } | Sort::Band { width } | Sort::Space { width } => *width,
     }
 }
 
 /// The width of what stands in a line whose bands have this width.
-fn item_width(band: u16, item: &Item) -> u64
-    ensures value { result ≡ item_width band item.now }
-    ensures small { result ≤ 65535 }
+fn item_width(band: u16, item: &Item) -> u16
+    ensures { result ≡ item_width band item.now }
 {
     match item {
-        Item::Matrix { width, .. } | Item::Space { width } => u64::from(*width),
-        Item::Band => u64::from(band),
+        Item::Matrix { width, .. } | Item::Space { width } => *width,
+        Item::Band => band,
     }
 }
 
@@ -206,14 +201,14 @@ fn add_sorts(text: &mut Vec<u8>, bed: Bed, left: u64, sorts: &[Sort]) -> Result<
 {
     let mut from = left;
     for sort in sorts {
-        let width = width_of(sort);
+        let width = u64::from(width_of(sort));
         let stretch = Stretch {
             measure: bed.measure,
             top: bed.top,
             from,
             width,
         };
-        add_sort(text, sort, stretch)?;
+        add_sort(text, sort, Drawn { stretch })?;
         from += width;
     }
     Ok(from)
@@ -226,14 +221,14 @@ fn add_items(text: &mut Vec<u8>, bed: Bed, band: u16, items: &[Item]) -> Result<
 {
     let mut from = 0;
     for item in items {
-        let width = item_width(band, item);
+        let width = u64::from(item_width(band, item));
         let stretch = Stretch {
             measure: bed.measure,
             top: bed.top,
             from,
             width,
         };
-        add_item(text, item, stretch)?;
+        add_item(text, item, Drawn { stretch })?;
         from += width;
     }
     Ok(from)
@@ -253,7 +248,7 @@ pub fn add_pieces(text: &mut Vec<u8>, bed: Bed, slug: &Slug) -> Result<(), Alloc
         width: left,
     };
     add_bar(text, Point { x: 60, y: bed.top })?;
-    add_blank(text, before)?;
+    add_blank(text, Drawn { stretch: before })?;
     let from = add_sorts(text, bed, left, slug.items.as_slice())?;
     let after = Stretch {
         measure: bed.measure,
@@ -261,7 +256,7 @@ pub fn add_pieces(text: &mut Vec<u8>, bed: Bed, slug: &Slug) -> Result<(), Alloc
         from,
         width: u64::from(slug.right),
     };
-    add_blank(text, after)
+    add_blank(text, Drawn { stretch: after })
 }
 
 /// Adds the gap between the end of a line and the measure, if there is one.

@@ -43,6 +43,16 @@ fn put_stamp<C: Clock, W: Write>(alloc: Global, clock: &C, out: &mut W) -> io::R
     }
 }
 
+/// Writes the moment, unless a line goes on.
+fn begin<C: Clock, W: Write>(alloc: Global, clock: &C, goes_on: bool, out: &mut W) -> io::Result<()>
+    ensures { OnOk result (Begins goes_on (W.contents out.old) (W.contents out.new)) }
+{
+    if goes_on {
+        return Ok(());
+    }
+    put_stamp(alloc, clock, out)
+}
+
 impl<'a, C: Clock + Drop, W: Write> TimedLines<'a, C, W> {
     /// Over this writer, which is at the beginning of a line, by this clock.
     pub fn new(alloc: Global, clock: C, out: &'a mut W) -> TimedLines<'a, C, W>
@@ -54,17 +64,6 @@ impl<'a, C: Clock + Drop, W: Write> TimedLines<'a, C, W> {
             out,
             is_within: false,
         }
-    }
-
-    /// Writes the moment, unless a line goes on.
-    fn begin(&mut self) -> io::Result<()>
-        ensures begins { OnOk result (Begins self.old.is_within (W.contents self.old.out.now) (W.contents self.new.out.now)) }
-        ensures name { self.new.out.ghost_name ≡ self.old.out.ghost_name }
-    {
-        if self.is_within {
-            return Ok(());
-        }
-        put_stamp(self.alloc, &self.clock, self.out)
     }
 
     /// Writes some bytes of a line; how many.
@@ -90,7 +89,7 @@ impl<'a, C: Clock + Drop, W: Write> TimedLines<'a, C, W> {
         if line.is_empty() {
             return Ok(0);
         }
-        self.begin()?;
+        begin(self.alloc, &self.clock, self.is_within, self.out)?;
         self.go_on(line)
     }
 }

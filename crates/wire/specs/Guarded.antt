@@ -1,10 +1,12 @@
 -- What a wire behind a door lets in, and what of it waits.
-use Rattle.std.specs.Prelude.{◌≡◌, ℕ, List, length}
+use Rattle.std.specs.Prelude.{◌≡◌, ◌≤◌, ◌<◌, ℕ, List, [], length, MatchOption, None, Option}
 use Rattle.std.specs.declared.net.socket_addr.SocketAddr.{SocketAddr}
 use Rattle.pace.specs.declared.share.Incoming.{Incoming}
 use Rattle.wire.specs.Arrival.{Fits, came_by}
 use Rattle.wire.specs.Doors.{AllWait, AreOf, ComesAs, LetIn, NoneWaits, Stays}
 use Rattle.wire.specs.Passing.{Passed, Passes, Trace, guarded}
+use Rattle.wire.specs.Strangers.{TellsFirst, later}
+use Rattle.wire.specs.declared.strangers.Strangers.{Strangers}
 use Rattle.wire.specs.declared.wire.Arrival.{Arrival}
 use Rattle.wire.specs.declared.guarded.GuardedWire.{GuardedWire}
 
@@ -41,3 +43,18 @@ module _ {C D S : Type 0} (came : S → SocketAddr → List ℕ → Type 0) (bri
     pub fits : Fits a (length buffer)
     pub comes : IsClean came brings old → ComesAs (let_in came brings old) a buffer
     pub leaves : Leaves old new (came_by a buffer)
+
+  -- strangers are told, and nothing has passed over the wire
+  pub record TellsStrangers (now : ℕ) (old new : GuardedWire C D S) (strangers : Option Strangers) : Type 0 where
+    pub tells : TellsFirst now strangers old.untold.tallies new.untold.tallies
+    pub rest : new ≡ record old { untold = new.untold }
+    pub passes : Passes (passed_of came brings old) (passed_of came brings new) []
+
+  -- it is told how many datagrams were lost, once a second at most, and nothing has passed over the wire
+  pub record TellsLost (now : ℕ) (old new : GuardedWire C D S) (lost : Option ℕ) : Type 0 where
+    pub early : now < old.lost_due → (lost ≡ None) × (new.waiting ≡ old.waiting)
+    pub told : MatchOption lost (new.lost_due ≡ old.lost_due) (λ count. (count ≡ old.waiting.lost) × (new.lost_due ≡ later now))
+    pub counted : old.lost_due ≤ now → new.waiting.lost ≡ 0
+    pub shares : new.waiting.shares ≡ old.waiting.shares
+    pub rest : new ≡ record old { waiting = new.waiting; lost_due = new.lost_due }
+    pub passes : Passes (passed_of came brings old) (passed_of came brings new) []

@@ -63,6 +63,11 @@ brings_plain own stations sender bytes d = IsFrom own stations sender d.sender b
 abbrev pub sends_plain : List Address → (Address → List ℕ → Bool → Type 0) → ℕ → List ℕ → Bool → Type 0
 sends_plain stations given to bytes sent = MatchOption (address_of stations to) (sent ≡ false) (λ address. given address bytes sent)
 
+-- a packet is sent so through a plain door, which stays as it is
+pub record SendsPlain (old new : PlainDoor) (given : Address → List ℕ → Bool → Type 0) (to : ℕ) (bytes : List ℕ) (sent : Bool) : Type 0 where
+  pub sends : sends_plain old.stations.items given to bytes sent
+  pub door : new ≡ old
+
 -- it is the packet of these bytes, of this member; or it is lost for memory
 abbrev pub IsPacketOf : ℕ → List ℕ → Brought → Type 0
 IsPacketOf sender bytes (brought.Packet d) = (d.sender ≡ sender) × (d.bytes.items ≡ bytes)

@@ -1,12 +1,11 @@
 //! A socket behind a door. Of what passes over a socket of the host nothing is known; what is said here is said of any socket, by what came
 //! to it and what it was given.
 
-ghost use Rattle.std.specs.Prelude.{◌≡◌, ◌≤◌, ◌<◌, ◌/◌, ◌^◌, ◌-◌, [], ◌∷◌, length, min, None, MatchOption, IfOk, take, true};
+ghost use Rattle.std.specs.Prelude.{◌≡◌, ◌≤◌, ◌/◌, ◌^◌, ◌-◌, [], ◌∷◌, length, min, IfOk, take, true};
 ghost use Rattle.std.specs.Duration.{as_nanos};
 ghost use Rattle.wire.specs.Doors.{IsKept};
-ghost use Rattle.wire.specs.Guarded.{IsFreshBehind, Keeps, Leaves, Receives, passed_of};
+ghost use Rattle.wire.specs.Guarded.{IsFreshBehind, Keeps, Leaves, Receives, TellsLost, TellsStrangers, passed_of};
 ghost use Rattle.wire.specs.Passing.{Passes, sent, told};
-ghost use Rattle.wire.specs.Strangers.{TellsFirst, later};
 
 use crate::address::{Address, socket_address};
 use crate::buffer::ask_for_room;
@@ -166,7 +165,7 @@ impl<'a, C: Clock, D: Door, S: Socket> GuardedWire<'a, C, D, S> {
 
     /// Takes what waits at the socket, or waits for a datagram; whether the network stands.
     fn await_one(&mut self) -> bool
-        ensures keeps { Keeps S.came D.brings self.old self.new }
+        ensures { Leaves S.came D.brings self.old self.new [] }
     {
         self.fetch_some(MOST_RECEIVES);
         !self.waiting.is_empty() || stands(self.take_one())
@@ -232,21 +231,14 @@ impl<'a, C: Clock, D: Door, S: Socket> Wire for GuardedWire<'a, C, D, S> {
 
     /// Those of each reason are told at most once a second.
     fn strangers(&mut self, now: u64) -> Option<Strangers>
-        ensures tells { TellsFirst now result self.old.untold.tallies self.new.untold.tallies }
-        ensures rest { self.new ≡ record self.old { untold = self.new.untold } }
-        ensures passes { Passes (passed_of S.came D.brings self.old) (passed_of S.came D.brings self.new) [] }
+        ensures { TellsStrangers S.came D.brings now self.old self.new result }
     {
         self.untold.tell(now)
     }
 
     /// They are told at most once a second.
     fn lost(&mut self, now: u64) -> Option<u64>
-        ensures early { now < self.old.lost_due → (result ≡ None) × (self.new.waiting ≡ self.old.waiting) }
-        ensures told { MatchOption result (self.new.lost_due ≡ self.old.lost_due) (λ lost. (lost ≡ self.old.waiting.lost) × (self.new.lost_due ≡ later now)) }
-        ensures counted { self.old.lost_due ≤ now → self.new.waiting.lost ≡ 0 }
-        ensures shares { self.new.waiting.shares ≡ self.old.waiting.shares }
-        ensures rest { self.new ≡ record self.old { waiting = self.new.waiting; lost_due = self.new.lost_due } }
-        ensures passes { Passes (passed_of S.came D.brings self.old) (passed_of S.came D.brings self.new) [] }
+        ensures { TellsLost S.came D.brings now self.old self.new result }
     {
         if now < self.lost_due {
             return None;

@@ -1,7 +1,7 @@
 //! The door of a station without a key: the papers' datagrams, as they come.
 
 ghost use Rattle.std.specs.Prelude.{◌≡◌, IfOk, IfErr};
-ghost use Rattle.wire.specs.Plain.{AdmitsPlain, brings_plain, IsAgainst, IsFrom, IsPacketOf, has_mark, names_another, plain_door, reason_against, sends_plain};
+ghost use Rattle.wire.specs.Plain.{AdmitsPlain, brings_plain, IsAgainst, IsFrom, IsPacketOf, has_mark, names_another, plain_door, reason_against, SendsPlain, sends_plain};
 
 use crate::address::{Address, address_of, place_of};
 use crate::door::{Brought, Door};
@@ -106,8 +106,7 @@ impl Door for PlainDoor {
     }
 
     fn send<S: Socket>(&mut self, socket: &S, to: Member, bytes: &[u8]) -> bool
-        ensures sends { sends_plain self.old.stations.items (S.given socket.now) to bytes.now result }
-        ensures door { self.new ≡ self.old }
+        ensures { SendsPlain self.old self.new (S.given socket.now) to bytes.now result }
     {
         match address_of(&self.stations, to) {
             Some(address) => socket.send(address, bytes),

@@ -1,7 +1,8 @@
 -- A station that was asked by a step of the world, of plain values.
 use Rattle.std.proofs.Common.{◌≡◌, ℕ, zero, suc, ◌-◌, ◌+◌, ◌<◌, ◌≤◌, inl, inr, refl, sym, ap, subst, ◌∙◌, arith, List, [], ◌∷◌, ◌++◌, Some, None, Option, Bool, true, false, length, get_or, append-nil}
-use Rattle.std.specs.Prelude.{Result, Ok, Err, IsSome, slice_get, slice_set, ◌==◌, option_map, is_some, if◌then◌else◌}
+use Rattle.std.specs.Prelude.{Result, Ok, Err, IsErr, IsErrAnd, IsSome, slice_get, slice_set, ◌==◌, option_map, is_some, if◌then◌else◌}
 use Rattle.std.proofs.lemmas.Bool.{eqb-true}
+use Rattle.std.proofs.Math.ListN.{length-set}
 use Rattle.std.proofs.lemmas.Option.{slice_get-get_or}
 use Rattle.protocol.specs.Entries.{Entry, Void, Taped}
 use Rattle.protocol.specs.Versions.{Version}
@@ -31,10 +32,11 @@ use Rattle.world.specs.declared.step.Seen.{Seen}
 use Rattle.world.specs.declared.step.Outcome.{Outcome}
 use Rattle.world.specs.declared.step.Outcome.TheVariants as outcomes
 use Rattle.world.specs.declared.step.WorldRefusal.{WorldRefusal}
+use Rattle.world.specs.declared.step.WorldRefusal.TheVariants as world_refusals
 use Rattle.world.specs.Setups.{StationCircuit, StationState}
 use Rattle.world.specs.Worlds.{count_of, IsSame, station_at}
 use Rattle.world.specs.Taking.{step_value, EndsAs, RefusedAs, RowsRefused, IsCause, WasTorn, IfTorn, TellsWhy, was_taken, offered_after, offers_after, actor, missing_in, IsReason, Tells}
-use Rattle.world.specs.Reach.{AllKept, AllMade, StandsFor, Moves}
+use Rattle.world.specs.Reach.{AllKept, AllMade, FollowsStep, StandsFor, Moves, Stepped}
 use Rattle.world.specs.Logging.{logged, offered_of, out_of, outcome_of, released_of, seen_of, was_released}
 use Rattle.world.proofs.Members.{Changes, here, kept_here, kept_before, made_after, shown, some_is}
 use Rattle.world.proofs.Turning.{balky_sight, followed, goes_on_at, rises_before}
@@ -220,6 +222,19 @@ tells_why g v v1 v' i m sent s s' r seen same ch is_seen blames =
     subst (λ (q : Seen). IfTorn q.outcome (WasTorn g v v' q.member)) (sym is_seen)
     (seen_torn r (IsBlamed (balky_sight (sight g) g.refusals) s.rows s'.rows) (WasTorn g v v' m) (was_torn g v v1 v' i m s s' same ch) blames)
 
+-- what a station answered a call, in the words of the rows inside its own
+pub record Answered {R : Type 0} (g : Ghosts R) (call : Call) (s s' : Station (Balky R)) (r : Result Answer StepRefusal) : Type 0 where
+  pub steps : g.kept s'.rows.rows → TakesStep (balky_sight (sight g) g.refusals) call s s' r
+  pub was_kept : g.kept s'.rows.rows → g.kept s.rows.rows
+  pub made : g.made s.rows.rows → g.made s'.rows.rows
+  pub blames : IfStore r (IsBlamed (balky_sight (sight g) g.refusals) s.rows s'.rows)
+  pub version : g.version s'.rows.rows ≡ g.version s.rows.rows
+  pub wire : s'.speaker.wire ≡ wire_at (balky_sight (sight g) g.refusals) s
+
+-- what is seen of a step of member m that sends nothing
+abbrev pub unsent_seen : {R : Type 0} → World R → ℕ → Outcome → Seen
+unsent_seen v m outcome = record { member = m; first = length v.sent.items + 1; count = 0; released = false; outcome = outcome }
+
 so_many : (m : ℕ) (r : Result Answer StepRefusal) → length (released_of m r) ≡ (if was_released r then 1 else 0)
 so_many m (Ok a) = go a.release
   where
@@ -299,3 +314,72 @@ pub reason_stays : {R : Type 0} (v v' : World R) (step : Step) (refusal : WorldR
 reason_stays v v' step refusal same is =
     let missing : missing_in v step ≡ missing_in v' step = λ j. circuit.missing (sym (ap (λ q. length q.items) same.stations) j) (sym same.sent j) (step_value step) in
     subst (λ (o : Option Missing). IsReason o refusal) missing is
+
+-- a step that was refused changed nothing but the room in the logs
+pub turned_away :
+    {R : Type 0} (g : Ghosts R) (step : Step) (v v' : World R) (result : Result Seen WorldRefusal) (refusal : WorldRefusal) → IsErr result × IsErrAnd result (λ r. r ≡ refusal)
+    → IsSame v v' → IsReason (missing_in v step) refusal → Stepped g step v v' result
+turned_away g step v v' (Ok seen) refusal h same reason = absurd h.1
+turned_away g step v v' (Err r) refusal h same reason =
+    subst (λ (q : WorldRefusal). Stepped g step v v' (Err q)) (sym h.1) (record {
+      steps = λ kept z w stands. still g.is_open g.saved g.version v v' same z w stands;
+      tells = (reason, same);
+      why = tt;
+      was_kept = same_kept g.kept v v' same;
+      made = same_made g.made v v' same;
+    })
+
+-- a step that there was, and for which the logs could not grow
+pub no_room :
+    {R : Type 0} (g : Ghosts R) (step : Step) (v v' : World R) (result : Result Seen WorldRefusal) (refusal : WorldRefusal) → IsErr result × IsErrAnd result (λ r. r ≡ refusal)
+    → refusal ≡ world_refusals.OutOfMemory → IsSame v v' → missing_in v step ≡ None → Stepped g step v v' result
+no_room g step v v' result refusal h is same there =
+    turned_away g step v v' result refusal h same (subst (λ (q : WorldRefusal). IsReason (missing_in v step) q) (sym is) there)
+
+-- a datagram that was sent, to a member that there is
+pub addressed : (count m : ℕ) (o : Option Datagram) → option_map (λ (d : Datagram). d.to) o ≡ Some m → member_missing count m ≡ None → datagram_missing count o ≡ None
+addressed count m None to there = let no : None ≡ Some m = to in absurd cc
+addressed count m (Some d) to there = ap (λ (j : ℕ). member_missing count j) (some_is to) ∙ there
+
+-- so many stations as before
+as_many : {R : Type 0} (v v' : World R) (i m : ℕ) (s s' : Station (Balky R)) → Changes v v' i m s s' → count_of v' ≡ count_of v
+as_many {R = R} v v' i m s s' ch = ap (λ (l : List (Station (Balky R))). length l) ch.stations ∙ length-set v.stations.items i s'
+
+-- one station was asked, in a world that grew only in room, and what it answered was logged: a step of the world
+pub stepped :
+    {R : Type 0} (g : Ghosts R) (v v1 v' : World R) (step : Step) (i m : ℕ) (call : Call) (s s' : Station (Balky R)) (r : Result Answer StepRefusal) (seen : Seen)
+    → Brings v step m call → IsSame v v1 → Changes v1 v' i m s s'
+    → v'.sent.items ≡ v1.sent.items ++ out_of r → v'.offers.items ≡ v1.offers.items ++ offers_of m call r → v'.releases.items ≡ v1.releases.items ++ released_of m r
+    → seen ≡ seen_of m (length v1.sent.items) r → OneSetting → Answered g call s s' r → Stepped g step v v' (Ok seen)
+stepped g v v1 v' step i m call s s' r seen brings same ch sent offers releases is_seen one e = record {
+  steps = asked v v1 v' step m call brings same r seen sent offers releases is_seen (sight g) g.refusals i s s' ch one e.version e.wire e.steps;
+  tells = told v v1 v' step m call brings same r seen sent offers releases is_seen (as_many v1 v' i m s s' ch);
+  why = tells_why g v v1 v' i m (length v1.sent.items) s s' r seen same ch is_seen e.blames;
+  was_kept = asked_kept v v1 v' step m call brings same r seen sent offers releases is_seen (sight g) g.refusals i s s' ch e.was_kept;
+  made = asked_made g.made v v1 v' i m s s' same ch e.made;
+}
+
+-- one station was changed, and nothing was sent or logged: it is a step of the world where it is one of each state
+pub unlogged :
+    {R : Type 0} (g : Ghosts R) (step : Step) (v v' : World R) (i m : ℕ) (s s' : Station (Balky R)) (outcome : Outcome)
+    → Changes v v' i m s s' → v'.sent.items ≡ v.sent.items → v'.offers.items ≡ offers_after v.offers.items step outcome → v'.releases.items ≡ v.releases.items
+    → missing_in v step ≡ None → actor v.sent.items step ≡ Some m
+    → (g.kept s'.rows.rows → g.kept s.rows.rows) → (g.made s.rows.rows → g.made s'.rows.rows) → IfTorn outcome (WasTorn g v v' m)
+    → FollowsStep g step v v' (Ok (unsent_seen v m outcome)) → Stepped g step v v' (Ok (unsent_seen v m outcome))
+unlogged g step v v' i m s s' outcome ch sent offers releases there acts was stays why steps = record {
+  steps = steps;
+  tells = (
+    there,
+    record {
+      member = acts;
+      members = as_many v v' i m s s' ch;
+      first = refl;
+      sent = record { more = []; is = sent ∙ sym (append-nil v.sent.items); many = refl };
+      releases = record { more = []; is = releases ∙ sym (append-nil v.releases.items); many = refl };
+      offers = offers;
+    },
+  );
+  why = why;
+  was_kept = kept_before v v' i m s s' ch g.kept was;
+  made = made_after v v' i m s s' ch g.made stays;
+}

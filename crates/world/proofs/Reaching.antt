@@ -26,7 +26,7 @@ use Rattle.world.specs.Setups.{StationCircuit, StationState}
 use Rattle.world.specs.Laws.{AreAgreed, StationsAgree}
 use Rattle.world.specs.Taking.{step_value, Tells, TellsWhy, Takes}
 use Rattle.world.specs.Worlds.{station_at}
-use Rattle.world.specs.Reach.{AllHonest, AllKept, AllMade, StandsFor, Moves, Leads, Reached, IsReached, Agreed, SetsAs}
+use Rattle.world.specs.Reach.{AllHonest, AllKept, AllMade, StandsFor, Moves, Leads, Reached, IsReached, Agreed, SetsAs, Stepped, WorldStep}
 
 among-append : {A : Type 0} (xs ys : List A) (x : A) → IsAmong (xs ++ ys) x → IsAmong xs x ⊎ IsAmong ys x
 among-append [] ys x h = inr h
@@ -121,6 +121,20 @@ stays_reached g halves v v' stays was moves r =
 pub goes : {R : Type 0} (is_open : R → Type 0) (saved : R → Saved) (version : R → Version) (count : R → ℕ) (z : StationCircuit) (v v' : World R) (r : Reached is_open saved version z v) (step : Step) (q : Result Seen WorldRefusal) → Moves is_open saved version count z r.0 step v v' q → Reached is_open saved version z v'
 goes is_open saved version count z v v' r step (Ok seen) m = (m.0, m.1, goes_on r.2 (step_value step) m.2 m.4)
 goes is_open saved version count z v v' r step (Err refusal) m = (r.0, m, r.2)
+
+-- what a step promises, from what its kind promises
+pub on_stepped :
+    {R : Type 0} (g : Ghosts R) → ((s : R) → g.kept s ↔ (g.honest s × g.made s)) → StationsAgree → (given step : Step) (v v' : World R) (q : Result Seen WorldRefusal) → given ≡ step → Stepped g step v v' q
+    → WorldStep g given v v' q
+on_stepped g halves law given step v v' q is s = subst (λ (t : Step). WorldStep g t v v' q) (sym is) (record {
+  steps = s.steps;
+  tells = s.tells;
+  why = s.why;
+  was_kept = s.was_kept;
+  made = s.made;
+  reached = stays_reached g halves v v' s.made s.was_kept (λ kept z r. goes g.is_open g.saved g.version g.refusals z v v' r step q (s.steps kept z r.0 r.1));
+  agreed = reached_agreed g law v';
+})
 
 -- one step more
 pub leads_more :

@@ -1,5 +1,7 @@
 -- A circuit that is played from its beginning: where its steps lead, and why it is not played.
-use Rattle.std.specs.Prelude.{◌≡◌, ℕ, List, Result, map}
+use Rattle.std.specs.Prelude.{◌≡◌, ℕ, List, Result, Ok, Err, IfErr, length, map}
+use Rattle.std.specs.declared.vec.Vec.{Vec}
+use Rattle.std.specs.Global.{Global}
 use Rattle.protocol.specs.Versions.{Version}
 use Rattle.protocol.specs.Circuit.{fresh}
 use Rattle.saved_rows.specs.declared.rows.Rows.{Ghosts}
@@ -7,10 +9,12 @@ use Rattle.world.specs.declared.world.World.{World}
 use Rattle.world.specs.declared.step.Step.{Step}
 use Rattle.world.specs.declared.step.RunStop.{RunStop}
 use Rattle.world.specs.declared.plays.PlayFault.{PlayFault}
+use Rattle.world.specs.declared.plays.Played.{Played}
 use Rattle.world.specs.declared.plays.PlayFault.TheVariants.{BadCount, OutOfMemory}
 use Rattle.world.specs.Setups.{StationCircuit}
-use Rattle.world.specs.Founding.{Part, Given, given_of, IsCount, IsFounded, IsCircuitOf, AreAt, AreBlank}
+use Rattle.world.specs.Founding.{Part, Given, given_of, IsCount, IsFounded, IsCircuitOf, AreAt, AreBlank, AreNewlyMade}
 use Rattle.world.specs.Reach.{Runs, StandsFor, AllKept}
+use Rattle.world.specs.Taking.{StopsAt}
 
 -- from the fresh state of the circuit of these members, each at its version, the steps lead to a state that the world stands for,
 -- or those before the one that was refused do
@@ -27,6 +31,23 @@ PlaysParts g k parts steps v run =
 abbrev pub IsUnplayed : ℕ → PlayFault → Type 0
 IsUnplayed count BadCount = ¬ IsCount count
 IsUnplayed count OutOfMemory = IsCount count
+
+-- the members were played from their beginning, all at this version: the steps lead to this world, or those before the one at which it stopped;
+-- or they were not played, for this reason
+abbrev pub WasPlayed : {R : Type 0} → Ghosts R → ℕ → List Given → Version → List Step → Result (Played R) PlayFault → Type 0
+WasPlayed g k members version steps (Ok p) = Plays g k members (λ _. version) steps p.world p.run × IfErr p.run (StopsAt steps p.world)
+WasPlayed g k members version steps (Err fault) = IsUnplayed (length members) fault
+
+-- these members, each with rows at this version that were just made for it
+pub record HaveRows {R : Type 0} (g : Ghosts R) (version : Version) (members : List Given) (parts : List (Part R)) : Type 0 where
+  pub new : AreNewlyMade g parts
+  pub at : AreAt g.version (λ _. version) parts
+  pub given : map given_of parts ≡ members
+
+-- each member of a circuit has its rows; or the circuit is not played, for this reason
+abbrev pub Musters : {R : Type 0} → Ghosts R → Version → List Given → Result (Vec (Part R) Global) PlayFault → Type 0
+Musters g version members (Ok parts) = IsCount (length members) × HaveRows g version members parts.items
+Musters g version members (Err fault) = IsUnplayed (length members) fault
 
 -- circuit k of these members, whatever their rows, and nothing went between them
 abbrev pub IsBeginning : {R : Type 0} → Ghosts R → ℕ → List Given → World R → Type 0

@@ -1,5 +1,5 @@
 -- The states of a circuit that a world stands for, where its steps lead, and what is agreed in it.
-use Rattle.std.specs.Prelude.{◌≡◌, ℕ, List, [], ◌∷◌, Some, Result, Ok, Err, take}
+use Rattle.std.specs.Prelude.{◌≡◌, ℕ, List, [], ◌∷◌, Some, Result, Ok, Err, IfErr, take}
 use Rattle.protocol.specs.Lists.{IsAmong}
 use Rattle.protocol.specs.Entries.{Entry}
 use Rattle.protocol.specs.Versions.{Version}
@@ -23,7 +23,7 @@ use Rattle.world.specs.declared.step.RunStop.{RunStop}
 use Rattle.world.specs.declared.step.WorldRefusal.{WorldRefusal}
 use Rattle.world.specs.Setups.{StationCircuit, StationState, IsSetUp}
 use Rattle.world.specs.Worlds.{station_at, count_of}
-use Rattle.world.specs.Taking.{step_value, EndsAs, RowsRefused}
+use Rattle.world.specs.Taking.{step_value, EndsAs, RowsRefused, StopsAt, TakesFront, Tells, TellsWhy}
 
 -- both halves: what each member's rows stand on was made for it, nobody else wrote to them, and they read back what was written
 abbrev pub AllKept : {R : Type 0} → (R → Type 0) → World R → Type 0
@@ -82,6 +82,18 @@ abbrev pub FollowsStep : {R : Type 0} → Ghosts R → Step → World R → Worl
 FollowsStep g step old new result =
     AllKept g.kept new → (z : StationCircuit) (w : StationState) → StandsFor g.is_open g.saved g.version z old w
     → Moves g.is_open g.saved g.version g.refusals z w step old new result
+
+-- a step of a world, answered so: what each kind of step promises
+pub record Stepped {R : Type 0} (g : Ghosts R) (step : Step) (old new : World R) (result : Result Seen WorldRefusal) : Type 0 where
+  -- where the rows are kept, it is a step of each state that the world stands for
+  pub steps : FollowsStep g step old new result
+  -- whatever the rows do, what is seen is what was logged, and a refusal changes nothing and has its reason
+  pub tells : Tells step old new result
+  -- where the store tore it, it is told why
+  pub why : TellsWhy g old new result
+  -- what held of the members' rows as it ended held before, and rows that were made for their members stay so
+  pub was_kept : AllKept g.kept new → AllKept g.kept old
+  pub made : AllMade g.made old → AllMade g.made new
 
 -- these steps, one after the other, lead from one state to another
 abbrev pub Leads : StationCircuit → StationState → List Step → StationState → Type 0
@@ -145,3 +157,33 @@ pub record Agreed {R : Type 0} (g : Ghosts R) (v : World R) : Type 0 where
   pub offered : (x : Release (List Slug) SetFault) → IsAmong v.releases.items x → IsOffered v x.number x.entry
   pub chosen : AllChosen g v
   pub set : (x : Release (List Slug) SetFault) → IsAmong v.releases.items x → IsSetByMember v x
+
+-- a step of a world, answered so: what `World::step` promises
+pub record WorldStep {R : Type 0} (g : Ghosts R) (step : Step) (old new : World R) (result : Result Seen WorldRefusal) : Type 0 where
+  -- of every circuit and state that the world stands for, it takes the step, and ends as the circuit's step does
+  pub steps : FollowsStep g step old new result
+  -- whatever the rows do, what is seen is what was logged, and a refusal changes nothing and has its reason
+  pub tells : Tells step old new result
+  -- where the store tears the step, it is told why: the fault is that of an armed store, or one that the member's own rows blame
+  pub why : TellsWhy g old new result
+  -- what held of the members' rows as it ended held before, and rows that were made for their members stay so
+  pub was_kept : AllKept g.kept new → AllKept g.kept old
+  pub made : AllMade g.made old → AllMade g.made new
+  -- the headline: a world that is reached stays so; and where the hosts of its rows were honest, what is released in it is agreed
+  pub reached : IsReached g old → IsReached g new
+  pub agreed : IsReached g new → AllHonest g.honest new → Agreed g new
+
+-- steps of a world, up to the first that is refused: what `World::run` promises
+pub record WorldRun {R A : Type 0} (g : Ghosts R) (steps : List Step) (old new : World R) (result : Result A RunStop) : Type 0 where
+  -- whatever the rows do, each of these steps was told, and where a store tore it, why
+  pub takes : TakesFront g old steps new result
+  -- of every circuit and state that the world stands for, it takes these steps
+  pub runs : FollowsSteps g steps old new result
+  -- it stops at a step that this world refuses, and for its reason
+  pub stops : IfErr result (StopsAt steps new)
+  -- what held of the members' rows as it ended held before, and rows that were made for their members stay so
+  pub was_kept : AllKept g.kept new → AllKept g.kept old
+  pub made : AllMade g.made old → AllMade g.made new
+  -- the headline, as of one step
+  pub reached : IsReached g old → IsReached g new
+  pub agreed : IsReached g new → AllHonest g.honest new → Agreed g new

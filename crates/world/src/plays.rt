@@ -1,9 +1,9 @@
 //! A circuit that is played from its beginning.
 
-ghost use Rattle.std.specs.Prelude.{◌≡◌, ℕ, IfOk, IfErr, OnOk, length, map};
+ghost use Rattle.std.specs.Prelude.{◌≡◌, ℕ, IfOk, IfErr, length};
 ghost use Rattle.tape_frames.specs.Entries.{version_of};
-ghost use Rattle.world.specs.Founding.{AreAt, AreNewlyMade, IsCount, IsNewlyMade, IsUnfounded, given_of};
-ghost use Rattle.world.specs.Playing.{IsBeginning, IsFresh, IsUnplayed, Plays, PlaysParts};
+ghost use Rattle.world.specs.Founding.{AreNewlyMade, IsCount, IsNewlyMade, IsUnfounded};
+ghost use Rattle.world.specs.Playing.{HaveRows, IsBeginning, IsFresh, IsUnplayed, Musters, PlaysParts, WasPlayed};
 ghost use Rattle.world.specs.Reach.{Agreed, AllHonest, IsReached};
 ghost use Rattle.world.specs.Taking.{StopsAt};
 
@@ -88,9 +88,7 @@ fn with_memory(
     version: Version,
     members: Vec<(CodeTable, Widths)>,
 ) -> Result<Vec<(CodeTable, Widths, MemoryRows)>, AllocError>
-    ensures new { IfOk result (λ v. AreNewlyMade ⟦<MemoryRows as Rows>⟧ v.items) }
-    ensures at { IfOk result (λ v. AreAt ⟦<MemoryRows as Rows>⟧.version (λ _. version_of version) v.items) }
-    ensures given { IfOk result (λ v. map given_of v.items ≡ members.items) }
+    ensures { IfOk result (λ v. HaveRows ⟦<MemoryRows as Rows>⟧ (version_of version) members.items v.items) }
 {
     let mut parts = Vec::with_capacity(alloc, members.len())?;
     for (table, widths) in members {
@@ -105,11 +103,7 @@ fn newly_made(
     version: Version,
     members: Vec<(CodeTable, Widths)>,
 ) -> Result<Vec<(CodeTable, Widths, MemoryRows)>, PlayFault>
-    ensures unplayed { IfErr result (IsUnplayed (length members.items)) }
-    ensures count { OnOk result (IsCount (length members.items)) }
-    ensures new { IfOk result (λ v. AreNewlyMade ⟦<MemoryRows as Rows>⟧ v.items) }
-    ensures at { IfOk result (λ v. AreAt ⟦<MemoryRows as Rows>⟧.version (λ _. version_of version) v.items) }
-    ensures given { IfOk result (λ v. map given_of v.items ≡ members.items) }
+    ensures { Musters ⟦<MemoryRows as Rows>⟧ (version_of version) members.items result }
 {
     if member_count(members.len()).is_none() {
         return Err(PlayFault::BadCount);
@@ -155,9 +149,7 @@ pub fn play_in_memory(
     by: Founders,
     steps: &[Step],
 ) -> Result<Played<MemoryRows>, PlayFault>
-    ensures unplayed { IfErr result (IsUnplayed (length by.members.items)) }
-    ensures plays { IfOk result (λ p. Plays ⟦<MemoryRows as Rows>⟧ by.circuit by.members.items (λ _. version_of by.version) steps.now p.world p.run) }
-    ensures stops { IfOk result (λ p. IfErr p.run (StopsAt steps.now p.world)) }
+    ensures played { WasPlayed ⟦<MemoryRows as Rows>⟧ by.circuit by.members.items (version_of by.version) steps.now result }
     ensures agreed { IfOk result (λ p. Agreed ⟦<MemoryRows as Rows>⟧ p.world) }
 {
     let Founders {

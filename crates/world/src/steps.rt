@@ -2,8 +2,8 @@
 
 ghost use Rattle.std.specs.Prelude.{◌≡◌, ◌<◌, ◌≤◌, ◌+◌, suc, false, Some, None, IfOk, IfErr, OnOk, OnErr, length, option_map};
 ghost use Rattle.protocol.specs.Circuit.{datagram_at, member_missing};
-ghost use Rattle.world.specs.Reach.{Agreed, AllHonest, AllKept, AllMade, FollowsStep, FollowsSteps, IsReached};
-ghost use Rattle.world.specs.Taking.{Found, StopsAt, TakesFront, Tells, TellsWhy};
+ghost use Rattle.world.specs.Reach.{Stepped, WorldRun, WorldStep};
+ghost use Rattle.world.specs.Taking.{Found};
 ghost use Rattle.world.specs.Worlds.{count_of};
 
 use crate::laws;
@@ -31,17 +31,7 @@ impl<R: Rows> World<R> {
     /// before the station is asked. That a station refuses a step is an outcome, also where its store or its memory does.
     /// A fault of its store is that of the member's own rows; an armed store tells its refusal as [`saved_rows::RowsFault::Store`].
     pub fn step(&mut self, step: &Step) -> Result<Seen, WorldRefusal>
-        // Of every circuit and state that the world stands for, it takes the step, and ends as the circuit's step does.
-        ensures steps { FollowsStep R.Rows step.now self.old self.new result }
-        // Whatever the rows do, what is seen is what was logged, and a refusal changes nothing and has its reason.
-        ensures tells { Tells step.now self.old self.new result }
-        // Where the store tears the step, it is told why: the fault is that of an armed store, or one that the member's own rows blame.
-        ensures why { TellsWhy R.Rows self.old self.new result }
-        ensures was_kept { AllKept R.kept self.new → AllKept R.kept self.old }
-        ensures made { AllMade R.made self.old → AllMade R.made self.new }
-        // The headline: a world that is reached stays so; and where the hosts of its rows were honest, what is released in it is agreed.
-        ensures reached { IsReached R.Rows self.old → IsReached R.Rows self.new }
-        ensures agreed { IsReached R.Rows self.new → AllHonest R.honest self.new → Agreed R.Rows self.new }
+        ensures { WorldStep R.Rows step.now self.old self.new result }
     {
         laws::agreement();
         match step {
@@ -72,14 +62,7 @@ impl<R: Rows> World<R> {
 
     /// Takes steps in order, up to the first that is refused. The steps before it stand.
     pub fn run(&mut self, steps: &[Step]) -> Result<(), RunStop>
-        // Whatever the rows do, each of these steps was told, and where a store tore it, why.
-        ensures takes { TakesFront R.Rows self.old steps.now self.new result }
-        ensures runs { FollowsSteps R.Rows steps.now self.old self.new result }
-        ensures stops { IfErr result (StopsAt steps.now self.new) }
-        ensures was_kept { AllKept R.kept self.new → AllKept R.kept self.old }
-        ensures made { AllMade R.made self.old → AllMade R.made self.new }
-        ensures reached { IsReached R.Rows self.old → IsReached R.Rows self.new }
-        ensures agreed { IsReached R.Rows self.new → AllHonest R.honest self.new → Agreed R.Rows self.new }
+        ensures { WorldRun R.Rows steps.now self.old self.new result }
     {
         laws::agreement();
         for (at, step) in steps.iter().enumerate() {
@@ -125,11 +108,7 @@ impl<R: Rows> World<R> {
         tape: &Tape,
         now: u64,
     ) -> Result<Seen, WorldRefusal>
-        ensures steps { FollowsStep R.Rows (Step.Offer member number tape.now now) self.old self.new result }
-        ensures tells { Tells (Step.Offer member number tape.now now) self.old self.new result }
-        ensures why { TellsWhy R.Rows self.old self.new result }
-        ensures was_kept { AllKept R.kept self.new → AllKept R.kept self.old }
-        ensures made { AllMade R.made self.old → AllMade R.made self.new }
+        ensures { Stepped R.Rows (Step.Offer member number tape.now now) self.old self.new result }
     {
         one_setting();
         let place = self.place(member)?;
@@ -145,11 +124,7 @@ impl<R: Rows> World<R> {
 
     /// A member is asked to withdraw a number.
     fn withdraw(&mut self, member: u8, number: u32, now: u64) -> Result<Seen, WorldRefusal>
-        ensures steps { FollowsStep R.Rows (Step.Withdraw member number now) self.old self.new result }
-        ensures tells { Tells (Step.Withdraw member number now) self.old self.new result }
-        ensures why { TellsWhy R.Rows self.old self.new result }
-        ensures was_kept { AllKept R.kept self.new → AllKept R.kept self.old }
-        ensures made { AllMade R.made self.old → AllMade R.made self.new }
+        ensures { Stepped R.Rows (Step.Withdraw member number now) self.old self.new result }
     {
         one_setting();
         let place = self.place(member)?;
@@ -162,11 +137,7 @@ impl<R: Rows> World<R> {
 
     /// A member seeks what is agreed on.
     fn seek(&mut self, member: u8, number: u32, now: u64) -> Result<Seen, WorldRefusal>
-        ensures steps { FollowsStep R.Rows (Step.Seek member number now) self.old self.new result }
-        ensures tells { Tells (Step.Seek member number now) self.old self.new result }
-        ensures why { TellsWhy R.Rows self.old self.new result }
-        ensures was_kept { AllKept R.kept self.new → AllKept R.kept self.old }
-        ensures made { AllMade R.made self.old → AllMade R.made self.new }
+        ensures { Stepped R.Rows (Step.Seek member number now) self.old self.new result }
     {
         one_setting();
         let place = self.place(member)?;
@@ -177,11 +148,7 @@ impl<R: Rows> World<R> {
 
     /// A member sees to what is due.
     fn due(&mut self, member: u8, now: u64) -> Result<Seen, WorldRefusal>
-        ensures steps { FollowsStep R.Rows (Step.Due member now) self.old self.new result }
-        ensures tells { Tells (Step.Due member now) self.old self.new result }
-        ensures why { TellsWhy R.Rows self.old self.new result }
-        ensures was_kept { AllKept R.kept self.new → AllKept R.kept self.old }
-        ensures made { AllMade R.made self.old → AllMade R.made self.new }
+        ensures { Stepped R.Rows (Step.Due member now) self.old self.new result }
     {
         one_setting();
         let place = self.place(member)?;
@@ -192,11 +159,7 @@ impl<R: Rows> World<R> {
 
     /// A member is to tell its vote again.
     fn recall(&mut self, member: u8, number: u32, to: u8) -> Result<Seen, WorldRefusal>
-        ensures steps { FollowsStep R.Rows (Step.Recall member number to) self.old self.new result }
-        ensures tells { Tells (Step.Recall member number to) self.old self.new result }
-        ensures why { TellsWhy R.Rows self.old self.new result }
-        ensures was_kept { AllKept R.kept self.new → AllKept R.kept self.old }
-        ensures made { AllMade R.made self.old → AllMade R.made self.new }
+        ensures { Stepped R.Rows (Step.Recall member number to) self.old self.new result }
     {
         one_setting();
         let place = self.place(member)?;
@@ -207,11 +170,7 @@ impl<R: Rows> World<R> {
 
     /// A datagram comes to its addressee.
     fn deliver(&mut self, k: usize, now: u64) -> Result<Seen, WorldRefusal>
-        ensures steps { FollowsStep R.Rows (Step.Deliver k now) self.old self.new result }
-        ensures tells { Tells (Step.Deliver k now) self.old self.new result }
-        ensures why { TellsWhy R.Rows self.old self.new result }
-        ensures was_kept { AllKept R.kept self.new → AllKept R.kept self.old }
-        ensures made { AllMade R.made self.old → AllMade R.made self.new }
+        ensures { Stepped R.Rows (Step.Deliver k now) self.old self.new result }
     {
         one_setting();
         let member = self.addressee(k)?;
@@ -224,11 +183,7 @@ impl<R: Rows> World<R> {
 
     /// A member starts again.
     fn restart(&mut self, member: u8) -> Result<Seen, WorldRefusal>
-        ensures steps { FollowsStep R.Rows (Step.Restart member) self.old self.new result }
-        ensures tells { Tells (Step.Restart member) self.old self.new result }
-        ensures why { TellsWhy R.Rows self.old self.new result }
-        ensures was_kept { AllKept R.kept self.new → AllKept R.kept self.old }
-        ensures made { AllMade R.made self.old → AllMade R.made self.new }
+        ensures { Stepped R.Rows (Step.Restart member) self.old self.new result }
     {
         let place = self.place(member)?;
         self.stations[place].restart();
@@ -237,11 +192,7 @@ impl<R: Rows> World<R> {
 
     /// A member goes over to version 2. Nothing is sent or logged, and no memory is taken.
     fn upgrade(&mut self, member: u8) -> Result<Seen, WorldRefusal>
-        ensures steps { FollowsStep R.Rows (Step.Upgrade member) self.old self.new result }
-        ensures tells { Tells (Step.Upgrade member) self.old self.new result }
-        ensures why { TellsWhy R.Rows self.old self.new result }
-        ensures was_kept { AllKept R.kept self.new → AllKept R.kept self.old }
-        ensures made { AllMade R.made self.old → AllMade R.made self.new }
+        ensures { Stepped R.Rows (Step.Upgrade member) self.old self.new result }
     {
         let place = self.place(member)?;
         let outcome = go_over(&mut self.stations[place]);
@@ -250,11 +201,7 @@ impl<R: Rows> World<R> {
 
     /// A member's store is armed to refuse a save or an upgrade.
     fn balk(&mut self, member: u8, saved: bool) -> Result<Seen, WorldRefusal>
-        ensures steps { FollowsStep R.Rows (Step.Balk member saved) self.old self.new result }
-        ensures tells { Tells (Step.Balk member saved) self.old self.new result }
-        ensures why { TellsWhy R.Rows self.old self.new result }
-        ensures was_kept { AllKept R.kept self.new → AllKept R.kept self.old }
-        ensures made { AllMade R.made self.old → AllMade R.made self.new }
+        ensures { Stepped R.Rows (Step.Balk member saved) self.old self.new result }
     {
         let place = self.place(member)?;
         self.stations[place].rows_mut().arm(saved);

@@ -6,7 +6,8 @@ ghost use Rattle.std.specs.Prelude.{◌≡◌, ◌≤◌, IfSome};
 use crate::rows::Agreed::{Flood, Ligature, Longest, OneFrame, Packed, Void};
 use crate::rows::{Agreed, At, Voted, ballot, is_entry, lent_vote, member_of, owned, parts};
 use ballots::{Ballot, Member, VoteRef};
-use proposer::{BeginRefusal, Counted, DueAnswer, Proposal};
+use mail::Seat;
+use proposer::{BeginRefusal, Beginning, Counted, DueAnswer, Proposal};
 use std::alloc::Global;
 use tape_frames::Entry;
 
@@ -203,7 +204,13 @@ fn begun(alloc: Global, start: Start) -> Option<Proposal>
     let me = member_of(members, start.me)?;
     let seen = seen_ballot(start.seen)?;
     let own = own_of(alloc, start.own)?;
-    Proposal::begin(alloc, seen, me, members, own, None, start.begun_at).ok()
+    let beginning = Beginning {
+        seen,
+        own,
+        report: None,
+        now: start.begun_at,
+    };
+    Proposal::begin(alloc, Seat::new(1, me, members), beginning).ok()
 }
 
 /// Whether a proposal is begun so, in place of the one before.
@@ -400,7 +407,13 @@ fn is_spent(alloc: Global, seen: At) -> bool {
     let (Some(me), Some(seen)) = (Member::new(1), ballot(seen)) else {
         return false;
     };
-    let begun = Proposal::begin(alloc, Some(seen), me, 5, None, None, 0);
+    let beginning = Beginning {
+        seen: Some(seen),
+        own: None,
+        report: None,
+        now: 0,
+    };
+    let begun = Proposal::begin(alloc, Seat::new(1, me, 5), beginning);
     matches!(begun, Err(BeginRefusal::RoundsSpent))
 }
 

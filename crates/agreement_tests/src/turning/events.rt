@@ -7,7 +7,7 @@ use crate::rows::{At, ballot, lent, lent_vote, member_of, owned};
 use crate::turning::steps::{Coming, Says, Step};
 use ballots::{Member, Number};
 use node_core::Event;
-use packets::{BodyRef, PacketRef};
+use packets::{BodyRef, PacketRef, Route};
 use std::alloc::Global;
 
 /// What a packet says.
@@ -41,7 +41,12 @@ pub fn packet_of(
     ensures from { IfSome result (λ p. p.from ≡ from) }
     ensures to { IfSome result (λ p. p.to ≡ to) }
 {
-    PacketRef::new(7, from, to, number, ballot(at)?, body_of(says)?)
+    let route = Route {
+        circuit: 7,
+        from,
+        to,
+    };
+    PacketRef::new(route, number, ballot(at)?, body_of(says)?)
 }
 
 /// The event of a step, to this member of a circuit.

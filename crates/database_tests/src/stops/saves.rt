@@ -4,7 +4,7 @@ ghost use Rattle.saved_rows.specs.Saved.{HasPromise};
 
 use crate::rows::samples::{Sample, is_row, row_of};
 use ballots::{Number, Row};
-use row_groups::{Grouped, SavesAll};
+use row_groups::{Grouped, SavesAll, Settles};
 use saved_rows::Rows;
 use std::alloc::Global;
 use tape_frames::Version;
@@ -92,7 +92,7 @@ fn settles<R: SavesAll>(
     if !are_there(rows, left) || rows.waiting() != samples.len() {
         return None;
     }
-    if rows.save_waiting().is_ok() {
+    if rows.settle().is_ok() {
         return (rows.waiting() == 0).then_some(true);
     }
     refused(rows, Number::new(12)?)

@@ -2,7 +2,7 @@
 
 use crate::tapes::entries::plain;
 use ballots::{Ballot, Member, Number};
-use packets::{BodyRef, PacketFault, PacketRef, decode};
+use packets::{BodyRef, PacketFault, PacketRef, Route, decode};
 use std::alloc::Global;
 use tape_frames::{EntryRef, Version};
 
@@ -198,20 +198,20 @@ pub fn ballot(round: u32, owner: u8) -> Option<Ballot> {
     Ballot::new(round, Member::new(owner)?)
 }
 
-/// Two members, and number 12 at 1.1.
-fn ends(from: u8, to: u8) -> Option<(Member, Member, Number, Ballot)> {
-    Some((
-        Member::new(from)?,
-        Member::new(to)?,
-        Number::new(12)?,
-        ballot(1, 1)?,
-    ))
+/// The route between these members on circuit 7, and number 12 at 1.1.
+fn ends(from: u8, to: u8) -> Option<(Route, Number, Ballot)> {
+    let route = Route {
+        circuit: 7,
+        from: Member::new(from)?,
+        to: Member::new(to)?,
+    };
+    Some((route, Number::new(12)?, ballot(1, 1)?))
 }
 
 /// The packet of circuit 7 between these members, about number 12 at 1.1, if there is one that says this.
 pub fn packet_of<'a>(from: u8, to: u8, body: BodyRef<'a>) -> Option<PacketRef<'a>> {
     match ends(from, to) {
-        Some((from, to, number, ballot)) => PacketRef::new(7, from, to, number, ballot, body),
+        Some((route, number, ballot)) => PacketRef::new(route, number, ballot, body),
         None => None,
     }
 }

@@ -4,37 +4,22 @@ use Rattle.acceptor_store.proofs.StandLemmas.{IsSettled}
 use Rattle.acceptor_store.proofs.GroupLemmas.{serves_each, saves_each, keeps_each, leaves_each}
 use Rattle.acceptor_store.proofs.group.save_all.Goals as goal
 
-pub returns-clause-serves : goal.returns-clause-serves
-returns-clause-serves g c serves =
+pub returns : goal.returns
+returns g c =
     let old = state g.S.Store c.args.conn.now in
     let new = state g.S.Store c.put_all.new.conn in
     let law_old : IsSettled old = λ db. g.met.S.Store.settled c.args.conn.now.store db in
     let law_new : IsSettled new = λ db. g.met.S.Store.settled c.put_all.new.conn.store db in
-    serves_each (layout_of c.args.layout) c.args.items.now old new c.put_all.ensures.clean law_old law_new serves c.put_all.ensures.ended
-    c.put_all.result c.put_all.ensures.committed c.put_all.ensures.opened c.put_all.ensures.was_open c.put_all.ensures.neither
-
-pub returns-clause-saved : goal.returns-clause-saved
-returns-clause-saved g c serves =
-    let old = state g.S.Store c.args.conn.now in
-    let new = state g.S.Store c.put_all.new.conn in
-    let law_old : IsSettled old = λ db. g.met.S.Store.settled c.args.conn.now.store db in
-    let law_new : IsSettled new = λ db. g.met.S.Store.settled c.put_all.new.conn.store db in
-    saves_each (layout_of c.args.layout) c.args.items.now old new c.put_all.ensures.clean law_old law_new serves c.put_all.ensures.ended
-    c.put_all.result c.put_all.ensures.committed c.put_all.ensures.opened
-
-pub returns-clause-err : goal.returns-clause-err
-returns-clause-err g c serves =
-    let old = state g.S.Store c.args.conn.now in
-    let new = state g.S.Store c.put_all.new.conn in
-    let law_old : IsSettled old = λ db. g.met.S.Store.settled c.args.conn.now.store db in
-    let law_new : IsSettled new = λ db. g.met.S.Store.settled c.put_all.new.conn.store db in
-    keeps_each (layout_of c.args.layout) c.args.items.now old new c.put_all.ensures.clean law_old law_new serves c.put_all.ensures.ended
-    c.put_all.result c.put_all.ensures.was_open c.put_all.ensures.neither
-
-pub returns-clause-crash : goal.returns-clause-crash
-returns-clause-crash g c serves =
-    let old = state g.S.Store c.args.conn.now in
-    let new = state g.S.Store c.put_all.new.conn in
-    let law_old : IsSettled old = λ db. g.met.S.Store.settled c.args.conn.now.store db in
-    let law_new : IsSettled new = λ db. g.met.S.Store.settled c.put_all.new.conn.store db in
-    leaves_each (layout_of c.args.layout) c.args.items.now old new c.put_all.ensures.clean law_old law_new serves c.put_all.ensures.ended c.put_all.ensures.crash
+    let puts = c.put_all.ensures in
+    let layout = layout_of c.args.layout in
+    let items = c.args.items.now in
+    record {
+      serves = λ serves.
+          serves_each layout items old new puts.ends.clean law_old law_new serves puts.ended
+          c.put_all.result puts.committed puts.opened puts.ends.was_open puts.ends.neither;
+      saved = λ serves. saves_each layout items old new puts.ends.clean law_old law_new serves puts.ended c.put_all.result puts.committed puts.opened;
+      err = λ serves. keeps_each layout items old new puts.ends.clean law_old law_new serves puts.ended c.put_all.result puts.ends.was_open puts.ends.neither;
+      crash = λ serves. leaves_each layout items old new puts.ends.clean law_old law_new serves puts.ended puts.crash;
+      clean = puts.ends.clean;
+      refusal = puts.refusal;
+    }

@@ -1,7 +1,4 @@
 use Rattle.acceptor_store.proofs.upgrade.go_over.Goals as goal
 
-pub returns-in-First-clause-kept : goal.returns-in-First-clause-kept
-returns-in-First-clause-kept g c = rw c.in-First.is c.move_rows.ensures.kept
-
-pub returns-in-First-clause-refusal : goal.returns-in-First-clause-refusal
-returns-in-First-clause-refusal g c = rw c.in-First.is c.move_rows.ensures.refusal
+pub returns-in-First : goal.returns-in-First
+returns-in-First g c = rw c.in-First.is c.move_rows.ensures

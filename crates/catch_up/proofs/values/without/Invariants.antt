@@ -4,4 +4,4 @@ use Rattle.catch_up.specs.Values.{without}
 use Rattle.catch_up.proofs.values.without.Given as goal
 
 abbrev pub invariant-loop-each : goal.invariant-loop-each
-invariant-loop-each l = record { others : l.rest.items ≡ without l.number (take l.each-index l.numbers); few : length l.rest.items ≤ l.each-index }
+invariant-loop-each l = record { others : l.rest.items ≡ without l.number (take l.each-index l.numbers.items); few : length l.rest.items ≤ l.each-index }

@@ -10,5 +10,5 @@ pub returns : goal.returns
 unfolding nothing_text
 returns c =
     follows c.add_words-2.result c.args.text.now.items c.add_words.new.text.items c.add_words-2.new.text.items
-    (shape_text (Words styles.Unknown (c.args.at.x + 46) c.args.at.y (codes "?"))) (shape_text (Words styles.Fault (c.args.at.x + 30) (c.args.at.y + 12) (codes "no meaning")))
+    (shape_text (Words styles.Unknown (c.args.spot.at.x + 46) c.args.spot.at.y (codes "?"))) (shape_text (Words styles.Fault (c.args.spot.at.x + 30) (c.args.spot.at.y + 12) (codes "no meaning")))
     c.in_ok-add_words.ensures c.add_words-2.ensures

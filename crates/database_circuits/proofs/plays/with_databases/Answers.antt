@@ -25,8 +25,8 @@ loop-table-preserved c =
     record {
       me = (let l = length-append c.loop-table.yielded ((c.in-Some.table, c.in-Some.widths) ∷ []) in omega (arith, l, i));
       new = subst P (sym c.in_ok-push-in-Ok.ensures.items)
-          (newly_more in_memory parts part c.loop-table.invariant.new (c.in-Ok.ensures.made c.in_ok-conn.ensures.empty.2, λ kept here. c.in-Ok.ensures.blank kept));
+          (newly_more in_memory parts part c.loop-table.invariant.new (c.in-Ok.ensures.made.ours c.in_ok-conn.ensures.empty.2, λ kept here. c.in-Ok.ensures.made.blank kept));
       at = (let A : List (Part (SqliteOf MemStore)) → Type 0 = AreAt in_memory.version (λ m. version_of c.args.version) in
-          subst A (sym c.in_ok-push-in-Ok.ensures.items) (at_more in_memory.version (version_of c.args.version) parts part c.loop-table.invariant.at c.in-Ok.ensures.version));
+          subst A (sym c.in_ok-push-in-Ok.ensures.items) (at_more in_memory.version (version_of c.args.version) parts part c.loop-table.invariant.at c.in-Ok.ensures.made.version));
       given = (let Q : List (Part (SqliteOf MemStore)) → Type 0 = λ l. map given_of l ≡ c.loop-table.yielded ++ given_of part ∷ [] in subst Q (sym c.in_ok-push-in-Ok.ensures.items) (given_more parts part c.loop-table.yielded c.loop-table.invariant.given));
     }

@@ -8,11 +8,11 @@ returns-in-Ok c =
     (λ closed. (
       c.in-Ok.rows,
       record {
-        its_own = c.in-Ok.ensures.made;
-        blank = c.in-Ok.ensures.blank;
-        identity = c.in-Ok.ensures.identity;
-        version = c.in-Ok.ensures.version;
-        goes = c.in-Ok.ensures.unstopped;
+        its_own = c.in-Ok.ensures.made.made;
+        blank = c.in-Ok.ensures.made.blank;
+        identity = c.in-Ok.ensures.made.identity;
+        version = c.in-Ok.ensures.made.version;
+        goes = c.in-Ok.ensures.made.unstopped;
         closed = closed;
         wary = refl;
       },

@@ -1,5 +1,5 @@
 -- The lines of an Accept: refused, its vote stands, or it votes.
-use Rattle.std.proofs.Common.{◌≡◌, sym, ap, ◌∙◌}
+use Rattle.std.proofs.Common.{◌≡◌, refl, sym, ap, ◌∙◌, Some}
 use Rattle.protocol.specs.Ballots.{Ballot}
 use Rattle.protocol.specs.Entries.{Entry}
 use Rattle.protocol.specs.Rows.{Row}
@@ -7,6 +7,7 @@ use Rattle.tape_frames.specs.Entries.{lent_entry}
 use Rattle.protocol.specs.Acceptor.{Reply, Accepts, Nacks, Votes, Votes_again, reply_of, next_row}
 use Rattle.acceptor.specs.declared.answer.AcceptAnswer.{AcceptAnswer}
 use Rattle.acceptor.specs.Said.{said_of_accept, row_of}
+use Rattle.node_core.specs.declared.turn.Turn.{Turn}
 use Rattle.node_core.proofs.Stirring.{accept_stirs}
 use Rattle.node_core.proofs.Accepting.{nacked_alone, again_votes, now_votes}
 use Rattle.node_core.proofs.voting.accept.Goals as goal
@@ -19,24 +20,26 @@ row_told row w b a t u e f h = h ∙ ap (λ (x : Ballot). next_row row (Accepts 
 
 pub returns-in-Nack-clause-voting : goal.returns-in-Nack-clause-voting
 returns-in-Nack-clause-voting c = λ marks.
-    nacked_alone c.args.seat c.args.row.now c.args.packet.now (lent_entry c.args.entry) marks c.send-turn.result c.in-Nack.promised
+    nacked_alone c.args.sitting.seat c.args.row.now c.args.packet.now (lent_entry c.args.entry) marks c.send-turn.result c.in-Nack.promised
     (reply_told c.args.row.now c.ballot-ballot.result c.args.packet.now.ballot (lent_entry c.lend.result) (lent_entry c.args.entry) (Nacks c.in-Nack.promised) c.ballot-ballot.ensures c.lend.ensures (ap said_of_accept (sym c.in-Nack.is) ∙ c.in_ok-promised.ensures.reply))
     (row_told c.args.row.now c.args.row.now c.ballot-ballot.result c.args.packet.now.ballot (lent_entry c.lend.result) (lent_entry c.args.entry) c.ballot-ballot.ensures c.lend.ensures (ap (λ (a : AcceptAnswer). row_of a c.args.row.now) (sym c.in-Nack.is) ∙ c.in_ok-promised.ensures.row))
     (rw c.from-to.ensures at c.send-turn.ensures.turn)
 
 pub returns-in-Some-clause-voting : goal.returns-in-Some-clause-voting
 returns-in-Some-clause-voting c =
-    again_votes c.args.seat c.args.row.now c.args.packet.now (lent_entry c.args.entry) c.send-turn-in-Some.result c.in-Some.vote.now c.ballot-ballot.result (lent_entry c.entry.result) c.ballot-ballot.ensures c.entry.ensures (sym c.in-Some.ensures.value)
+    again_votes c.args.sitting.seat c.args.row.now c.args.packet.now (lent_entry c.args.entry) c.send-turn-in-Some.result c.in-Some.vote.now c.ballot-ballot.result (lent_entry c.entry.result) c.ballot-ballot.ensures c.entry.ensures (sym c.in-Some.ensures.value)
     (reply_told c.args.row.now c.ballot-ballot.result c.args.packet.now.ballot (lent_entry c.lend.result) (lent_entry c.args.entry) Votes_again c.ballot-ballot.ensures c.lend.ensures (ap said_of_accept (sym c.in-Again.is) ∙ c.in_ok-promised.ensures.reply))
     (row_told c.args.row.now c.args.row.now c.ballot-ballot.result c.args.packet.now.ballot (lent_entry c.lend.result) (lent_entry c.args.entry) c.ballot-ballot.ensures c.lend.ensures (ap (λ (a : AcceptAnswer). row_of a c.args.row.now) (sym c.in-Again.is) ∙ c.in_ok-promised.ensures.row))
     c.send-turn-in-Some.ensures.turn
 
 pub returns-in-Voted-clause-voting : goal.returns-in-Voted-clause-voting
 returns-in-Voted-clause-voting c =
-    now_votes c.args.seat c.args.row.now c.args.packet.now (lent_entry c.args.entry) c.send-turn-in-Voted.result c.in-Voted.after c.ballot-ballot.result c.ballot-ballot.ensures
+    let h = c.send-turn-in-Voted.ensures.turn in
+    let turn : Turn = record { row = Some c.in-Voted.after; mail = c.send-turn-in-Voted.result.mail; release = c.send-turn-in-Voted.result.release; note = c.send-turn-in-Voted.result.note } in
+    now_votes c.args.sitting.seat c.args.row.now c.args.packet.now (lent_entry c.args.entry) turn c.in-Voted.after c.ballot-ballot.result c.ballot-ballot.ensures
     (reply_told c.args.row.now c.ballot-ballot.result c.args.packet.now.ballot (lent_entry c.lend.result) (lent_entry c.args.entry) Votes c.ballot-ballot.ensures c.lend.ensures (ap said_of_accept (sym c.in-Voted.is) ∙ c.in_ok-promised.ensures.reply))
     (row_told c.args.row.now c.in-Voted.after c.ballot-ballot.result c.args.packet.now.ballot (lent_entry c.lend.result) (lent_entry c.args.entry) c.ballot-ballot.ensures c.lend.ensures (ap (λ (a : AcceptAnswer). row_of a c.args.row.now) (sym c.in-Voted.is) ∙ c.in_ok-promised.ensures.row))
-    c.send-turn-in-Voted.ensures.turn
+    (record { row_after = refl; out = h.out; release = h.release; noted = h.noted })
 
 pub returns-in-Some-clause-stirs : goal.returns-in-Some-clause-stirs
-returns-in-Some-clause-stirs c = λ marks. accept_stirs c.args.seat marks c.args.row.now c.args.packet.now (lent_entry c.args.entry)
+returns-in-Some-clause-stirs c = λ marks. accept_stirs c.args.sitting.seat marks c.args.row.now c.args.packet.now (lent_entry c.args.entry)

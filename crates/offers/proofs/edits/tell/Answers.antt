@@ -4,15 +4,19 @@ use Rattle.offers.specs.Stages.{after}
 use Rattle.offers.proofs.Editing.{untouched, changed_rises}
 use Rattle.offers.proofs.edits.tell.Goals as goal
 
-pub returns-in-Some-clause-news : goal.returns-in-Some-clause-news
-returns-in-Some-clause-news c =
+pub returns-in-Some : goal.returns-in-Some
+returns-in-Some c =
     let there : IsPlaceOf c.args.offers.now.items c.rank.result c.in-Some.index = rw (sym c.as_slice.ensures.value) c.in-Some.ensures in
-    c.tell_at.ensures (rank c.args.request) (rw (sym c.rank.ensures.rank) there)
+    let news = c.tell_at.ensures (rank c.args.request) (rw (sym c.rank.ensures.rank) there) in
+    record {
+      news = news;
+      rises = rw news (changed_rises 0 (rank c.args.request) (after c.args.news c.args.now) c.args.offers.now.items c.requires);
+    }
 
-pub returns-in-Some-clause-rises : goal.returns-in-Some-clause-rises
-returns-in-Some-clause-rises c = rw (returns-in-Some-clause-news c) (changed_rises 0 (rank c.args.request) (after c.args.news c.args.now) c.args.offers.now.items c.requires)
-
-pub returns-in_default-clause-news : goal.returns-in_default-clause-news
-returns-in_default-clause-news c =
+pub returns-in_default : goal.returns-in_default
+returns-in_default c =
     let none : file_at c.args.offers.now.items (rank c.args.request) ≡ None = rw (sym c.as_slice.ensures.value, sym c.rank.ensures.rank) c.in_default.ensures in
-    sym (untouched (rank c.args.request) (after c.args.news c.args.now) c.args.offers.now.items none)
+    record {
+      news = sym (untouched (rank c.args.request) (after c.args.news c.args.now) c.args.offers.now.items none);
+      rises = c.requires;
+    }

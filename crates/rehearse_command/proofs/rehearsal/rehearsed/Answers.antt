@@ -2,8 +2,5 @@
 use Rattle.rehearse_command.specs.Rehearsals.{inputs}
 use Rattle.rehearse_command.proofs.rehearsal.rehearsed.Goals as goal
 
-pub returns-clause-ok : goal.returns-clause-ok
-returns-clause-ok g c = c.play_all.ensures.ok (inputs (g.R.Read.remaining c.args.order.table) (g.S.Read.remaining c.args.order.widths)) (c.in_ok-table.ensures.ok, c.in_ok-widths.ensures.ok)
-
-pub returns-clause-err : goal.returns-clause-err
-returns-clause-err g c = c.play_all.ensures.err (inputs (g.R.Read.remaining c.args.order.table) (g.S.Read.remaining c.args.order.widths)) (c.in_ok-table.ensures.ok, c.in_ok-widths.ensures.ok)
+pub returns : goal.returns
+returns g c = c.play_all.ensures (inputs (g.R.Read.remaining c.args.order.table) (g.S.Read.remaining c.args.order.widths)) (c.in_ok-table.ensures.ok, c.in_ok-widths.ensures.ok)

@@ -7,12 +7,12 @@ use Rattle.rolls.proofs.reading.counts_in.Goals as goal
 pub loop-preserved : goal.loop-preserved
 loop-preserved c =
     let pushed : length c.push.new.self.items ≡ length c.loop.counts.items + 1 =
-    ap (λ (l : List ℕ). length l) c.push.ensures.items ∙ length-append c.loop.counts.items (c.u16_of.result ∷ []) in
+    ap (λ (l : List ℕ). length l) c.push.ensures.items ∙ length-append c.loop.counts.items (c.first_count.result ∷ []) in
     let many = c.loop.invariant.many in
     let left = c.loop.invariant.left in
     let behind = c.split_at.ensures.back_len in
     record {
-      read = rw (c.push.ensures.items, c.split_at.ensures.back, c.u16_of.ensures)
+      read = rw (c.push.ensures.items, c.split_at.ensures.back, c.first_count.ensures)
           (count_read _ c.loop.counts.items c.loop.rest.now pages c.loop.counter c.loop-test.true c.loop.invariant.read);
       many = omega (arith, pushed, many);
       left = omega (arith, left, behind);

@@ -1,4 +1,4 @@
-use Rattle.std.proofs.Common.{◌≡◌, ◌+◌, ℕ, suc, Some, sym, ap, subst, ◌∙◌, arith}
+use Rattle.std.proofs.Common.{rules, ◌≡◌, ◌+◌, ℕ, suc, Some, sym, ap, subst, ◌∙◌, arith}
 use Rattle.std.specs.Prelude.{slice_get, take}
 use Rattle.std.proofs.lemmas.List.{take_all}
 use Rattle.std.proofs.lemmas.Option.{slice_get-get_or}
@@ -17,28 +17,25 @@ put-requires-clause-fits g c =
     subst (λ v. RowFits v c.item-item.result.1) (sym c.loop-item.invariant.version)
     (all_at (λ (p : ℕ × Row). RowFits (g.R.Rows.version c.args.rows.now) p.1) c.args.items.now c.loop-item.item-index c.item-item.result at c.requires.fits)
 
-pub returns-in_err-put-clause-version : goal.returns-in_err-put-clause-version
-returns-in_err-put-clause-version g c = c.put.ensures.version ∙ c.loop-item.invariant.version
-
-pub returns-in_err-put-clause-first : goal.returns-in_err-put-clause-first
-returns-in_err-put-clause-first g c kept =
-    let items = c.args.items.now in
-    let i = c.loop-item.item-index in
-    let at : slice_get items i ≡ Some c.item-item.result = slice_get-get_or items i c.item-item.result c.loop-item-test.true ∙ ap Some (sym c.item-item.is) in
-    on_err c.from_residual.result (next_left g.R.Rows items i c.item-item.result c.args.rows.now c.loop-item.rows c.put.new.self at c.loop-item.invariant
-    (c.put.ensures.was_kept kept) (c.in_err-put.ensures.either kept) c.loop-item-test.true)
-
-pub returns-in_err-put-clause-counts : goal.returns-in_err-put-clause-counts
-returns-in_err-put-clause-counts g c = omega (arith, c.put.ensures.counts, c.loop-item.invariant.counts)
-
-pub returns-in_err-put-clause-made : goal.returns-in_err-put-clause-made
-returns-in_err-put-clause-made g c made = c.put.ensures.made (c.loop-item.invariant.made made)
-
-pub returns-in_err-put-clause-was_kept : goal.returns-in_err-put-clause-was_kept
-returns-in_err-put-clause-was_kept g c kept = c.loop-item.invariant.was_kept (c.put.ensures.was_kept kept)
-
-pub returns-in_err-put-clause-was_open : goal.returns-in_err-put-clause-was_open
-returns-in_err-put-clause-was_open g c kept opened = c.loop-item.invariant.was_open (c.put.ensures.was_kept kept) (c.put.ensures.was_open kept opened)
+pub returns-in_err-put : goal.returns-in_err-put
+returns-in_err-put g c = record {
+  rows = search rules;
+  opened = search rules;
+  version = c.put.ensures.version ∙ c.loop-item.invariant.version;
+  first = (λ kept.
+      let items = c.args.items.now in
+      let i = c.loop-item.item-index in
+      let at : slice_get items i ≡ Some c.item-item.result = slice_get-get_or items i c.item-item.result c.loop-item-test.true ∙ ap Some (sym c.item-item.is) in
+      on_err c.from_residual.result (next_left g.R.Rows items i c.item-item.result c.args.rows.now c.loop-item.rows c.put.new.self at c.loop-item.invariant
+      (c.put.ensures.answered.call.was_kept kept) (c.in_err-put.ensures.either kept) c.loop-item-test.true));
+  call = record {
+    cause = search rules;
+    counts = omega (arith, c.put.ensures.answered.call.counts, c.loop-item.invariant.counts);
+    stay_made = λ made. c.put.ensures.answered.call.stay_made (c.loop-item.invariant.made made);
+    was_kept = λ kept. c.loop-item.invariant.was_kept (c.put.ensures.answered.call.was_kept kept);
+    was_open = λ kept opened. c.loop-item.invariant.was_open (c.put.ensures.answered.call.was_kept kept) (c.put.ensures.answered.call.was_open kept opened);
+  };
+}
 
 pub loop-item-preserved : goal.loop-item-preserved
 loop-item-preserved g c =
@@ -51,33 +48,27 @@ loop-item-preserved g c =
     let next : suc i ≡ i + 1 = omega arith in
     subst (λ (k : ℕ). SoFar x items k c.args.rows.now c.put.new.self) next (record {
       saved = λ kept. subst (λ l. WithAll (x.saved c.args.rows.now) l (x.saved c.put.new.self)) (sym (take_more items i item at))
-          (one_in (take i items) (x.saved c.args.rows.now) (x.saved c.loop-item.rows) (x.saved c.put.new.self) item.0 item.1 (h.saved (c.put.ensures.was_kept kept)) (c.in_ok-put.ensures.row kept));
-      opened = λ kept o. c.in_ok-put.ensures.open kept;
+          (one_in (take i items) (x.saved c.args.rows.now) (x.saved c.loop-item.rows) (x.saved c.put.new.self) item.0 item.1 (h.saved (c.put.ensures.answered.call.was_kept kept)) (c.in_ok-put.ensures.row kept));
+      opened = λ kept o. c.in_ok-put.ensures.answered.opened kept;
       version = c.put.ensures.version ∙ h.version;
-      counts = omega (arith, c.put.ensures.counts, h.counts);
-      made = λ m. c.put.ensures.made (h.made m);
-      was_kept = λ kept. h.was_kept (c.put.ensures.was_kept kept);
-      was_open = λ kept o. h.was_open (c.put.ensures.was_kept kept) (c.put.ensures.was_open kept o);
+      counts = omega (arith, c.put.ensures.answered.call.counts, h.counts);
+      made = λ m. c.put.ensures.answered.call.stay_made (h.made m);
+      was_kept = λ kept. h.was_kept (c.put.ensures.answered.call.was_kept kept);
+      was_open = λ kept o. h.was_open (c.put.ensures.answered.call.was_kept kept) (c.put.ensures.answered.call.was_open kept o);
     })
 
-pub returns-clause-rows : goal.returns-clause-rows
-returns-clause-rows g c kept =
-    subst (λ l. WithAll (g.R.Rows.saved c.args.rows.now) l (g.R.Rows.saved c.loop-item.rows)) (take_all c.loop-item.item-index c.args.items.now c.loop-item-test.false) (c.loop-item.invariant.saved kept)
-
-pub returns-clause-open : goal.returns-clause-open
-returns-clause-open g c = c.loop-item.invariant.opened
-
-pub returns-clause-version : goal.returns-clause-version
-returns-clause-version g c = c.loop-item.invariant.version
-
-pub returns-clause-counts : goal.returns-clause-counts
-returns-clause-counts g c = c.loop-item.invariant.counts
-
-pub returns-clause-made : goal.returns-clause-made
-returns-clause-made g c = c.loop-item.invariant.made
-
-pub returns-clause-was_kept : goal.returns-clause-was_kept
-returns-clause-was_kept g c = c.loop-item.invariant.was_kept
-
-pub returns-clause-was_open : goal.returns-clause-was_open
-returns-clause-was_open g c = c.loop-item.invariant.was_open
+pub returns : goal.returns
+returns g c = record {
+  rows = λ kept.
+      subst (λ l. WithAll (g.R.Rows.saved c.args.rows.now) l (g.R.Rows.saved c.loop-item.rows)) (take_all c.loop-item.item-index c.args.items.now c.loop-item-test.false) (c.loop-item.invariant.saved kept);
+  opened = c.loop-item.invariant.opened;
+  version = c.loop-item.invariant.version;
+  first = λ kept. tt;
+  call = record {
+    cause = tt;
+    counts = c.loop-item.invariant.counts;
+    stay_made = c.loop-item.invariant.made;
+    was_kept = c.loop-item.invariant.was_kept;
+    was_open = c.loop-item.invariant.was_open;
+  };
+}

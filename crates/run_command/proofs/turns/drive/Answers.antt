@@ -14,8 +14,8 @@ use Rattle.run_command.proofs.Lives.{tells_start}
 use Rattle.run_command.proofs.Looking.{follows_same, looks_may}
 use Rattle.run_command.proofs.turns.drive.Goals as goal
 
-pub returns-clause-runs : goal.returns-clause-runs
-returns-clause-runs g c =
+pub returns : goal.returns
+returns g c =
     let doings = g.F.Folders.doings in
     let texts : Texts = c.args.outset.texts in
     let desk = c.new-desk.result in

@@ -2,7 +2,7 @@
 use Rattle.std.proofs.Common.{rules, ◌≡◌, ◌∙◌, false, inl, refl}
 use Rattle.command_ends.specs.declared.end.End.TheVariants as ends
 use Rattle.driver.specs.Driving.{known, post, Anyhow}
-use Rattle.driver.proofs.Driven.{answered, stays}
+use Rattle.driver.proofs.Driven.{answered, drove_kept, stays}
 use Rattle.plant_files.specs.Standing.{Texts}
 use Rattle.run_command.specs.Running.{tells}
 use Rattle.run_command.proofs.Lives.{behind, idle, idle_behind}
@@ -36,10 +36,15 @@ returns-in_default-begin-clause-runs g c =
 pub returns-clause-runs : goal.returns-clause-runs
 returns-clause-runs g c =
     behind c.args.terms.texts g.R.Rows g.R.Settles.is_settled g.N.Wire.passed g.F.Folders.doings c.args.station.now c.drive.new.station c.args.wire.now c.drive.new.wire c.args.folders.now c.begin.new.folders
-    c.drive.new.folders c.drive.result c.begin.ensures.does c.drive.ensures.runs
+    c.drive.new.folders c.drive.result c.begin.ensures.does c.drive.ensures
 
 pub returns-clause-goes_on : goal.returns-clause-goes_on
 returns-clause-goes_on g c = λ done.
     let k = known g.R.Rows g.R.Settles.is_settled g.N.Wire.passed (tells c.args.terms.texts g.F.Folders.doings) in
     let went : c.args.station.now.stopped ≡ false = search rules in
-    stays k (post c.args.station.now c.args.wire.now c.begin.new.folders) (post c.drive.new.station c.drive.new.wire c.drive.new.folders) c.drive.result Anyhow done c.drive.ensures.runs ∙ went
+    stays k (post c.args.station.now c.args.wire.now c.begin.new.folders) (post c.drive.new.station c.drive.new.wire c.drive.new.folders) c.drive.result Anyhow done c.drive.ensures ∙ went
+
+pub returns-clause-was_kept : goal.returns-clause-was_kept
+returns-clause-was_kept g c =
+    let k = known g.R.Rows g.R.Settles.is_settled g.N.Wire.passed (tells c.args.terms.texts g.F.Folders.doings) in
+    drove_kept k (post c.args.station.now c.args.wire.now c.begin.new.folders) (post c.drive.new.station c.drive.new.wire c.drive.new.folders) c.drive.result Anyhow c.drive.ensures

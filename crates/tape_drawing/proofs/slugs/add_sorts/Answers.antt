@@ -1,4 +1,4 @@
-use Rattle.std.proofs.Common.{◌≡◌, ◌+◌, ◌++◌, take, arith}
+use Rattle.std.proofs.Common.{◌≡◌, ◌∙◌, ◌+◌, ◌++◌, take, arith}
 use Rattle.std.specs.Prelude.{sum_by}
 use Rattle.line_check.specs.Slugs.{sort_width}
 use Rattle.tape_drawing.specs.Shapes.{text_of}
@@ -13,7 +13,7 @@ loop-sort-preserved c =
     let i = c.loop-sort.sort-index in
     let sort = c.sort-item.result in
     let was = c.loop-sort.invariant in
-    let width = c.width_of-width.ensures.value in
+    let width = c.from-width.ensures ∙ c.width_of.ensures in
     let here = c.args.left + sum_by sort_width (take i sorts) in
     let put : c.add_sort.new.text.items ≡ c.loop-sort.text.items ++ text_of (sort_shapes sort (stretch bed.measure bed.top here (sort_width sort))) = rw (was.from, width) at c.in_ok-add_sort.ensures in
     record {

@@ -7,52 +7,41 @@ use Rattle.acceptor_store.specs.Opening.{IsReasonToRefuse}
 use Rattle.acceptor_store.proofs.FaultLemmas.{refused_as_rows}
 use Rattle.acceptor_store.proofs.host_file.SqliteRows+FileStore+FileFrom+T.open_from.Goals as goal
 
-pub returns-in-Ok-rows_in_files-clause-open : goal.returns-in-Ok-rows_in_files-clause-open
-returns-in-Ok-rows_in_files-clause-open g c clean ours = c.in-Ok-rows_in_files.ensures.taken.is_open (clean, ours)
-
-pub returns-in-Ok-rows_in_files-clause-rests : goal.returns-in-Ok-rows_in_files-clause-rests
-returns-in-Ok-rows_in_files-clause-rests g c clean ours = c.in-Ok-rows_in_files.ensures.taken.rests (clean, ours)
-
-pub returns-in-Ok-rows_in_files-clause-fresh : goal.returns-in-Ok-rows_in_files-clause-fresh
-returns-in-Ok-rows_in_files-clause-fresh g c = c.in-Ok-rows_in_files.ensures.taken.fresh
-
-pub returns-in-Ok-rows_in_files-clause-given : goal.returns-in-Ok-rows_in_files-clause-given
-returns-in-Ok-rows_in_files-clause-given g c = c.in-Ok-rows_in_files.ensures.taken.agrees
-
-pub returns-in-Ok-rows_in_files-clause-unstopped : goal.returns-in-Ok-rows_in_files-clause-unstopped
-returns-in-Ok-rows_in_files-clause-unstopped g c = c.in-Ok-rows_in_files.ensures.taken.unstopped
+pub returns-in-Ok-rows_in_files-clause-taken : goal.returns-in-Ok-rows_in_files-clause-taken
+returns-in-Ok-rows_in_files-clause-taken g c =
+    let is = c.in-Ok-rows_in_files.ensures.given in
+    let was = c.in-Ok.conn in
+    record {
+      is_open = λ clean ours. is.is_open (clean, ours);
+      rests = λ clean ours. is.rests (clean, ours);
+      made = record {
+        was = was;
+        opened = λ clean. c.in-Ok.ensures.opened (omega (arith, clean, is.clean));
+        found = λ clean. c.in-Ok.ensures.found (omega (arith, clean, is.clean));
+        ours = is.ours;
+      };
+      rows = λ clean ours.
+          let early : HasCleanDisk (file_state was) = omega (arith, clean, is.clean) in
+          record {
+            was = was;
+            opened = c.in-Ok.ensures.opened early;
+            found = c.in-Ok.ensures.found early;
+            tables = is.tables (clean, ours);
+            unwritten = is.unwritten (clean, ours);
+            crash = is.crash (clean, ours);
+            same = is.same (clean, ours);
+            station = is.stored (clean, ours);
+            fresh = is.fresh;
+          };
+      agrees = is.agrees;
+      fresh = is.fresh;
+      unstopped = is.unstopped;
+    }
 
 pub returns-in-Err-clause-left : goal.returns-in-Err-clause-left
 returns-in-Err-clause-left g c =
     IfSome_then _ {Q = λ left. (files : _) × IsFresh true files.log × IsFresh false files.db × (IsCleanLeft left → LeavesFiles files left)} c.in-Err.ensures.cause
     (λ left why. (why.0, why.1, why.2, λ clean. (why.3 clean).1))
-
-pub returns-in-Ok-rows_in_files-clause-made : goal.returns-in-Ok-rows_in_files-clause-made
-returns-in-Ok-rows_in_files-clause-made g c =
-    let is = c.in-Ok-rows_in_files.ensures.taken in
-    record {
-      was = c.in-Ok.conn;
-      opened = λ clean. c.in-Ok.ensures.opened (omega (arith, clean, is.clean));
-      found = λ clean. c.in-Ok.ensures.found (omega (arith, clean, is.clean));
-      ours = is.ours;
-    }
-
-pub returns-in-Ok-rows_in_files-clause-rows : goal.returns-in-Ok-rows_in_files-clause-rows
-returns-in-Ok-rows_in_files-clause-rows g c clean ours =
-    let is = c.in-Ok-rows_in_files.ensures.taken in
-    let was = c.in-Ok.conn in
-    let early : HasCleanDisk (file_state was) = omega (arith, clean, is.clean) in
-    record {
-      was = was;
-      opened = c.in-Ok.ensures.opened early;
-      found = c.in-Ok.ensures.found early;
-      tables = is.tables (clean, ours);
-      unwritten = is.unwritten (clean, ours);
-      crash = is.crash (clean, ours);
-      same = is.same (clean, ours);
-      station = is.stored (clean, ours);
-      fresh = is.fresh;
-    }
 
 pub returns-in-Err-rows_in_files-clause-refuses : goal.returns-in-Err-rows_in_files-clause-refuses
 returns-in-Err-rows_in_files-clause-refuses g c =

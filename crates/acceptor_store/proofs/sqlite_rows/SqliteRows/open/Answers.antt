@@ -17,27 +17,43 @@ invariant_of-result g c running ours =
     taken_stands g.S.Store old new layout c.in-Ok-take_up.taken.1 tables c.schema.ensures.live (λ clean. c.in-Ok-take_up.ensures.holds clean layout tables)
     (λ clean. c.in-Ok-take_up.ensures.serves clean layout tables alone (c.is_autocommit.ensures.settled free)) (λ clean. c.in-Ok-take_up.ensures.unchanged clean layout tables)
 
-pub returns-in-Ok-take_up-clause-crash : goal.returns-in-Ok-take_up-clause-crash
-returns-in-Ok-take_up-clause-crash g c kept =
-    let layout = layout_of c.in-Ok-take_up.taken.0 in
-    let tables : (state g.S.Store c.args.conn).now.schema ≡ layout_schema layout = search rules in
-    c.take_up.ensures.leaves kept.0 layout tables
+pub returns-in-Ok-take_up-clause-taken : goal.returns-in-Ok-take_up-clause-taken
+returns-in-Ok-take_up-clause-taken g c = record {
+  is_open = search rules;
+  rests = λ kept.
+      let old = c.args.conn in
+      let new = c.take_up.new.conn in
+      let layout = layout_of c.in-Ok-take_up.taken.0 in
+      let tables : (state g.S.Store old).now.schema ≡ layout_schema layout = search rules in
+      let free : IsTrue c.is_autocommit.result = search rules in
+      let alone : old.in_transaction ≡ false = search rules in
+      let law : IsSettled (state g.S.Store new) = λ db. g.met.S.Store.settled new.store db in
+      let stands =
+      taken_stands g.S.Store old new layout c.in-Ok-take_up.taken.1 tables c.schema.ensures.live (λ clean. c.in-Ok-take_up.ensures.holds clean layout tables)
+      (λ clean. c.in-Ok-take_up.ensures.serves clean layout tables alone (c.is_autocommit.ensures.settled free)) (λ clean. c.in-Ok-take_up.ensures.unchanged clean layout tables) in
+      rests g.S.Store _ law stands kept (c.in-Ok-take_up.ensures.unchanged kept.0 layout tables).0.is_open;
+  same = search rules;
+  unwritten = search rules;
+  agrees = search rules;
+  stored = search rules;
+  tables = search rules;
+  fresh = search rules;
+  unstopped = search rules;
+  clean = search rules;
+  crash = λ kept.
+      let layout = layout_of c.in-Ok-take_up.taken.0 in
+      let tables : (state g.S.Store c.args.conn).now.schema ≡ layout_schema layout = search rules in
+      c.take_up.ensures.leaves kept.0 layout tables;
+  ours = search rules;
+  kept = search rules;
+}
 
-pub returns-in-Err-take_up-clause-unchanged : goal.returns-in-Err-take_up-clause-unchanged
-returns-in-Err-take_up-clause-unchanged g c clean layout laid opened =
-    let free : IsTrue c.is_autocommit.result = search rules in
-    (c.take_up.ensures.kept clean layout laid (c.is_autocommit.ensures.settled free) opened).same
-
-pub returns-in-Ok-take_up-clause-rests : goal.returns-in-Ok-take_up-clause-rests
-returns-in-Ok-take_up-clause-rests g c kept =
-    let old = c.args.conn in
-    let new = c.take_up.new.conn in
-    let layout = layout_of c.in-Ok-take_up.taken.0 in
-    let tables : (state g.S.Store old).now.schema ≡ layout_schema layout = search rules in
-    let free : IsTrue c.is_autocommit.result = search rules in
-    let alone : old.in_transaction ≡ false = search rules in
-    let law : IsSettled (state g.S.Store new) = λ db. g.met.S.Store.settled new.store db in
-    let stands =
-    taken_stands g.S.Store old new layout c.in-Ok-take_up.taken.1 tables c.schema.ensures.live (λ clean. c.in-Ok-take_up.ensures.holds clean layout tables)
-    (λ clean. c.in-Ok-take_up.ensures.serves clean layout tables alone (c.is_autocommit.ensures.settled free)) (λ clean. c.in-Ok-take_up.ensures.unchanged clean layout tables) in
-    rests g.S.Store _ law stands kept (c.in-Ok-take_up.ensures.unchanged kept.0 layout tables).0.is_open
+pub returns-in-Err-take_up-clause-refused : goal.returns-in-Err-take_up-clause-refused
+returns-in-Err-take_up-clause-refused g c = record {
+  refuses = search rules;
+  unwritten = λ clean layout laid opened.
+      let free : IsTrue c.is_autocommit.result = search rules in
+      (c.take_up.ensures.kept clean layout laid (c.is_autocommit.ensures.settled free) opened).same;
+  crash = search rules;
+  clean = search rules;
+}

@@ -20,8 +20,8 @@ returns-in-Ok-clause-crash_station g c = rw (← c.self.view_is) (λ kept opened
     let old = state g.S.Store c.self.inside.conn in
     let new = state g.S.Store c.save.new.conn in
     subst (λ (l : Layout). IsOfStation l c.self.inside.identity left) is
-    (left_station (layout_of c.layout_now-layout.result) c.self.inside.identity old.now.trees left c.args.number c.args.row.now c.requires.promise c.save.ensures.low c.save.ensures.high
-    (stands.holds (was_clean old new c.save.ensures.clean kept.0) opened) (c.save.ensures.crash stands.serves kept.0 opened left may)))
+    (left_station (layout_of c.layout_now-layout.result) c.self.inside.identity old.now.trees left c.args.number c.args.row.now c.requires.promise c.save.ensures.number.0 c.save.ensures.number.1
+    (stands.holds (was_clean old new c.save.ensures.saves.clean kept.0) opened) (c.save.ensures.saves.crash stands.serves kept.0 opened left may)))
 
 pub returns-in-Err-clause-crash_station : goal.returns-in-Err-clause-crash_station
 returns-in-Err-clause-crash_station g c = rw (← c.self.view_is) (λ kept opened running left may.
@@ -33,8 +33,8 @@ returns-in-Err-clause-crash_station g c = rw (← c.self.view_is) (λ kept opene
     let old = state g.S.Store c.self.inside.conn in
     let new = state g.S.Store c.save.new.conn in
     subst (λ (l : Layout). IsOfStation l c.self.inside.identity left) is
-    (left_station (layout_of c.layout_now-layout.result) c.self.inside.identity old.now.trees left c.args.number c.args.row.now c.requires.promise c.save.ensures.low c.save.ensures.high
-    (stands.holds (was_clean old new c.save.ensures.clean kept.0) opened) (c.save.ensures.crash stands.serves kept.0 opened left may)))
+    (left_station (layout_of c.layout_now-layout.result) c.self.inside.identity old.now.trees left c.args.number c.args.row.now c.requires.promise c.save.ensures.number.0 c.save.ensures.number.1
+    (stands.holds (was_clean old new c.save.ensures.saves.clean kept.0) opened) (c.save.ensures.saves.crash stands.serves kept.0 opened left may)))
 
 pub returns-in-Err-clause-either : goal.returns-in-Err-clause-either
 returns-in-Err-clause-either g c = rw (← c.self.view_is) (λ kept.
@@ -47,7 +47,7 @@ returns-in-Err-clause-either g c = rw (← c.self.view_is) (λ kept.
     let old = state g.S.Store c.self.inside.conn in
     let new = state g.S.Store c.save.new.conn in
     elim (cases_Bool new.is_open) [
-      | inl opened ↦ inr (inl (same_rows layout old new (c.in-Err.ensures.err stands.serves kept.0 opened).same))
+      | inl opened ↦ inr (inl (same_rows layout old new (c.in-Err.ensures.saves.err stands.serves kept.0 opened).same))
       | inr shut ↦ inl (λ opened. true≢false (sym opened ∙ shut))
     ])
 
@@ -60,7 +60,7 @@ returns-in-Err-clause-crash_err g c = rw (← c.self.view_is) (λ kept opened ru
     subst (λ (l : Layout). Stands g.S.Store l c.self.inside.conn c.self.inside.identity) (sym is) stood in
     let old = state g.S.Store c.self.inside.conn in
     let new = state g.S.Store c.save.new.conn in
-    elim (c.save.ensures.crash stands.serves kept.0 opened may.0 may.1) [
+    elim (c.save.ensures.saves.crash stands.serves kept.0 opened may.0 may.1) [
       | inl same ↦ inl (λ n. ap (λ m. m n) may.2 ∙ ap (λ t. saved_in layout t n) same)
       | inr by ↦ inr (λ n. ap (λ m. m n) may.2
           ∙ subst (λ (l : Layout). WithRow (saved_in l old.now.trees) c.args.number c.args.row.now (saved_in l may.0)) is
@@ -75,5 +75,5 @@ invariant_of-self-in-Ok g c running ours =
     let stands : Stands g.S.Store (layout_of c.layout_now-layout.result) c.self.inside.conn c.self.inside.identity =
     subst (λ (l : Layout). Stands g.S.Store l c.self.inside.conn c.self.inside.identity) (sym is) stood in
     subst (λ (l : Layout). Stands g.S.Store l c.save.new.conn c.self.inside.identity) is
-    (stands_saved g.S.Store c.self.inside.conn c.save.new.conn c.save.ensures.clean (layout_of c.layout_now-layout.result) c.self.inside.identity stands c.args.number c.args.row.now c.requires.promise
-    c.save.ensures.low c.save.ensures.high c.in-Ok.ensures.back c.save.ensures.serves c.in-Ok.ensures.saved)
+    (stands_saved g.S.Store c.self.inside.conn c.save.new.conn c.save.ensures.saves.clean (layout_of c.layout_now-layout.result) c.self.inside.identity stands c.args.number c.args.row.now c.requires.promise
+    c.save.ensures.number.0 c.save.ensures.number.1 c.in-Ok.ensures.saves.back c.save.ensures.saves.serves c.in-Ok.ensures.saves.saved)

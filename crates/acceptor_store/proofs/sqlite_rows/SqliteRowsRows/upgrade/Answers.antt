@@ -38,35 +38,47 @@ returns-in-Ok-clause-same g c = rw (← c.self.view_is) (λ kept opened.
     subst (λ (l : Layout). SameRows (saved_in layout old.now.trees) (saved_in l new.now.trees)) leads went.same in
     same)
 
-pub returns-in-Ok-clause-open : goal.returns-in-Ok-clause-open
-returns-in-Ok-clause-open g c = (λ kept.
-    let running : c.self.inside.stopped ≡ false = search rules in
-    let layout = layout_now (layout_of c.self.inside.was) c.self.inside.upgraded in
-    let stood : Stands g.S.Store layout c.self.inside.conn c.self.inside.identity = c.self.invariant running kept.1 in
-    let is : layout_of c.layout_now-layout.result ≡ layout = c.layout_now-layout.ensures in
-    let stands : Stands g.S.Store (layout_of c.layout_now-layout.result) c.self.inside.conn c.self.inside.identity =
-    subst (λ (l : Layout). Stands g.S.Store l c.self.inside.conn c.self.inside.identity) (sym is) stood in
-    let old = state g.S.Store c.self.inside.conn in
-    let new = state g.S.Store c.go_over.new.conn in
-    let went : WentOver g.S.Store layout c.self.inside.identity c.self.inside.conn c.go_over.new.conn =
-    subst (λ (l : Layout). WentOver g.S.Store l c.self.inside.identity c.self.inside.conn c.go_over.new.conn) is (c.in-Ok.ensures.over c.self.inside.identity stands kept.0) in
-    let leads : layout_now layout true ≡ layout_now (layout_of c.self.inside.was) true = once_over (layout_of c.self.inside.was) c.self.inside.upgraded in
-    went.is_open)
-
-pub returns-in-Ok-clause-was_open : goal.returns-in-Ok-clause-was_open
-returns-in-Ok-clause-was_open g c = rw (← c.self.view_is) (λ kept opened.
-    let running : c.self.inside.stopped ≡ false = search rules in
-    let layout = layout_now (layout_of c.self.inside.was) c.self.inside.upgraded in
-    let stood : Stands g.S.Store layout c.self.inside.conn c.self.inside.identity = c.self.invariant running kept.1 in
-    let is : layout_of c.layout_now-layout.result ≡ layout = c.layout_now-layout.ensures in
-    let stands : Stands g.S.Store (layout_of c.layout_now-layout.result) c.self.inside.conn c.self.inside.identity =
-    subst (λ (l : Layout). Stands g.S.Store l c.self.inside.conn c.self.inside.identity) (sym is) stood in
-    let old = state g.S.Store c.self.inside.conn in
-    let new = state g.S.Store c.go_over.new.conn in
-    let went : WentOver g.S.Store layout c.self.inside.identity c.self.inside.conn c.go_over.new.conn =
-    subst (λ (l : Layout). WentOver g.S.Store l c.self.inside.identity c.self.inside.conn c.go_over.new.conn) is (c.in-Ok.ensures.over c.self.inside.identity stands kept.0) in
-    let leads : layout_now layout true ≡ layout_now (layout_of c.self.inside.was) true = once_over (layout_of c.self.inside.was) c.self.inside.upgraded in
-    went.was_open)
+pub returns-in-Ok-clause-call : goal.returns-in-Ok-clause-call
+returns-in-Ok-clause-call g c = record {
+  answered = record {
+    call = record {
+      cause = search rules;
+      counts = search rules;
+      stay_made = search rules;
+      was_kept = search rules;
+      was_open = rw (← c.self.view_is) (λ kept opened.
+          let running : c.self.inside.stopped ≡ false = search rules in
+          let layout = layout_now (layout_of c.self.inside.was) c.self.inside.upgraded in
+          let stood : Stands g.S.Store layout c.self.inside.conn c.self.inside.identity = c.self.invariant running kept.1 in
+          let is : layout_of c.layout_now-layout.result ≡ layout = c.layout_now-layout.ensures in
+          let stands : Stands g.S.Store (layout_of c.layout_now-layout.result) c.self.inside.conn c.self.inside.identity =
+          subst (λ (l : Layout). Stands g.S.Store l c.self.inside.conn c.self.inside.identity) (sym is) stood in
+          let old = state g.S.Store c.self.inside.conn in
+          let new = state g.S.Store c.go_over.new.conn in
+          let went : WentOver g.S.Store layout c.self.inside.identity c.self.inside.conn c.go_over.new.conn =
+          subst (λ (l : Layout). WentOver g.S.Store l c.self.inside.identity c.self.inside.conn c.go_over.new.conn) is (c.in-Ok.ensures.over c.self.inside.identity stands kept.0) in
+          let leads : layout_now layout true ≡ layout_now (layout_of c.self.inside.was) true = once_over (layout_of c.self.inside.was) c.self.inside.upgraded in
+          went.was_open);
+    };
+    opened = (λ kept.
+        let running : c.self.inside.stopped ≡ false = search rules in
+        let layout = layout_now (layout_of c.self.inside.was) c.self.inside.upgraded in
+        let stood : Stands g.S.Store layout c.self.inside.conn c.self.inside.identity = c.self.invariant running kept.1 in
+        let is : layout_of c.layout_now-layout.result ≡ layout = c.layout_now-layout.ensures in
+        let stands : Stands g.S.Store (layout_of c.layout_now-layout.result) c.self.inside.conn c.self.inside.identity =
+        subst (λ (l : Layout). Stands g.S.Store l c.self.inside.conn c.self.inside.identity) (sym is) stood in
+        let old = state g.S.Store c.self.inside.conn in
+        let new = state g.S.Store c.go_over.new.conn in
+        let went : WentOver g.S.Store layout c.self.inside.identity c.self.inside.conn c.go_over.new.conn =
+        subst (λ (l : Layout). WentOver g.S.Store l c.self.inside.identity c.self.inside.conn c.go_over.new.conn) is (c.in-Ok.ensures.over c.self.inside.identity stands kept.0) in
+        let leads : layout_now layout true ≡ layout_now (layout_of c.self.inside.was) true = once_over (layout_of c.self.inside.was) c.self.inside.upgraded in
+        went.is_open);
+    blames = tt;
+  };
+  stopped = search rules;
+  ours = search rules;
+  station = search rules;
+}
 
 pub returns-in-Ok-clause-crash_ok : goal.returns-in-Ok-clause-crash_ok
 returns-in-Ok-clause-crash_ok g c = rw (← c.self.view_is) (λ kept left may.
@@ -113,35 +125,15 @@ returns-in-Err-clause-same g c = rw (← c.self.view_is) (λ kept opened.
     let new = state g.S.Store c.go_over.new.conn in
     same_rows layout old new (c.in-Err.ensures.kept c.self.inside.identity stands kept.0 opened).same)
 
-pub returns-in-Err-clause-was_open : goal.returns-in-Err-clause-was_open
-returns-in-Err-clause-was_open g c = rw (← c.self.view_is) (λ kept opened.
-    let running : c.self.inside.stopped ≡ false = search rules in
-    let layout = layout_now (layout_of c.self.inside.was) c.self.inside.upgraded in
-    let stood : Stands g.S.Store layout c.self.inside.conn c.self.inside.identity = c.self.invariant running kept.1 in
-    let is : layout_of c.layout_now-layout.result ≡ layout = c.layout_now-layout.ensures in
-    let stands : Stands g.S.Store (layout_of c.layout_now-layout.result) c.self.inside.conn c.self.inside.identity =
-    subst (λ (l : Layout). Stands g.S.Store l c.self.inside.conn c.self.inside.identity) (sym is) stood in
-    let old = state g.S.Store c.self.inside.conn in
-    let new = state g.S.Store c.go_over.new.conn in
-    (c.in-Err.ensures.kept c.self.inside.identity stands kept.0 opened).was_open)
-
-pub returns-in-Err-clause-undamaged : goal.returns-in-Err-clause-undamaged
-returns-in-Err-clause-undamaged g c = (λ kept.
-    let running : c.self.inside.stopped ≡ false = search rules in
-    let layout = layout_now (layout_of c.self.inside.was) c.self.inside.upgraded in
-    let stood : Stands g.S.Store layout c.self.inside.conn c.self.inside.identity = c.self.invariant running kept.1 in
-    let is : layout_of c.layout_now-layout.result ≡ layout = c.layout_now-layout.ensures in
-    let stands : Stands g.S.Store (layout_of c.layout_now-layout.result) c.self.inside.conn c.self.inside.identity =
-    subst (λ (l : Layout). Stands g.S.Store l c.self.inside.conn c.self.inside.identity) (sym is) stood in
-    let old = state g.S.Store c.self.inside.conn in
-    let new = state g.S.Store c.go_over.new.conn in
-    c.in-Err.ensures.refusal c.self.inside.identity stands kept.0)
-
-pub returns-in-Err-clause-blames : goal.returns-in-Err-clause-blames
-returns-in-Err-clause-blames g c = rw (← c.self.view_is) (
-    let still : c.self.inside.stopped ≡ false = search rules in (
-      λ stopped. absurd (true≢false (sym stopped ∙ still)),
-      λ kept.
+pub returns-in-Err-clause-call : goal.returns-in-Err-clause-call
+returns-in-Err-clause-call g c = record {
+  answered = record {
+    call = record {
+      cause = search rules;
+      counts = search rules;
+      stay_made = search rules;
+      was_kept = search rules;
+      was_open = rw (← c.self.view_is) (λ kept opened.
           let running : c.self.inside.stopped ≡ false = search rules in
           let layout = layout_now (layout_of c.self.inside.was) c.self.inside.upgraded in
           let stood : Stands g.S.Store layout c.self.inside.conn c.self.inside.identity = c.self.invariant running kept.1 in
@@ -150,5 +142,25 @@ returns-in-Err-clause-blames g c = rw (← c.self.view_is) (
           subst (λ (l : Layout). Stands g.S.Store l c.self.inside.conn c.self.inside.identity) (sym is) stood in
           let old = state g.S.Store c.self.inside.conn in
           let new = state g.S.Store c.go_over.new.conn in
-          c.in-Err.ensures.refusal c.self.inside.identity stands kept.0,
-    ))
+          (c.in-Err.ensures.kept c.self.inside.identity stands kept.0 opened).was_open);
+    };
+    opened = search rules;
+    blames = rw (← c.self.view_is) (
+        let still : c.self.inside.stopped ≡ false = search rules in (
+          λ stopped. absurd (true≢false (sym stopped ∙ still)),
+          λ kept.
+              let running : c.self.inside.stopped ≡ false = search rules in
+              let layout = layout_now (layout_of c.self.inside.was) c.self.inside.upgraded in
+              let stood : Stands g.S.Store layout c.self.inside.conn c.self.inside.identity = c.self.invariant running kept.1 in
+              let is : layout_of c.layout_now-layout.result ≡ layout = c.layout_now-layout.ensures in
+              let stands : Stands g.S.Store (layout_of c.layout_now-layout.result) c.self.inside.conn c.self.inside.identity =
+              subst (λ (l : Layout). Stands g.S.Store l c.self.inside.conn c.self.inside.identity) (sym is) stood in
+              let old = state g.S.Store c.self.inside.conn in
+              let new = state g.S.Store c.go_over.new.conn in
+              c.in-Err.ensures.refusal c.self.inside.identity stands kept.0,
+        ));
+  };
+  stopped = search rules;
+  ours = search rules;
+  station = search rules;
+}

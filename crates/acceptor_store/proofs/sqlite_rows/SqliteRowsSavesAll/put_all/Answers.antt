@@ -24,19 +24,31 @@ invariant_of-self-in-Ok g c running ours =
     (stands_each g.S.Store c.self.inside.conn c.save_all.new.conn c.save_all.ensures.clean (layout_of c.layout_now-layout.result) c.self.inside.identity items stands
     c.save_all.ensures.serves c.in-Ok.ensures.saved)
 
-pub returns-in-Ok-clause-rows : goal.returns-in-Ok-clause-rows
-returns-in-Ok-clause-rows g c = rw (← c.self.view_is) (λ kept n.
-    let running : c.self.inside.stopped ≡ false = search rules in
-    let layout = layout_now (layout_of c.self.inside.was) c.self.inside.upgraded in
-    let stood : Stands g.S.Store layout c.self.inside.conn c.self.inside.identity = c.self.invariant running kept.1 in
-    let is : layout_of c.layout_now-layout.result ≡ layout = c.layout_now-layout.ensures in
-    let stands : Stands g.S.Store (layout_of c.layout_now-layout.result) c.self.inside.conn c.self.inside.identity =
-    subst (λ (l : Layout). Stands g.S.Store l c.self.inside.conn c.self.inside.identity) (sym is) stood in
-    let old = state g.S.Store c.self.inside.conn in
-    let new = state g.S.Store c.save_all.new.conn in
-    let items = c.args.items.now in
-    subst (λ (l : Layout). WithAll (saved_in l old.now.trees) items (saved_in l new.now.trees)) is
-    (each_saved (layout_of c.layout_now-layout.result) items old.now.trees new.now.trees (c.in-Ok.ensures.saved stands.serves kept.0).puts) n)
+pub returns-in-Ok-clause-puts : goal.returns-in-Ok-clause-puts
+returns-in-Ok-clause-puts g c = record {
+  rows = rw (← c.self.view_is) (λ kept n.
+      let running : c.self.inside.stopped ≡ false = search rules in
+      let layout = layout_now (layout_of c.self.inside.was) c.self.inside.upgraded in
+      let stood : Stands g.S.Store layout c.self.inside.conn c.self.inside.identity = c.self.invariant running kept.1 in
+      let is : layout_of c.layout_now-layout.result ≡ layout = c.layout_now-layout.ensures in
+      let stands : Stands g.S.Store (layout_of c.layout_now-layout.result) c.self.inside.conn c.self.inside.identity =
+      subst (λ (l : Layout). Stands g.S.Store l c.self.inside.conn c.self.inside.identity) (sym is) stood in
+      let old = state g.S.Store c.self.inside.conn in
+      let new = state g.S.Store c.save_all.new.conn in
+      let items = c.args.items.now in
+      subst (λ (l : Layout). WithAll (saved_in l old.now.trees) items (saved_in l new.now.trees)) is
+      (each_saved (layout_of c.layout_now-layout.result) items old.now.trees new.now.trees (c.in-Ok.ensures.saved stands.serves kept.0).puts) n);
+  opened = search rules;
+  version = search rules;
+  first = λ kept. tt;
+  call = record {
+    cause = search rules;
+    counts = search rules;
+    stay_made = search rules;
+    was_kept = search rules;
+    was_open = search rules;
+  };
+}
 
 pub returns-in-Ok-clause-stores : goal.returns-in-Ok-clause-stores
 returns-in-Ok-clause-stores g c = rw (← c.self.view_is) (λ kept left may n.
@@ -128,5 +140,17 @@ returns-in-Err-clause-all_or_none g c = rw (← c.self.view_is) (λ kept.
       | inr shut ↦ inl (λ opened. true≢false (sym opened ∙ shut))
     ])
 
-pub returns-in-Err-clause-first : goal.returns-in-Err-clause-first
-returns-in-Err-clause-first g c kept = some_left c.args.items.now _ _ (returns-in-Err-clause-all_or_none g c kept)
+pub returns-in-Err-clause-puts : goal.returns-in-Err-clause-puts
+returns-in-Err-clause-puts g c = record {
+  rows = λ kept. tt;
+  opened = λ kept was_open. tt;
+  version = search rules;
+  first = λ kept. some_left c.args.items.now _ _ (returns-in-Err-clause-all_or_none g c kept);
+  call = record {
+    cause = search rules;
+    counts = search rules;
+    stay_made = search rules;
+    was_kept = search rules;
+    was_open = search rules;
+  };
+}

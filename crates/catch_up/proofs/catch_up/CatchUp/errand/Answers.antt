@@ -1,16 +1,20 @@
 -- What comes first for others, and what comes of the plant's own where nothing does.
-use Rattle.std.proofs.Common.{◌≡◌, true, false, Option, IfSome, inl, inr, refl, sym, ap, subst}
+use Rattle.std.proofs.Common.{rules, ◌≡◌, true, false, Option, IfSome, inl, inr, refl, sym, ap, subst}
 use Rattle.catch_up.specs.declared.errand.Errand.{Errand}
 use Rattle.catch_up.specs.CatchUp.{CatchUpValue, AreFirst, IsFirstForOthers, IsOwnErrand, IsOwnNext}
 use Rattle.catch_up.proofs.catch_up.CatchUp.errand.Goals as goal
 
-pub returns-in-Some-clause-next : goal.returns-in-Some-clause-next
-returns-in-Some-clause-next c =
+pub returns-in-Some : goal.returns-in-Some
+returns-in-Some c =
     let first = subst (λ (e : Option Errand). IsFirstForOthers c.args.self.now c.first_for_others.new.self c.args.now e) c.in-Some.is c.in_ok-errand.ensures.errand in
-    inr (c.args.self.now, c.first_for_others.new.self, inl (first.0, refl), first.1, ap (λ (v : CatchUpValue). record v { others_first = false }) c.self.view_is)
+    record {
+      next = inr (c.args.self.now, c.first_for_others.new.self, inl (first.0, refl), first.1, ap (λ (v : CatchUpValue). record v { others_first = false }) c.self.view_is);
+      calm = search rules;
+      stays = search rules;
+    }
 
-pub returns-in-Some-2-clause-next : goal.returns-in-Some-2-clause-next
-returns-in-Some-2-clause-next c =
+pub returns-in-Some-2 : goal.returns-in-Some-2
+returns-in-Some-2 c =
     let mid = c.first_for_others.new.self in
     let after = c.own_errand.new.self in
     let errand = c.in-Some-2.errand in
@@ -20,4 +24,8 @@ returns-in-Some-2-clause-next c =
     let first = subst (λ (v : CatchUpValue). ¬ AreFirst v c.args.now) (sym none.1) none.0 in
     let next : IsOwnNext mid (record after { others_first = true }) c.args.now errand = (after, asks, first, own, c.own_errand.ensures.keeps, refl) in
     let here = subst (λ (v : CatchUpValue). IsOwnNext v (record after { others_first = true }) c.args.now errand) none.1 next in
-    inl (subst (λ (v : CatchUpValue). IsOwnNext c.args.self.now v c.args.now errand) (sym (ap (λ (v : CatchUpValue). record v { others_first = true }) c.self-2.view_is)) here)
+    record {
+      next = inl (subst (λ (v : CatchUpValue). IsOwnNext c.args.self.now v c.args.now errand) (sym (ap (λ (v : CatchUpValue). record v { others_first = true }) c.self-2.view_is)) here);
+      calm = search rules;
+      stays = search rules;
+    }

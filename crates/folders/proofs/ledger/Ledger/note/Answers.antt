@@ -8,8 +8,8 @@ use Rattle.gone_out.specs.Numbers.{has}
 use Rattle.folders.proofs.Among.{among_more}
 use Rattle.folders.proofs.ledger.Ledger.note.Goals as goal
 
-pub returns-in_err-note_one-clause-kept : goal.returns-in_err-note_one-clause-kept
-returns-in_err-note_one-clause-kept c = λ o bytes but. c.in_err-note_one.ensures.kept o bytes (c.loop-number.invariant.kept o bytes but)
+pub returns-in_err-note_one : goal.returns-in_err-note_one
+returns-in_err-note_one c = record { known = search rules; kept = λ o bytes but. c.in_err-note_one.ensures.kept o bytes (c.loop-number.invariant.kept o bytes but) }
 
 pub loop-number-preserved : goal.loop-number-preserved
 loop-number-preserved c =
@@ -40,8 +40,13 @@ loop-number-preserved c =
       kept = λ o bytes but. c.in_ok-note_one.ensures.kept o bytes (c.loop-number.invariant.kept o bytes but);
     }
 
-pub returns-clause-known : goal.returns-clause-known
-returns-clause-known c = λ n.
+pub returns : goal.returns
+returns c =
     let ns = c.args.numbers.now in
     let past : length ns ≤ c.loop-number.number-index = search rules in
-    subst (λ (l : List ℕ). IsTrue (has c.loop-number.self.numbers n) ↔ (IsTrue (has c.args.self.now.numbers n) ⊎ IsAmong l n)) (take_all c.loop-number.number-index ns past) (c.loop-number.invariant.known n)
+    record {
+      known = λ n.
+          subst (λ (l : List ℕ). IsTrue (has c.loop-number.self.numbers n) ↔ (IsTrue (has c.args.self.now.numbers n) ⊎ IsAmong l n)) (take_all c.loop-number.number-index ns past)
+          (c.loop-number.invariant.known n);
+      kept = c.loop-number.invariant.kept;
+    }

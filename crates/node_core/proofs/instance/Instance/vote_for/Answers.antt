@@ -1,7 +1,18 @@
+use Rattle.std.proofs.Common.{rules}
 use Rattle.node_core.proofs.instance.Instance.vote_for.Goals as goal
 
-pub returns-in_err-release-clause-of : goal.returns-in_err-release-clause-of
-returns-in_err-release-clause-of c = c.hear.ensures.of c.args.seat c.requires.of
+pub returns-in_err-release : goal.returns-in_err-release
+returns-in_err-release c = record {
+  turn = search rules;
+  orderly = search rules;
+  of = c.hear.ensures.of c.args.seat c.requires.of;
+  number = search rules;
+}
 
-pub returns-clause-of : goal.returns-clause-of
-returns-clause-of c = c.hear.ensures.of c.args.seat c.requires.of
+pub returns : goal.returns
+returns c = record {
+  turn = search rules;
+  orderly = search rules;
+  of = c.hear.ensures.of c.args.seat c.requires.of;
+  number = search rules;
+}

@@ -1,4 +1,4 @@
-use Rattle.std.proofs.Common.{◌≡◌, true, false, refl, sym, ◌∙◌}
+use Rattle.std.proofs.Common.{rules, ◌≡◌, true, false, refl, sym, ◌∙◌}
 use Rattle.offers.specs.Rules.{is_under_way}
 use Rattle.offers.proofs.Asking.{asked_apart, asked_few, held_if, alone_if_asked, may_if, alone_if}
 use Rattle.offers.proofs.Marking.{asked_marked, has_room, many_asked}
@@ -27,11 +27,17 @@ invariant_of-self c =
       idle = λ none. absurd (left (sym asks ∙ none));
     }
 
-pub returns-clause-rules : goal.returns-clause-rules
-returns-clause-rules c =
-    let same : c.args.self.now.window ≡ c.self.inside.known.window = rw (sym c.self.view_is) refl in
-    rw c.ask_if.ensures
-    (may_if c.args.self.now c.args.index c.args.request c.take_off-found.result c.requires.first c.requires.request (λ found. rw same (c.take_off-found.ensures.room.0 found)))
+pub returns : goal.returns
+returns c =
+    let window : c.args.self.now.window ≡ c.self.inside.known.window = rw (sym c.self.view_is) refl in
+    record {
+      rules = rw c.ask_if.ensures
+          (may_if c.args.self.now c.args.index c.args.request c.take_off-found.result c.requires.first c.requires.request (λ found. rw window (c.take_off-found.ensures.room.0 found)));
+      kind = search rules;
+      none = search rules;
+      same = search rules;
+      asks = search rules;
+    }
 
 pub remark-requires-clause-room : goal.remark-requires-clause-room
 remark-requires-clause-room c = rw (c.as_slice.ensures.value, c.take_off-found.ensures.files) (has_room _ _ c.self.inside.marks c.self.invariant.marked (many_asked c.args.request c.take_off-found.result c.self.inside.offers.items))

@@ -25,16 +25,15 @@ invariant_of-self c =
       idle = λ e. absurd (left e);
     }
 
-pub mark_all-requires-clause-room : goal.mark_all-requires-clause-room
-mark_all-requires-clause-room c =
-    rw (c.as_slice.ensures.value, c.merge.ensures)
-    (room_for _ c.in_ok-marks.marks _ (few_looked c.from.result.items c.args.now c.args.found.now) c.in_ok-marks.ensures.moves.0 c.in_ok-marks.ensures.others.0 c.in_ok-marks.ensures.sought.0 c.in_ok-marks.ensures.entries.0 c.in_ok-marks.ensures.searches.0)
-
-pub mark_all-requires-clause-none : goal.mark_all-requires-clause-none
-mark_all-requires-clause-none c = record {
-  moves = c.in_ok-marks.ensures.moves.1;
-  others = c.in_ok-marks.ensures.others.1;
-  sought = c.in_ok-marks.ensures.sought.1;
-  entries = c.in_ok-marks.ensures.entries.1;
-  searches = c.in_ok-marks.ensures.searches.1;
+pub mark_all-requires : goal.mark_all-requires
+mark_all-requires c = record {
+  room = rw (c.as_slice.ensures.value, c.merge.ensures)
+      (room_for _ c.in_ok-marks.marks _ (few_looked c.from.result.items c.args.now c.args.found.now) c.in_ok-marks.ensures.moves.0 c.in_ok-marks.ensures.others.0 c.in_ok-marks.ensures.sought.0 c.in_ok-marks.ensures.entries.0 c.in_ok-marks.ensures.searches.0);
+  none = record {
+    moves = c.in_ok-marks.ensures.moves.1;
+    others = c.in_ok-marks.ensures.others.1;
+    sought = c.in_ok-marks.ensures.sought.1;
+    entries = c.in_ok-marks.ensures.entries.1;
+    searches = c.in_ok-marks.ensures.searches.1;
+  };
 }

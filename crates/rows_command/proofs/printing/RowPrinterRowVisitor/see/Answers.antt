@@ -1,7 +1,7 @@
 use Rattle.std.proofs.Common.{rules, ◌≡◌, ◌++◌, true, is_some, Option, None, subst}
 use Rattle.saved_rows.specs.declared.identity.Identity.{Identity}
 use Rattle.streams.specs.Fronts.{AppendsFront}
-use Rattle.rows_command.specs.declared.printing.RowLineFault.{RowLineFault}
+use Rattle.command_ends.specs.declared.fault.PutFault.{PutFault}
 use Rattle.rows_command.specs.RowsText.{row_line}
 use Rattle.rows_command.specs.Printing.{head_text, Prints}
 use Rattle.rows_command.proofs.PrintLemmas.{stopped_next, stopped_after}
@@ -22,7 +22,7 @@ returns-in-Err-clause-saw g c = λ first items saw.
       saw.0,
       saw.1,
       λ fresh.
-          let before = subst (λ (f : Option RowLineFault). Prints first.station old mid it.begun f items) whole (saw.2 fresh) in
+          let before = subst (λ (f : Option PutFault). Prints first.station old mid it.begun f items) whole (saw.2 fresh) in
           stopped_next first.station old mid (g.W.Write.contents c.put_next-put.new.out) items (c.args.number, c.args.row.now) it.begun before
           (subst (λ (i : Identity). AppendsFront mid (g.W.Write.contents c.put_next-put.new.out) (head_text i it.begun ++ row_line (c.args.number, c.args.row.now))) saw.1 line),
     )

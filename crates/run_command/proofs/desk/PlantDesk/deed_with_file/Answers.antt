@@ -38,16 +38,36 @@ returns-in-Some-Read g c =
           (beside it.plant.now.texts doings it.folders.now it.plant.now.waits.items it.plant.now.papers.book chose.book c.next_task.ensures.book) c.read_file.ensures.1,
     )
 
-pub returns-in-None : goal.returns-in-None
-returns-in-None g c =
+pub returns-in-Some-SeeToStray : goal.returns-in-Some-SeeToStray
+returns-in-Some-SeeToStray g c =
     let it = c.args.self.now in
     let doings = g.F.Folders.doings in
     let w = it.plant.now.waits.items in
     let chose = c.next_task.new.self in
-    let new = c.do_other.new.self in
-    let last = c.do_other.new.folders in (
+    let new = c.leave_stray.new.self in
+    let last = c.leave_stray.new.folders in (
       (refl, refl),
       dealt it.plant.now.texts doings it.folders.now last w it.plant.now.papers.book new.book
           (deals_from it.plant.now.texts (doings it.folders.now) (doings last) w it.plant.now.papers.book chose.book new.book c.next_task.ensures.book
-          (deals_looked it.plant.now.texts (doings it.folders.now) (doings last) w chose.book new.book c.do_other.ensures)),
+          (deals_looked it.plant.now.texts (doings it.folders.now) (doings last) w chose.book new.book c.leave_stray.ensures)),
     )
+
+pub returns-in-Some-LookOn : goal.returns-in-Some-LookOn
+returns-in-Some-LookOn g c =
+    let it = c.args.self.now in
+    let doings = g.F.Folders.doings in
+    let w = it.plant.now.waits.items in
+    let chose = c.next_task.new.self in
+    let new = c.look_at_offers.new.self in
+    let last = c.look_at_offers.new.folders in (
+      (refl, refl),
+      dealt it.plant.now.texts doings it.folders.now last w it.plant.now.papers.book new.book
+          (deals_from it.plant.now.texts (doings it.folders.now) (doings last) w it.plant.now.papers.book chose.book new.book c.next_task.ensures.book
+          (deals_looked it.plant.now.texts (doings it.folders.now) (doings last) w chose.book new.book c.look_at_offers.ensures)),
+    )
+
+pub returns-in-None : goal.returns-in-None
+returns-in-None g c =
+    let it = c.args.self.now in
+    let chose = c.next_task.new.self in
+    ((refl, refl), beside it.plant.now.texts g.F.Folders.doings it.folders.now it.plant.now.waits.items it.plant.now.papers.book chose.book c.next_task.ensures.book)

@@ -1,6 +1,6 @@
--- One file after the other; where nothing was released nothing was done.
-use Rattle.std.proofs.Common.{refl}
-use Rattle.run_command.proofs.Looking.{follows_same, settles_none, settles_then}
+-- One file after the other; where nothing was released, or no file is left, nothing more was done.
+use Rattle.std.proofs.Common.{refl, true}
+use Rattle.run_command.proofs.Looking.{follows_same, settles_departs, settles_none, settles_then}
 use Rattle.run_command.proofs.plant.Papers.settle_step.Goals as goal
 
 pub returns-in_default : goal.returns-in_default
@@ -10,4 +10,9 @@ pub loop-init : goal.loop-init
 loop-init g c = record { settles = settles_none _ _ _ _ refl (follows_same _ _ refl) }
 
 pub loop-preserved : goal.loop-preserved
-loop-preserved g c = record { settles = settles_then _ _ _ _ _ _ c.loop.invariant.settles c.settle.ensures }
+loop-preserved g c = record {
+  settles = settles_then _ _ _ _ _ _ c.loop.invariant.settles (settles_departs _ _ true c.in-Some-next_departure.departure _ _ c.leave.ensures c.in-Some-next_departure.ensures);
+}
+
+pub returns-in_default-next_departure : goal.returns-in_default-next_departure
+returns-in_default-next_departure g c = c.loop.invariant.settles

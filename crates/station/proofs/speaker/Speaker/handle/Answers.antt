@@ -10,7 +10,7 @@ use Rattle.node_core.specs.Turns.{event_value}
 use Rattle.node_core.specs.Calls.{TookTurn, MayTakeMemory}
 use Rattle.node_core.specs.declared.turn.CoreRefusal.TheVariants.{OutOfMemory}
 use Rattle.station.specs.Speaking.{Speaking, TurnSpeaks}
-use Rattle.station.proofs.Remembering.{answered_speaks, answered_fits}
+use Rattle.station.proofs.Remembering.{answered_speaks, answered_fits, orderly}
 use Rattle.station.proofs.speaker.Speaker.handle.Goals.{in-Err-OutOfMemory, in_default, in_default-2}
 use Rattle.station.proofs.speaker.Speaker.handle.Goals as goal
 
@@ -53,3 +53,13 @@ returns-else-matches-clause-fits c =
     subst (λ (s : Speaking). IfOk c.handle-answer.result (TurnSpeaks s.wire c.args.row.now)) c.self.view_is
     (answered_fits (version_of c.self.inside.wire) c.args.event c.self.inside.core c.handle-answer.new.self c.args.row.now c.turns_fit.ensures c.me-me.ensures.member c.self.invariant (row_fits c) (event_fits c)
     c.handle-answer.result c.handle-answer.ensures.ok)
+
+pub returns-then-matches-clause-orderly : goal.returns-then-matches-clause-orderly
+returns-then-matches-clause-orderly c =
+    let a = c.handle-answer.ensures in
+    orderly c.handle-answer.result c.args.row.now a.promised a.few a.quiet
+
+pub returns-else-matches-clause-orderly : goal.returns-else-matches-clause-orderly
+returns-else-matches-clause-orderly c =
+    let a = c.handle-answer.ensures in
+    orderly c.handle-answer.result c.args.row.now a.promised a.few a.quiet

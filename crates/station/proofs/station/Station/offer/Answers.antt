@@ -11,8 +11,8 @@ use Rattle.station.proofs.station.Station.offer.Goals as goal
 pub take-requires-clause-free : goal.take-requires-clause-free
 take-requires-clause-free g c = λ marks stands.
     let mid = c.follow_rows.new.self in
-    offer_free_at mid.speaker.wire c.args.number c.in_ok-number.number marks (Taped c.args.tape.now) c.in_ok-number.ensures.value
-    (offer_of mid marks c.args.number c.args.now _ _ c.lend.ensures (c.in_ok-number.ensures.checks marks stands))
+    offer_free_at mid.speaker.wire c.args.number c.in_ok-number.number marks (Taped c.args.tape.now) c.in_ok-number.ensures.asked.value
+    (offer_of mid marks c.args.number c.args.now _ _ c.lend.ensures (c.in_ok-number.ensures.asked.checks marks stands))
 
 pub returns-then-self : goal.returns-then-self
 returns-then-self g c = stays g.R.Rows (Offering c.args.number (Taped c.args.tape.now) c.args.now) c.args.self.now c.if-self.true
@@ -22,8 +22,8 @@ returns-in_err-number g c =
     let mid = c.follow_rows.new.self in
     let call = Offering c.args.number (Taped c.args.tape.now) c.args.now in
     from_found g.R.Rows call c.args.self.now mid mid c.from_residual.result c.if-self.false c.follow_rows.ensures.same c.follow_rows.ensures.follows
-    (λ goes. refused g.R.Rows call mid c.from_residual.result _ c.from_residual.ensures c.in_err-number.ensures.goes_on
-    (λ marks stands. refused_early (sight g.R.Rows) call mid marks _ goes (refusal_of mid marks c.args.number c.args.now _ _ _ c.lend.ensures (c.in_err-number.ensures.checks marks stands))))
+    (λ goes. refused g.R.Rows call mid c.from_residual.result _ c.from_residual.ensures c.in_err-number.ensures.asked.goes_on
+    (λ marks stands. refused_early (sight g.R.Rows) call mid marks _ goes (refusal_of mid marks c.args.number c.args.now _ _ _ c.lend.ensures (c.in_err-number.ensures.asked.checks marks stands))))
 
 pub returns-in-Ok-Err : goal.returns-in-Ok-Err
 returns-in-Ok-Err g c =
@@ -32,7 +32,7 @@ returns-in-Ok-Err g c =
     from_found g.R.Rows call c.args.self.now mid mid _ c.if-self.false c.follow_rows.ensures.same c.follow_rows.ensures.follows
     (λ goes. refused_at g.R.Rows call mid _ refl
     (λ marks stands. refused_faulty (sight g.R.Rows) mid marks c.args.number c.args.tape.now c.args.now c.in-Ok-Err.fault goes
-    (offer_of mid marks c.args.number c.args.now _ _ c.lend.ensures (c.in_ok-number.ensures.checks marks stands)) (rw c.in-Ok-Err.field-0-is at c.in-Ok-Err.ensures)))
+    (offer_of mid marks c.args.number c.args.now _ _ c.lend.ensures (c.in_ok-number.ensures.asked.checks marks stands)) (rw c.in-Ok-Err.field-0-is at c.in-Ok-Err.ensures)))
 
 pub returns-in-Err : goal.returns-in-Err
 returns-in-Err g c =
@@ -43,7 +43,7 @@ returns-in-Err g c =
     from_found g.R.Rows call c.args.self.now mid c.stop.new.self _ c.if-self.false c.follow_rows.ensures.same c.follow_rows.ensures.follows
     (λ goes. wanted g.R.Rows call mid c.stop.new.self c.stop.result c.stop.ensures.same c.stop.ensures.halts.stopped c.stop.ensures.halts.wire
     (λ marks stands. torn_early x call (Offered c.args.number entry c.args.now) mid c.stop.new.self marks c.stop.result c.stop.ensures.same
-    (offered_early mid marks c.args.number entry c.args.now goes (offer_of mid marks c.args.number c.args.now _ _ c.lend.ensures (c.in_ok-number.ensures.checks marks stands)))
+    (offered_early mid marks c.args.number entry c.args.now goes (offer_of mid marks c.args.number c.args.now _ _ c.lend.ensures (c.in_ok-number.ensures.asked.checks marks stands)))
     (offer_stirs x mid marks c.args.number entry c.args.now) c.stop.ensures.halts.fixed c.stop.ensures.halts.stopped c.stop.ensures.halts.stands))
 
 pub returns-in-Ok : goal.returns-in-Ok
@@ -55,8 +55,8 @@ returns-in-Ok g c =
     from_found g.R.Rows call c.args.self.now mid c.take.new.self c.take.result c.if-self.false c.follow_rows.ensures.same c.follow_rows.ensures.follows
     (λ goes. took g.R.Rows call mid (Offered c.in_ok-number.number (Taped c.in-Ok.tape) c.args.now) c.take.new.self c.take.result
     (λ marks stands. offered mid marks c.args.number c.in_ok-number.number entry (Taped c.in-Ok.tape) c.args.now goes
-    (offer_of mid marks c.args.number c.args.now _ _ c.lend.ensures (c.in_ok-number.ensures.checks marks stands))
-    (ap unless_faulty (rw c.in-Ok-Ok.field-0-is at c.in-Ok-Ok.ensures).0) c.in_ok-number.ensures.value (ap Taped c.in-Ok.ensures))
+    (offer_of mid marks c.args.number c.args.now _ _ c.lend.ensures (c.in_ok-number.ensures.asked.checks marks stands))
+    (ap unless_faulty (rw c.in-Ok-Ok.field-0-is at c.in-Ok-Ok.ensures).0) c.in_ok-number.ensures.asked.value (ap Taped c.in-Ok.ensures))
     t.takes t.late t.rows.was_kept t.rows.made t.few t.numbered t.cause t.blames t.rows.version t.wire t.stops)
 
 pub returns-in-Err-copy : goal.returns-in-Err-copy
@@ -69,5 +69,5 @@ returns-in-Err-copy g c =
     from_found g.R.Rows call c.args.self.now mid stop.new.self _ c.if-self.false c.follow_rows.ensures.same c.follow_rows.ensures.follows
     (λ goes. wanted g.R.Rows call mid stop.new.self stop.result stop.ensures.same stop.ensures.halts.stopped stop.ensures.halts.wire
     (λ marks stands. torn_early x call (Offered c.args.number entry c.args.now) mid stop.new.self marks stop.result stop.ensures.same
-    (offered_early mid marks c.args.number entry c.args.now goes (offer_of mid marks c.args.number c.args.now _ _ c.lend.ensures (c.in_ok-number.ensures.checks marks stands)))
+    (offered_early mid marks c.args.number entry c.args.now goes (offer_of mid marks c.args.number c.args.now _ _ c.lend.ensures (c.in_ok-number.ensures.asked.checks marks stands)))
     (offer_stirs x mid marks c.args.number entry c.args.now) stop.ensures.halts.fixed stop.ensures.halts.stopped stop.ensures.halts.stands))

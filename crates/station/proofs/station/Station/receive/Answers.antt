@@ -4,7 +4,7 @@ use Rattle.protocol.specs.Turn.{Arrived}
 use Rattle.protocol.specs.Refusals.{Receiving}
 use Rattle.station.specs.Stations.{sight}
 use Rattle.station.proofs.Asking.{received, unread, turned_away}
-use Rattle.station.proofs.Calling.{from_found, stays, refused, refused_at, took}
+use Rattle.station.proofs.Calling.{from_found, stays, refused, refused_at, steady, took}
 use Rattle.station.proofs.station.Station.receive.Goals as goal
 
 pub returns-then-self : goal.returns-then-self
@@ -23,11 +23,10 @@ returns-in_err-check_packet g c =
     let mid = c.follow_rows.new.self in
     let call = Receiving c.args.bytes.now c.args.now in
     from_found g.R.Rows call c.args.self.now mid mid c.from_residual.result c.if-self.false c.follow_rows.ensures.same c.follow_rows.ensures.follows
-    (λ goes. refused g.R.Rows call mid c.from_residual.result _ c.from_residual.ensures c.in_err-check_packet.ensures.goes_on
-    (λ marks stands. turned_away (sight g.R.Rows) mid marks c.args.bytes.now c.args.now c.circuit-circuit.result c.members-members.result c.me-me.result c.in-Ok.packet _ goes
+    (λ goes. refused g.R.Rows call mid c.from_residual.result _ c.from_residual.ensures (steady _ _ c.in_err-check_packet.ensures.checks)
+    (λ marks stands. turned_away (sight g.R.Rows) mid marks c.args.bytes.now c.args.now c.core.result.now.circuit c.core.result.now.members c.core.result.now.me c.in-Ok.packet _ goes
     (sym c.read.ensures.exact ∙ c.in-Ok.is)
-    (c.circuit-circuit.ensures ∙ ap (λ k. k.circuit) c.core-core.ensures) (c.members-members.ensures.value ∙ ap (λ k. k.members) c.core-core.ensures)
-    (c.me-me.ensures.value ∙ ap (λ k. k.me) c.core-core.ensures) c.in_err-check_packet.ensures.checks))
+    (ap (λ k. k.circuit) c.core.ensures) (ap (λ k. k.members) c.core.ensures) (ap (λ k. k.me) c.core.ensures) c.in_err-check_packet.ensures.checks))
 
 pub returns : goal.returns
 returns g c =
@@ -36,8 +35,7 @@ returns g c =
     let t = c.take.ensures in
     from_found g.R.Rows call c.args.self.now mid c.take.new.self c.take.result c.if-self.false c.follow_rows.ensures.same c.follow_rows.ensures.follows
     (λ goes. took g.R.Rows call mid (Arrived c.in-Ok.packet c.args.now) c.take.new.self c.take.result
-    (λ marks stands. received mid marks c.args.bytes.now c.args.now c.circuit-circuit.result c.members-members.result c.me-me.result c.in-Ok.packet c.in-Ok.packet goes
+    (λ marks stands. received mid marks c.args.bytes.now c.args.now c.core.result.now.circuit c.core.result.now.members c.core.result.now.me c.in-Ok.packet c.in-Ok.packet goes
     (sym c.read.ensures.exact ∙ c.in-Ok.is)
-    (c.circuit-circuit.ensures ∙ ap (λ k. k.circuit) c.core-core.ensures) (c.members-members.ensures.value ∙ ap (λ k. k.members) c.core-core.ensures)
-    (c.me-me.ensures.value ∙ ap (λ k. k.me) c.core-core.ensures) c.in_ok-check_packet.ensures.checks refl)
+    (ap (λ k. k.circuit) c.core.ensures) (ap (λ k. k.members) c.core.ensures) (ap (λ k. k.me) c.core.ensures) c.in_ok-check_packet.ensures.checks refl)
     t.takes t.late t.rows.was_kept t.rows.made t.few t.numbered t.cause t.blames t.rows.version t.wire t.stops)

@@ -4,54 +4,49 @@ use Rattle.node_core.specs.Turns.{event_value}
 use Rattle.station.specs.Stations.{sight}
 use Rattle.station.proofs.Refused.{not_released, not_open}
 use Rattle.station.proofs.Taking.{Taking, handed_on, stopped_at, wanted}
-use Rattle.station.proofs.station.Station.take.Goals.{then-is_err, else-is_err}
 use Rattle.station.proofs.station.Station.take.Goals as goal
+
+pub returns-in-Ok-save-clause-takes : goal.returns-in-Ok-save-clause-takes
+returns-in-Ok-save-clause-takes g c = λ kept marks stands.
+    let l = c.in-Ok-handle.ensures.ok marks stands in
+    handed_on (sight g.R.Rows) (event_value c.args.event) c.args.self.now marks c.get.new.self c.save.new.self.rows c.handle.new.self c.in-Ok-handle.turn c.in-Ok.row c.args.number
+    (record {
+      number = c.requires.number;
+      goes = c.requires.goes;
+      read = search rules;
+      is_open = search rules;
+      is_row = search rules;
+      taken = l.turn;
+      is_turn = l.is_the_turn;
+      gives = l.took.is_turn;
+      quiet = c.in-Ok-handle.ensures.orderly.quiet;
+      stands = l.took.stands;
+      seat = c.handle.ensures.seat;
+      version = c.get.ensures.version ∙ sym c.requires.wire;
+    })
+    c.save.new.self c.save.result c.in-Ok-save.answer c.in-Ok-save.is c.save.ensures.rest (c.save.ensures.saves kept)
 
 pub returns-in-Ok-handle-clause-takes : goal.returns-in-Ok-handle-clause-takes
 returns-in-Ok-handle-clause-takes g c = λ kept marks stands.
-    let x = sight g.R.Rows in
     let l = c.in-Ok-handle.ensures.ok marks stands in
-    elim c.if-is_err.branch [
-      | then-is_err w ↦
-          let here : g.R.Rows.kept c.save-answer.new.self.rows = rw (w.self-is, w.halt.ensures.halts.stopped) at kept in
-          let k : Taking x (event_value c.args.event) c.args.self.now marks c.get.new.self c.handle.new.self c.in-Ok-handle.turn c.in-Ok.row c.args.number = record {
-            number = c.requires.number;
-            goes = c.requires.goes;
-            read = search rules;
-            is_open = search rules;
-            is_row = search rules;
-            taken = l.turn;
-            is_turn = l.is_the_turn;
-            gives = l.took.is_turn;
-            quiet = c.in-Ok-handle.ensures.quiet;
-            stands = l.took.stands;
-            seat = c.handle.ensures.seat;
-            version = c.get.ensures.version ∙ sym c.requires.wire;
-          } in
-          rw w.self-is
-          (stopped_at x (event_value c.args.event) c.args.self.now marks c.get.new.self c.save-answer.new.self.rows c.handle.new.self c.in-Ok-handle.turn c.in-Ok.row c.args.number k
-          c.save-answer.new.self w.halt.new.self c.save-answer.result (sym c.is_err.ensures.value ∙ w.if-is_err.true) c.save-answer.ensures.rest
-          w.halt.ensures.halts.fixed w.halt.ensures.halts.stopped w.halt.ensures.halts.stands (c.save-answer.ensures.saves here))
-      | else-is_err w ↦
-          let here : g.R.Rows.kept c.save-answer.new.self.rows = rw w.self-is at kept in
-          let k : Taking x (event_value c.args.event) c.args.self.now marks c.get.new.self c.handle.new.self c.in-Ok-handle.turn c.in-Ok.row c.args.number = record {
-            number = c.requires.number;
-            goes = c.requires.goes;
-            read = search rules;
-            is_open = search rules;
-            is_row = search rules;
-            taken = l.turn;
-            is_turn = l.is_the_turn;
-            gives = l.took.is_turn;
-            quiet = c.in-Ok-handle.ensures.quiet;
-            stands = l.took.stands;
-            seat = c.handle.ensures.seat;
-            version = c.get.ensures.version ∙ sym c.requires.wire;
-          } in
-          rw w.self-is
-          (handed_on x (event_value c.args.event) c.args.self.now marks c.get.new.self c.save-answer.new.self.rows c.handle.new.self c.in-Ok-handle.turn c.in-Ok.row c.args.number k
-          c.save-answer.new.self c.save-answer.result (sym c.is_err.ensures.value ∙ w.if-is_err.false) c.save-answer.ensures.rest (c.save-answer.ensures.saves here))
-    ]
+    let here : g.R.Rows.kept c.save.new.self.rows = rw c.stop-in-Err-save.ensures.halts.stopped at kept in
+    stopped_at (sight g.R.Rows) (event_value c.args.event) c.args.self.now marks c.get.new.self c.save.new.self.rows c.handle.new.self c.in-Ok-handle.turn c.in-Ok.row c.args.number
+    (record {
+      number = c.requires.number;
+      goes = c.requires.goes;
+      read = search rules;
+      is_open = search rules;
+      is_row = search rules;
+      taken = l.turn;
+      is_turn = l.is_the_turn;
+      gives = l.took.is_turn;
+      quiet = c.in-Ok-handle.ensures.orderly.quiet;
+      stands = l.took.stands;
+      seat = c.handle.ensures.seat;
+      version = c.get.ensures.version ∙ sym c.requires.wire;
+    })
+    c.save.new.self c.stop-in-Err-save.new.self c.save.result c.in-Err-save.refusal c.stop-in-Err-save.result c.in-Err-save.is c.save.ensures.rest
+    c.stop-in-Err-save.ensures.halts.fixed c.stop-in-Err-save.ensures.halts.stopped c.stop-in-Err-save.ensures.same c.stop-in-Err-save.ensures.halts.stands (c.save.ensures.saves here)
 
 pub returns-clause-takes : goal.returns-clause-takes
 returns-clause-takes g c = λ kept marks stands.

@@ -11,7 +11,7 @@ use Rattle.station.proofs.station.Station.withdraw.Goals as goal
 pub take-requires-clause-free : goal.take-requires-clause-free
 take-requires-clause-free g c = λ marks stands.
     let mid = c.follow_rows.new.self in
-    offer_free_at mid.speaker.wire c.args.number c.in_ok-number.number marks Void c.in_ok-number.ensures.value (c.in_ok-number.ensures.checks marks stands)
+    offer_free_at mid.speaker.wire c.args.number c.in_ok-number.number marks Void c.in_ok-number.ensures.asked.value (c.in_ok-number.ensures.asked.checks marks stands)
 
 pub returns-then-self : goal.returns-then-self
 returns-then-self g c = stays g.R.Rows (Offering c.args.number Void c.args.now) c.args.self.now c.if-self.true
@@ -21,8 +21,8 @@ returns-in_err-number g c =
     let mid = c.follow_rows.new.self in
     let call = Offering c.args.number Void c.args.now in
     from_found g.R.Rows call c.args.self.now mid mid _ c.if-self.false c.follow_rows.ensures.same c.follow_rows.ensures.follows
-    (λ goes. refused g.R.Rows call mid c.from_residual.result _ c.from_residual.ensures c.in_err-number.ensures.goes_on
-    (λ marks stands. refused_early (sight g.R.Rows) call mid marks _ goes (c.in_err-number.ensures.checks marks stands)))
+    (λ goes. refused g.R.Rows call mid c.from_residual.result _ c.from_residual.ensures c.in_err-number.ensures.asked.goes_on
+    (λ marks stands. refused_early (sight g.R.Rows) call mid marks _ goes (c.in_err-number.ensures.asked.checks marks stands)))
 
 pub returns : goal.returns
 returns g c =
@@ -31,5 +31,5 @@ returns g c =
     let t = c.take.ensures in
     from_found g.R.Rows call c.args.self.now mid c.take.new.self c.take.result c.if-self.false c.follow_rows.ensures.same c.follow_rows.ensures.follows
     (λ goes. took g.R.Rows call mid (Offered c.in_ok-number.number Void c.args.now) c.take.new.self c.take.result
-    (λ marks stands. offered mid marks c.args.number c.in_ok-number.number Void Void c.args.now goes (c.in_ok-number.ensures.checks marks stands) refl c.in_ok-number.ensures.value refl)
+    (λ marks stands. offered mid marks c.args.number c.in_ok-number.number Void Void c.args.now goes (c.in_ok-number.ensures.asked.checks marks stands) refl c.in_ok-number.ensures.asked.value refl)
     t.takes t.late t.rows.was_kept t.rows.made t.few t.numbered t.cause t.blames t.rows.version t.wire t.stops)

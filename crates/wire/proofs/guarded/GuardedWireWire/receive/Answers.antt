@@ -1,5 +1,5 @@
 -- What comes, behind what was waited for.
-use Rattle.wire.proofs.Guarding.{comes_later, keeps_then, leaves_quiet, receives}
+use Rattle.wire.proofs.Guarding.{comes_later, keeps_then, receives}
 use Rattle.wire.proofs.guarded.GuardedWireWire.receive.Goals as goal
 
 pub returns-then-not-await_one : goal.returns-then-not-await_one
@@ -7,7 +7,7 @@ returns-then-not-await_one g c = record {
   receives = record {
     fits = tt;
     comes = λ clean. tt;
-    leaves = leaves_quiet g.S.Socket.came g.D.Door.brings c.args.self.now c.await_one.new.self c.await_one.ensures.keeps;
+    leaves = c.await_one.ensures;
   };
 }
 

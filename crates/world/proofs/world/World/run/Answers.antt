@@ -10,28 +10,28 @@ use Rattle.world.proofs.Asking.{reason_stays}
 use Rattle.world.proofs.Reaching.{led, leads_more, reached_agreed, stays_reached, takes_more}
 use Rattle.world.proofs.world.World.run.Goals as goal
 
-pub returns-in-Err-clause-runs : goal.returns-in-Err-clause-runs
-returns-in-Err-clause-runs g c = λ kept z w h.
-    let l = c.loop-at.invariant.runs (c.step.ensures.was_kept kept) z w h in
-    (l.0, c.in-Err.ensures.steps kept z l.0 l.1, l.2)
-
-pub returns-in-Err-clause-takes : goal.returns-in-Err-clause-takes
-returns-in-Err-clause-takes g c = (c.loop-at.self, c.loop-at.invariant.takes, c.in-Err.ensures.tells.1)
-
-pub returns-in-Err-clause-stops : goal.returns-in-Err-clause-stops
-returns-in-Err-clause-stops g c =
-    let steps = c.args.steps.now in
-    let step = c.index-steps-at.result in
-    let there : slice_get steps c.loop-at.at ≡ Some step = slice_get-get_or steps c.loop-at.at step c.loop-at-test.true ∙ ap Some (sym c.index-steps-at.is) in
-    let t = c.in-Err.ensures.tells in
-    (step, there, reason_stays c.loop-at.self c.step.new.self step c.in-Err.refusal t.1 t.0)
-
-pub returns-in-Err-clause-reached : goal.returns-in-Err-clause-reached
-returns-in-Err-clause-reached g c =
-    stays_reached g.R.Rows g.met.R.Rows.halves c.args.self.now c.step.new.self (λ made. c.step.ensures.made (c.loop-at.invariant.made made)) (λ kept. c.loop-at.invariant.was_kept (c.step.ensures.was_kept kept))
-    (λ kept z r.
-    let l = c.loop-at.invariant.runs (c.step.ensures.was_kept kept) z r.0 r.1 in
-    (l.0, c.in-Err.ensures.steps kept z l.0 l.1, led z r.0 l.0 (take c.loop-at.at c.args.steps.now) r.2 l.2))
+pub returns-in-Err : goal.returns-in-Err
+returns-in-Err g c =
+    record {
+      takes = (c.loop-at.self, c.loop-at.invariant.takes, c.in-Err.ensures.tells.1);
+      runs = λ kept z w h.
+          let l = c.loop-at.invariant.runs (c.step.ensures.was_kept kept) z w h in
+          (l.0, c.in-Err.ensures.steps kept z l.0 l.1, l.2);
+      stops =
+          let steps = c.args.steps.now in
+          let step = c.index-steps-at.result in
+          let there : slice_get steps c.loop-at.at ≡ Some step = slice_get-get_or steps c.loop-at.at step c.loop-at-test.true ∙ ap Some (sym c.index-steps-at.is) in
+          let t = c.in-Err.ensures.tells in
+          (step, there, reason_stays c.loop-at.self c.step.new.self step c.in-Err.refusal t.1 t.0);
+      was_kept = λ kept. c.loop-at.invariant.was_kept (c.step.ensures.was_kept kept);
+      made = λ made. c.step.ensures.made (c.loop-at.invariant.made made);
+      reached =
+          stays_reached g.R.Rows g.met.R.Rows.halves c.args.self.now c.step.new.self (λ made. c.step.ensures.made (c.loop-at.invariant.made made)) (λ kept. c.loop-at.invariant.was_kept (c.step.ensures.was_kept kept))
+          (λ kept z r.
+          let l = c.loop-at.invariant.runs (c.step.ensures.was_kept kept) z r.0 r.1 in
+          (l.0, c.in-Err.ensures.steps kept z l.0 l.1, led z r.0 l.0 (take c.loop-at.at c.args.steps.now) r.2 l.2));
+      agreed = reached_agreed g.R.Rows c.agreement.ensures _;
+    }
 
 pub loop-at-preserved : goal.loop-at-preserved
 loop-at-preserved g c = record {
@@ -56,23 +56,21 @@ loop-at-preserved g c = record {
       (m.0, m.1, subst (λ (ss : List Step). Leads z w ss m.0) (sym longer) more);
 }
 
-pub returns-clause-takes : goal.returns-clause-takes
-returns-clause-takes g c =
+pub returns : goal.returns
+returns g c =
     let all : take c.loop-at.at c.args.steps.now ≡ c.args.steps.now = take_all c.loop-at.at c.args.steps.now c.loop-at-test.false in
-    subst (λ (ss : List Step). Takes g.R.Rows c.args.self.now ss c.loop-at.self) all c.loop-at.invariant.takes
-
-pub returns-clause-runs : goal.returns-clause-runs
-returns-clause-runs g c = λ kept z w h.
-    let l = c.loop-at.invariant.runs kept z w h in
-    let all : take c.loop-at.at c.args.steps.now ≡ c.args.steps.now = take_all c.loop-at.at c.args.steps.now c.loop-at-test.false in
-    (l.0, l.1, subst (λ (ss : List Step). Leads z w ss l.0) all l.2)
-
-pub returns-clause-reached : goal.returns-clause-reached
-returns-clause-reached g c =
-    stays_reached g.R.Rows g.met.R.Rows.halves c.args.self.now c.loop-at.self c.loop-at.invariant.made c.loop-at.invariant.was_kept
-    (λ kept z r.
-    let l = c.loop-at.invariant.runs kept z r.0 r.1 in
-    (l.0, l.1, led z r.0 l.0 (take c.loop-at.at c.args.steps.now) r.2 l.2))
-
-pub returns-clause-agreed : goal.returns-clause-agreed
-returns-clause-agreed g c = reached_agreed g.R.Rows c.agreement.ensures _
+    record {
+      takes = subst (λ (ss : List Step). Takes g.R.Rows c.args.self.now ss c.loop-at.self) all c.loop-at.invariant.takes;
+      runs = λ kept z w h.
+          let l = c.loop-at.invariant.runs kept z w h in
+          (l.0, l.1, subst (λ (ss : List Step). Leads z w ss l.0) all l.2);
+      stops = tt;
+      was_kept = c.loop-at.invariant.was_kept;
+      made = c.loop-at.invariant.made;
+      reached =
+          stays_reached g.R.Rows g.met.R.Rows.halves c.args.self.now c.loop-at.self c.loop-at.invariant.made c.loop-at.invariant.was_kept
+          (λ kept z r.
+          let l = c.loop-at.invariant.runs kept z r.0 r.1 in
+          (l.0, l.1, led z r.0 l.0 (take c.loop-at.at c.args.steps.now) r.2 l.2));
+      agreed = reached_agreed g.R.Rows c.agreement.ensures _;
+    }

@@ -1,0 +1,17 @@
+-- What is printed of the version.
+use Rattle.std.specs.Prelude.{◌≡◌, ℕ, List, Option, codes}
+use Rattle.std.specs.Io.KnownBytes.{Appends}
+use Rattle.streams.specs.Fronts.{AppendsFront}
+use Rattle.command_ends.specs.Ends.{IsOfInput}
+use Rattle.command_ends.specs.declared.end.End.{End}
+use Rattle.command_ends.specs.declared.end.End.TheVariants.{Done}
+
+-- the program's name and its version, on a line
+abbrev pub version_text : List ℕ
+version_text = codes "circuitd 0.3.0\n"
+
+-- they are written whole where it ends well, a prefix of them however it ends, and only the output or want of memory ends it before
+pub record PrintsVersion (old new : Option (List ℕ)) (end : End) : Type 0 where
+  pub done : end ≡ Done → Appends old new version_text
+  pub front : AppendsFront old new version_text
+  pub ends : IsOfInput end

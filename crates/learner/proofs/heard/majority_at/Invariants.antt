@@ -1,6 +1,0 @@
-use Rattle.std.proofs.Common.{◌≡◌, None}
-use Rattle.learner.proofs.Looking.{ripe_before}
-use Rattle.learner.proofs.heard.majority_at.Given as goal
-
-abbrev pub invariant-loop-slot : goal.invariant-loop-slot
-invariant-loop-slot l = ripe_before l.slots l.slot-index ≡ None

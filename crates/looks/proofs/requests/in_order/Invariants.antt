@@ -1,6 +1,0 @@
-use Rattle.std.proofs.Common.{◌≡◌, ◌++◌}
-use Rattle.std.specs.Map.{values_of}
-use Rattle.looks.proofs.requests.in_order.Given as goal
-
-abbrev pub invariant-loop-file : goal.invariant-loop-file
-invariant-loop-file l = l.requests.items ++ values_of l.file-iterator ≡ values_of l.fn.found.entries
