@@ -1,10 +1,9 @@
 #!/usr/bin/env python3
 """Makes what the pages take from the sources, and checks what they link.
 
-usage: pages.py [--check | --words]
+usage: pages.py [--check | --words | --crates]
 
 It makes
-  docs/CRATES.md   a table of crates.txt
   README.md        the sizes, between two comments
   docs/MAP.md and docs/PROVED.md   the line of each link into crates/: [`step`, `agreed`](../crates/..#L35) is the clause `agreed` of the
                    function `step`, and [wire/src/door.rt#admit](../crates/wire/src/door.rt#L43) the function `admit` of that file.
@@ -13,6 +12,8 @@ With --check nothing is written. It ends with 1, and a line for each fault, wher
 a page names no file, no heading or no function, where the rooms of MAP.md are not the crates, each on none of a room above its own, where a
 page has more words than it may, or too many sentences are long. That their examples are as printed is checked by examples.py beside it.
 With --words it prints the words of each page, and how many of its lines hold a sentence of more than 40 words.
+With --crates it prints each crate of crates.txt, what it is by its own first sentence, and the crates that it stands on, without those that
+it stands on through another one.
 """
 import glob
 import os
@@ -24,22 +25,21 @@ MOST_WORDS = 40
 # how many lines of all pages may hold a longer sentence, and how many words each page may have
 MOST_LONG = 25
 MOST = {
-    "README.md": 1430,
-    "CONTRIBUTING.md": 1100,
-    "docs/COMMANDS.md": 2830,
-    "docs/CRATES.md": 2900,
-    "docs/DECISIONS.md": 1520,
-    "docs/DEFINITIONS.md": 1250,
-    "docs/DRAWING.md": 800,
-    "docs/FORMATS.md": 3400,
-    "docs/GLOSSARY.md": 560,
-    "docs/MAP.md": 1400,
-    "docs/MEASURED.md": 1150,
-    "docs/NOTATION.md": 600,
-    "docs/OPERATING.md": 2570,
-    "docs/PROOF.md": 1400,
-    "docs/PROVED.md": 6000,
-    "docs/SETTING.md": 1300,
+    "CONTRIBUTING.md": 1002,
+    "README.md": 1268,
+    "docs/COMMANDS.md": 2600,
+    "docs/DECISIONS.md": 1255,
+    "docs/DEFINITIONS.md": 962,
+    "docs/DRAWING.md": 635,
+    "docs/FORMATS.md": 3280,
+    "docs/GLOSSARY.md": 515,
+    "docs/MAP.md": 985,
+    "docs/MEASURED.md": 1200,
+    "docs/NOTATION.md": 540,
+    "docs/OPERATING.md": 2420,
+    "docs/PROOF.md": 1140,
+    "docs/PROVED.md": 5335,
+    "docs/SETTING.md": 1065,
     "docs/TURN.md": 830,
 }
 
@@ -137,13 +137,10 @@ def sentence_of(name):
     return (sentence.partition(":")[0] if len(sentence.split()) > MOST_WORDS else sentence) + "."
 
 
-def table_of_crates(below):
-    rows = "\n".join(f"| {name} | {sentence_of(name)} | {', '.join(nearest(below, name))} |" for name in below)
-    return (
-        "# The crates\n\n`docs/pages.py` makes this table from `crates.txt`, lowest first. [MAP](MAP.md) draws them in seven rooms.\n\n"
-        "The last column leaves out what a crate stands on through another one.\n\n"
-        f"| Crate | What it is, by its own first sentence | Stands on |\n|---|---|---|\n{rows}\n"
-    )
+def print_crates():
+    below = read_crates()
+    for name in below:
+        print(f"{name}: {sentence_of(name)} Stands on: {', '.join(nearest(below, name)) or 'none'}.")
 
 
 def check_rooms(below):
@@ -244,13 +241,14 @@ def print_words():
 
 
 def main():
-    if sys.argv[1:] not in ([], ["--check"], ["--words"]):
+    if sys.argv[1:] not in ([], ["--check"], ["--words"], ["--crates"]):
         sys.exit(__doc__)
     if sys.argv[1:] == ["--words"]:
         return print_words()
+    if sys.argv[1:] == ["--crates"]:
+        return print_crates()
     below = read_crates()
     made = {page: with_lines(page) for page in ("docs/MAP.md", "docs/PROVED.md")}
-    made["docs/CRATES.md"] = table_of_crates(below)
     made["README.md"] = SIZES.sub(lambda match: match.group(1) + sizes(below) + match.group(3), read("README.md"))
     stale = [path for path, text in made.items() if not exists(path) or read(path) != text]
     if not sys.argv[1:] and not faults:
