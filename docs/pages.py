@@ -35,7 +35,7 @@ MOST = {
     "docs/GLOSSARY.md": 515,
     "docs/MAP.md": 985,
     "docs/MEASURED.md": 1200,
-    "docs/NOTATION.md": 540,
+    "docs/NOTATION.md": 475,
     "docs/OPERATING.md": 2420,
     "docs/PROOF.md": 1140,
     "docs/PROVED.md": 5335,
