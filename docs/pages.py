@@ -29,7 +29,7 @@ MOST = {
     "README.md": 1268,
     "docs/COMMANDS.md": 2600,
     "docs/DECISIONS.md": 1255,
-    "docs/DEFINITIONS.md": 962,
+    "docs/DEFINITIONS.md": 850,
     "docs/DRAWING.md": 635,
     "docs/FORMATS.md": 3280,
     "docs/GLOSSARY.md": 515,
