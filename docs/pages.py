@@ -37,7 +37,7 @@ MOST = {
     "docs/MEASURED.md": 1200,
     "docs/NOTATION.md": 475,
     "docs/OPERATING.md": 2420,
-    "docs/PROOF.md": 1140,
+    "docs/PROOF.md": 902,
     "docs/PROVED.md": 5335,
     "docs/SETTING.md": 1065,
     "docs/TURN.md": 830,
