@@ -27,11 +27,11 @@ MOST_LONG = 25
 MOST = {
     "CONTRIBUTING.md": 1003,
     "README.md": 1270,
-    "docs/COMMANDS.md": 2600,
+    "docs/COMMANDS.md": 2603,
     "docs/DECISIONS.md": 1255,
     "docs/DEFINITIONS.md": 850,
     "docs/DRAWING.md": 635,
-    "docs/FORMATS.md": 3280,
+    "docs/FORMATS.md": 2951,
     "docs/GLOSSARY.md": 517,
     "docs/MAP.md": 982,
     "docs/MEASURED.md": 1200,
@@ -39,7 +39,7 @@ MOST = {
     "docs/OPERATING.md": 2112,
     "docs/PROOF.md": 902,
     "docs/PROVED.md": 5335,
-    "docs/SETTING.md": 1065,
+    "docs/SETTING.md": 1064,
     "docs/TURN.md": 827,
 }
 
