@@ -26,7 +26,7 @@ MOST_WORDS = 40
 MOST_LONG = 25
 MOST = {
     "CONTRIBUTING.md": 1003,
-    "README.md": 1270,
+    "README.md": 1135,
     "docs/COMMANDS.md": 2603,
     "docs/DECISIONS.md": 1255,
     "docs/DEFINITIONS.md": 850,
