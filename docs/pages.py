@@ -28,7 +28,7 @@ MOST = {
     "CONTRIBUTING.md": 853,
     "README.md": 1135,
     "docs/COMMANDS.md": 2357,
-    "docs/DECISIONS.md": 1255,
+    "docs/DECISIONS.md": 1073,
     "docs/DEFINITIONS.md": 850,
     "docs/DRAWING.md": 564,
     "docs/FORMATS.md": 2856,
@@ -40,7 +40,7 @@ MOST = {
     "docs/PROOF.md": 902,
     "docs/PROVED.md": 4600,
     "docs/SETTING.md": 922,
-    "docs/TURN.md": 827,
+    "docs/TURN.md": 764,
 }
 
 # a function, a type or a word of specs/, and then its clauses or fields
