@@ -27,11 +27,11 @@ MOST_LONG = 25
 MOST = {
     "CONTRIBUTING.md": 853,
     "README.md": 1135,
-    "docs/COMMANDS.md": 2357,
+    "docs/COMMANDS.md": 2266,
     "docs/DECISIONS.md": 1073,
     "docs/DEFINITIONS.md": 850,
     "docs/DRAWING.md": 564,
-    "docs/FORMATS.md": 2856,
+    "docs/FORMATS.md": 2850,
     "docs/GLOSSARY.md": 517,
     "docs/MAP.md": 982,
     "docs/MEASURED.md": 1200,
@@ -39,7 +39,7 @@ MOST = {
     "docs/OPERATING.md": 2112,
     "docs/PROOF.md": 902,
     "docs/PROVED.md": 4600,
-    "docs/SETTING.md": 922,
+    "docs/SETTING.md": 897,
     "docs/TURN.md": 764,
 }
 
