@@ -27,11 +27,11 @@ MOST_LONG = 25
 MOST = {
     "CONTRIBUTING.md": 853,
     "README.md": 1135,
-    "docs/COMMANDS.md": 2266,
+    "docs/COMMANDS.md": 2260,
     "docs/DECISIONS.md": 1073,
     "docs/DEFINITIONS.md": 850,
     "docs/DRAWING.md": 564,
-    "docs/FORMATS.md": 2850,
+    "docs/FORMATS.md": 2754,
     "docs/GLOSSARY.md": 494,
     "docs/MAP.md": 896,
     "docs/MEASURED.md": 1200,
