@@ -25,7 +25,7 @@ MOST_WORDS = 40
 # how many lines of all pages may hold a longer sentence, and how many words each page may have
 MOST_LONG = 25
 MOST = {
-    "CONTRIBUTING.md": 853,
+    "CONTRIBUTING.md": 854,
     "README.md": 1135,
     "docs/COMMANDS.md": 2260,
     "docs/DECISIONS.md": 1073,
@@ -36,7 +36,7 @@ MOST = {
     "docs/MAP.md": 896,
     "docs/MEASURED.md": 1200,
     "docs/NOTATION.md": 475,
-    "docs/OPERATING.md": 2112,
+    "docs/OPERATING.md": 2051,
     "docs/PROOF.md": 902,
     "docs/PROVED.md": 4600,
     "docs/SETTING.md": 897,
