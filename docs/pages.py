@@ -27,7 +27,7 @@ MOST_LONG = 25
 MOST = {
     "CONTRIBUTING.md": 854,
     "README.md": 1135,
-    "docs/COMMANDS.md": 2260,
+    "docs/COMMANDS.md": 2248,
     "docs/DECISIONS.md": 1073,
     "docs/DEFINITIONS.md": 850,
     "docs/DRAWING.md": 564,
