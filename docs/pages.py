@@ -25,7 +25,7 @@ MOST_WORDS = 40
 # how many lines of all pages may hold a longer sentence, and how many words each page may have
 MOST_LONG = 25
 MOST = {
-    "CONTRIBUTING.md": 869,
+    "CONTRIBUTING.md": 876,
     "README.md": 1137,
     "docs/COMMANDS.md": 2244,
     "docs/DECISIONS.md": 1074,
