@@ -32,7 +32,7 @@ import time
 
 HERE = os.path.dirname(os.path.abspath(__file__))
 CRATES = os.path.join(HERE, "..", "crates")
-BELOW = ("protocol", "tape_frames", "ballots", "row_table", "saved_rows", "row_columns", "acceptor_store")
+BELOW = ("protocol", "tape_frames", "ballots", "row_table", "saved_rows", "acceptor_store")
 PARTS = ("src", "specs", "proofs", "out/rlib")
 SAVES, ROUNDS = 2000, 15
 

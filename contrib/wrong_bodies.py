@@ -91,15 +91,23 @@ class Edit:
     def __init__(self, crate, path, home):
         self.crate, self.path, self.pairs = crate, path, []
         self.name = f'{crate}/{os.path.basename(path)[:-len(".edit")]}'
-        file = old = None
-        with open(path, encoding='utf-8') as lines:
-            for line in lines.read().split('\n'):
-                if line.startswith('file: '):
-                    file = line[len('file: '):].strip()
-                elif line.startswith('old: '):
-                    old = line[len('old: '):]
-                elif line.startswith('new:'):
-                    self.pairs.append((file, old, line[len('new:'):].removeprefix(' ')))
+        file = old = new = None
+        for line in read(path).splitlines():
+            if line.startswith('file: '):
+                file = line[len('file: '):].strip()
+            elif line.startswith('old: '):
+                old, new = line[len('old: '):], None
+            elif line.startswith('new:'):
+                new = line[len('new:'):].removeprefix(' ')
+                self.pairs.append((file, old, new))
+            elif old is None:
+                continue
+            elif new is None:
+                # Any other line goes on with the text above it.
+                old += '\n' + line
+            else:
+                new += '\n' + line
+                self.pairs[-1] = (file, old, new)
         self.function = self.one_function(home)
 
     def one_function(self, home):

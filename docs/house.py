@@ -14,21 +14,22 @@ Counted are all crates but those of tests.
             it, be it through others, and it is an end of that leg, or calls one in the same manner. The walk are the functions on the way,
             and those that they call. Functions of a file `laws.rt`, which do nothing, are not counted.
 
-Who calls whom is told from names, without a type checker. A call on a parameter or on one of its fields goes to the methods of that type, any
-other call on a value to those of all types that the function has in hand: those that it names, those of the fields that it names, and those
-that what it calls answers. In place of a trait stands the type that a station under `run` has. Left out are the arms of a `match` that an
-Accept does not come by, and what a `let` does else. Operators, conversions and what a macro writes are no calls.
+Who calls whom is told from names, without a type checker. A call goes to the methods of the types that its value has, as parameters, fields,
+answers and patterns tell; where they can't be told, to those of all types that the function has in hand. In place of a trait stands the type
+that a station under `run` has. Left out are the ways of a `match` or an `if` that an Accept does not come by or that refuse, and what a `let`
+does else. Operators, conversions and what a macro writes are no calls.
 
   what it gives                                    0.2.0          before             now
-  clauses                                          2,698           6,022           4,199
-  repeated                                           791           1,626             264
+  clauses                                          2,698           6,022           4,198
+  repeated                                           791           1,626             262
   long                                                22              78               0
   functions                                          130             105               0
   types                                               16              76               0
-  functions, files and crates of the walk    154, 52, 21     189, 69, 27     171, 68, 28
+  functions, files and crates of the walk    127, 47, 20     181, 69, 27     130, 47, 16
 
 0.2.0 is 504be7e1, and before is c260e571, before contracts were said once. 0.2.0 had no groups of steps: its legs were `take_datagram`, `hand_on`,
-and then `prepare` and `put` of the folders of the host.
+and then `prepare` and `put` of the folders of the host. The Accept is the first vote for a number that was not released, under `run`, in layout 2,
+without a key.
 
 With --list the items behind each figure are printed as well. With --check it ends with 1 where a figure is above what it may be.
 """
@@ -42,8 +43,8 @@ import sys
 TOP = os.path.dirname(os.path.dirname(os.path.abspath(__file__)))
 
 # What the figures may be at most. They may go down, and never up.
-MOST_REPEATED, MOST_LONG, MOST_FUNCTIONS, MOST_TYPES = 264, 0, 0, 0
-MOST_CALLS, MOST_FILES, MOST_CRATES = 171, 68, 28
+MOST_REPEATED, MOST_LONG, MOST_FUNCTIONS, MOST_TYPES = 262, 0, 0, 0
+MOST_CALLS, MOST_FILES, MOST_CRATES = 130, 47, 16
 MOST_CHARACTERS, MOST_PARAMETERS = 160, 4
 # names of types that may stand in more than one crate
 ALLOWED = set()
@@ -51,8 +52,8 @@ ALLOWED = set()
 # where the walk goes: a crate's function, and those of its calls in which the leg ends
 LEGS = [
     (
-        "exchange/take_datagram",
-        ["wire/receive", "packets/body_of", "acceptor/accept", "learner/hear", "line_check/check", "packets/put_body", "row_groups/put"],
+        "driver/take_datagram",
+        ["wire/receive", "packets/body_of", "acceptor/accept", "learner/hear", "line_check/check", "packets/put_body", "saved_rows/put"],
     ),
     ("driver/hold", ["line_check/galley"]),
     ("driver/settle_group", ["row_table/stage_entry", "wire/send", "host_folders/put_all"]),
@@ -60,9 +61,9 @@ LEGS = [
 ]
 # what stands in place of a trait there
 IN_PLACE_OF = {
-    ("saved_rows", "Rows"): ("row_groups", "Grouped"),
-    ("row_groups", "Settles"): ("row_groups", "Grouped"),
-    ("row_groups", "SavesAll"): ("acceptor_store", "SqliteRows"),
+    ("saved_rows", "Rows"): ("saved_rows", "Grouped"),
+    ("saved_rows", "Settles"): ("saved_rows", "Grouped"),
+    ("saved_rows", "SavesAll"): ("acceptor_store", "SqliteRows"),
     ("wire", "Wire"): ("wire", "GuardedWire"),
     ("wire", "Door"): ("wire", "PlainDoor"),
     ("wire", "Socket"): ("wire", "UdpSocket"),
@@ -70,8 +71,10 @@ IN_PLACE_OF = {
     ("driver", "Sink"): ("run_command", "PlantDesk"),
     ("driver", "Desk"): ("run_command", "PlantDesk"),
 }
-# the arms that are not walked: other packets, other events, no tape, the first layout, and what is refused
-ASIDE = set("Prepare Promise Accepted Nack Offer Seek Due Recall Void One First Err Failed Nothing Refused Silent Again".split())
+# the ways that are not walked: other packets, other events, no tape, one that was set as it was offered, the first layout, and what is refused
+ASIDE = set("Prepare Promise Accepted Nack Offer Seek Due Recall Void checked One First Err Failed Nothing Refused Silent Again".split())
+# and those behind a question: of a number that was released
+ASKED = {"released"}
 
 UNREAD = re.compile(r"""//[^\n]*|b?"(?:\\.|[^"\\])*"|b?'(?:\\(?:x\w\w|u\{\w+\}|.)|[^'\\\n])'""", re.DOTALL)
 CLAUSE = re.compile(r"\b(ensures\*?|requires) *(\w*) *(?=\{)")
@@ -81,7 +84,10 @@ BLOCK = re.compile(rf"^(?:pub(?:\(crate\))? )?(impl|trait)({ANGLES})? ([^{{;]*)(
 TYPE = re.compile(rf"^(?:pub(?:\(crate\))? )?(struct|enum|trait|type) (\w+)({ANGLES})?", re.MULTILINE)
 ARM = re.compile(r"^ *(\S[^\n]*?) =>\s*", re.MULTILINE)
 CALL = re.compile(r"(\.\s*|(?:\w+(?:::<[^()]*?>)?::)+)?\b([a-z_]\w*)(?:::<[^()]*?>)?\(")
-CHAIN = re.compile(r"(?<![\w.)\]?])((?:\w+\s*\.\s*)*\w+)\s*$")
+HEAD = re.compile(r"((?:\w+(?:::<[^()]*?>)?::)+)?(\w+)(?:::<[^()]*?>)?(?![\w!])")
+STEP = re.compile(r"\s*(?:\.\s*(\w+)(?:::<[^()]*?>)?\(?|\?|\[)")
+SHAPE = re.compile(r"(?:\w+::)*(\w*)\s*[({]")
+BIND = re.compile(r"\b(?:(let) (?:mut )?|(for) |(match) )")
 
 
 # A text
@@ -111,12 +117,12 @@ def behind(text, place):
     return outside(text, place + 1, ")]}") + 1
 
 
-def parts(text):
-    """What stands between the commas of a text, outside of brackets."""
+def parts(text, sign=","):
+    """What stands between the commas of a text, or between another sign, outside of brackets."""
     plain, depth, found = text.replace("->", "  "), 0, [""]
     for at, character in enumerate(plain):
         depth += (character in "([{<") - (character in ")]}>")
-        if character == "," and depth == 0:
+        if character == sign and depth == 0:
             found.append("")
         else:
             found[-1] += text[at]
@@ -125,6 +131,46 @@ def parts(text):
 
 def words_of(text):
     return set(re.findall(r"\w+", text))
+
+
+def began(text):
+    """Where the value begins that a text ends with: a name, its fields, calls and places."""
+    depth = 0
+    at = len(text) - 1
+    while at >= 0:
+        if text[at] in ")]":
+            depth += 1
+        elif text[at] in "([":
+            if depth == 0:
+                break
+            depth -= 1
+        elif depth == 0 and text[at].isspace():
+            rest, front = text[at + 1 :].lstrip(), text[:at].rstrip()
+            if not (rest.startswith(".") or front.endswith(".") or not rest):
+                break
+        elif depth == 0 and not (text[at].isalnum() or text[at] in "_.:?"):
+            break
+        at -= 1
+    return at + 1
+
+
+def bound_in(body):
+    """The names that a body binds, in order: the pattern, the type that is told, and the value."""
+    for match in BIND.finditer(body):
+        begin = match.end()
+        if match.group(1):
+            sign = outside(body, begin, "=;")
+            pattern, _, told = body[begin:sign].partition(":") if "::" not in body[begin:sign] else (body[begin:sign], "", "")
+            value = body[sign + 1 : outside(body, sign + 1, ";{")]
+            yield pattern.strip(), told, re.sub(r"\selse\s*$", "", value)
+        elif match.group(2):
+            pattern, _, value = body[begin : outside(body, begin, "{")].partition(" in ")
+            yield pattern.strip(), "", value
+        else:
+            brace = outside(body, begin, "{")
+            value, end = body[begin:brace], behind(body, brace)
+            for arm in re.finditer(r"^ *(\S[^\n]*?) =>", body[brace:end], re.MULTILINE):
+                yield arm.group(1).partition(" if ")[0], "", value
 
 
 # A file
@@ -175,12 +221,25 @@ def bounds_of(generics):
     return {name.strip(): words_of(text) for name, _, text in pairs if text}
 
 
+def is_aside(way):
+    """Whether a way of a `match` is one that is not walked: each of its patterns has a word for that."""
+    return all(words_of(pattern) & ASIDE for pattern in way.partition(" if ")[0].strip("| ").split("|"))
+
+
 def walked(body):
-    """A body without the arms that are not walked, and without what a `let` does else."""
+    """A body without the ways that are not walked: of a `match`, of an `if`, and what a `let` does else."""
     for arm in ARM.finditer(body):
-        if all(words_of(way) & ASIDE for way in arm.group(1).partition(" if ")[0].strip("| ").split("|")):
-            begin = arm.end()
+        if is_aside(arm.group(1)):
+            begin, guard = arm.end(), arm.start(1) + len(arm.group(1).partition(" if ")[0])
             body = without(body, begin, behind(body, begin) if body[begin] == "{" else outside(body, begin, ",}"))
+            body = without(body, guard, arm.end(1))
+    for test in re.finditer(r"\bif (?:let (.*?) = |matches!\([^,]*, (.*)\) )?", body):
+        begin = outside(body, test.end(), "{")
+        end = behind(body, begin) if begin < len(body) else begin
+        refuses = re.search(r"\breturn Err\([^;]*\);\s*\}$", body[begin:end])
+        asked = words_of(body[test.end() : begin]) & ASKED
+        if refuses or asked or is_aside(test.group(1) or test.group(2) or ""):
+            body = without(body, begin, end)
     for other in re.finditer(r"(?<=[^}\s])\s+else (?=\{)", body):
         body = without(body, other.end(), behind(body, other.end()))
     return body
@@ -328,10 +387,74 @@ class Calls:
         crate, _ = source.uses.get(names[-1], (names[0], names))
         return self.in_module(source.crate if crate in ("crate", "super", "self") else crate, name, names[-1])
 
+    def value(self, function, text, known):
+        """The types of a value: of a name, of its fields, and of what its methods answer; `None` where they can't be told."""
+        text = text.strip().lstrip("&*").removeprefix("mut ").strip()
+        head = HEAD.match(text)
+        if not head:
+            return None
+        path, name = head.groups()
+        at = head.end()
+        if text[at : at + 1] == "(":
+            found = self.by_path(function, path, name) if path else self.plain(function, name)
+            keys = self.answers_of(found) if found else path and self.types_in(path, function.source, function.bounds, function.owner)
+            keys = keys or self.value(function, text[at + 1 : behind(text, at) - 1], known)
+            at = behind(text, at)
+        else:
+            keys = self.types_in(path, function.source, function.bounds, function.owner) if path else known.get(name)
+        while keys is not None and at < len(text):
+            step = STEP.match(text, at)
+            if not step:
+                return None
+            at, name = step.end(), step.group(1)
+            if text[at - 1] in "([":
+                found, at = self.methods_of(keys, name) if name else [], behind(text, at - 1)
+                keys = self.answers_of(found) if found else keys
+            elif name:
+                keys = self.within(keys, [name])
+        return keys
+
+    def answers_of(self, functions):
+        return set().union(*(self.types_in(other.answer, other.source, other.bounds, other.owner) for other in functions))
+
+    def bind(self, function, pattern, keys, known):
+        """Notes the types of the names that a pattern binds, where these are the types of the value."""
+        pattern = pattern.strip().lstrip("&|").removeprefix("mut ").removeprefix("ref ").strip()
+        ways, shape = parts(pattern, "|"), SHAPE.match(pattern)
+        if len(ways) > 1:
+            for way in ways:
+                self.bind(function, way, keys, known)
+        elif re.fullmatch(r"[a-z_]\w*", pattern):
+            known[pattern] = keys
+        elif shape:
+            name, begin = shape.group(1), shape.end() - 1
+            for part in parts(pattern[begin + 1 : behind(pattern, begin) - 1]):
+                field, colon, inner = part.partition(":") if pattern[begin] == "{" and "::" not in part.partition("(")[0] else (part, "", "")
+                one = self.types_in(name, function.source, function.bounds, function.owner) & (keys or set())
+                within = keys and (self.within(one, [field.strip()]) if one else self.within(keys, [name]) or keys)
+                self.bind(function, inner if colon else part, within, known)
+
+    def bind_value(self, function, pattern, value, known):
+        several = [text.strip()[1:-1] for text in (pattern, value) if re.fullmatch(r"\(.*\)", text.strip(), re.DOTALL)]
+        if len(several) == 2:
+            for part, of in zip(*map(parts, several)):
+                self.bind_value(function, part, of, known)
+        else:
+            self.bind(function, pattern, self.value(function, value, known), known)
+
+    def with_locals(self, function, known):
+        """What is known of parameters, and of the names that a body binds."""
+        known = dict(known)
+        for pattern, told, value in bound_in(function.body):
+            if told:
+                known[pattern] = self.types_in(told, function.source, function.bounds, function.owner)
+            else:
+                self.bind_value(function, pattern, value, known)
+        return known
+
     def on_value(self, function, before, name, known, in_hand):
-        chain = CHAIN.search(before)
-        names = re.split(r"\s*\.\s*", chain.group(1)) if chain else [""]
-        return self.methods_of(self.within(known[names[0]], names[1:]) if names[0] in known else in_hand, name)
+        keys = self.value(function, before[began(before) :], known)
+        return self.methods_of(in_hand if keys is None else keys, name)
 
     def callees(self, function, known, in_hand):
         for call in CALL.finditer(function.body):
@@ -352,9 +475,9 @@ class Calls:
     @functools.cache
     def of(self, function):
         """The functions that a function calls."""
-        known = self.parameters_of(function)
+        known = self.with_locals(function, self.parameters_of(function))
         named = self.types_in(function.answer + function.body, function.source, function.bounds, function.owner)
-        in_hand = named.union(*known.values())
+        in_hand = named.union(*(keys for keys in known.values() if keys))
         words, found, count = words_of(function.body), set(), -1
         while count < len(in_hand):
             count = len(in_hand)

@@ -16,8 +16,8 @@ use Rattle.saved_rows.specs.declared.identity.Identity.{Identity}
 use Rattle.protocol.specs.Rows.{Row}
 use Rattle.protocol.specs.Circuit.{State, with_at, restarts}
 use Rattle.saved_rows.specs.Saved.{Saved, with_row}
-use Rattle.row_columns.specs.Columns.{version_in, saved_in}
-use Rattle.acceptor_store.specs.Sqlite.{SqliteOf, IsOpen, IsOfStation, rows_layout, saved_of, LeavesStation}
+use Rattle.acceptor_store.specs.Columns.{version_in, saved_in}
+use Rattle.acceptor_store.specs.Sqlite.{SqliteOf, IsOpen, IsOfStation, saved_of, LeavesStation}
 use Rattle.acceptor_store.specs.Acknowledged.{WasAcknowledged, SavesNothingUnder, reads, puts, upgrades, GoesOn, no_call, one_more, LeavesRowsAtRest, AcknowledgedSaveIsFound, CrashAtRestLosesNothing, CrashAtRestIsRestart}
 use Rattle.acceptor_store.proofs.RestartLemmas.{found_left, found_ours, ours_prop, taken_rows, taken_station, opens}
 use Rattle.acceptor_store.proofs.StepLemmas.{at_itself, same_state}
@@ -51,9 +51,9 @@ module _ {S : Type 0} (g : Ghosts S) (i : Identity) (number : ℕ) (row : Row) w
     same = a.identity ∙ is;
     has = λ here. a.rows number ∙ put_there (saved_of g old) number row;
     leaves = λ db may. record {
-      layout = rows_layout new;
-      station = subst (λ (j : Identity). IsOfStation (rows_layout new) j db) is (a.crash_station a.was_open a.ran db may);
-      row_is = a.crash_ok (saved_in (rows_layout new) db) (db, may, refl) number ∙ put_there (saved_of g old) number row;
+      layout = new.layout;
+      station = subst (λ (j : Identity). IsOfStation new.layout j db) is (a.crash_station a.was_open a.ran db may);
+      row_is = a.crash_ok (saved_in new.layout db) (db, may, refl) number ∙ put_there (saved_of g old) number row;
     };
   }
 
@@ -70,9 +70,9 @@ module _ {S : Type 0} (g : Ghosts S) (i : Identity) (number : ℕ) (row : Row) w
       | inr new ↦ new number ∙ put_elsewhere (saved_of g old) other number now far ∙ k.has was_open
     ];
     leaves = λ db may. record {
-      layout = rows_layout new;
-      station = subst (λ (j : Identity). IsOfStation (rows_layout new) j db) k.same (station was_open ran db may);
-      row_is = elim (crash was_open ran (saved_in (rows_layout new) db) (db, may, refl)) [
+      layout = new.layout;
+      station = subst (λ (j : Identity). IsOfStation new.layout j db) k.same (station was_open ran db may);
+      row_is = elim (crash was_open ran (saved_in new.layout db) (db, may, refl)) [
         | inl same ↦ same number ∙ k.has was_open
         | inr new ↦ new number ∙ put_elsewhere (saved_of g old) other number now far ∙ k.has was_open
       ];
@@ -140,10 +140,10 @@ calls_rest g = record {
   };
   get = λ old new rest was_open identity layout same crash. record {
     is_open = was_open;
-    station = λ db may. subst (λ (i : Identity). IsOfStation (rows_layout new) i db) (sym identity)
+    station = λ db may. subst (λ (i : Identity). IsOfStation new.layout i db) (sym identity)
         (subst (λ (l : Layout). IsOfStation l old.identity db) (sym layout) (rest.station db (crash rest.is_open db may)));
     rows = λ left may n.
-        let was = rest.rows (saved_in (rows_layout old) may.0) (may.0, crash rest.is_open may.0 may.1, refl) n in
+        let was = rest.rows (saved_in old.layout may.0) (may.0, crash rest.is_open may.0 may.1, refl) n in
         ap (λ (m : Saved). m n) may.2 ∙ ap (λ (l : Layout). saved_in l may.0 n) layout ∙ was ∙ sym (same n);
   };
   upgrade = λ old new was_open identity same crash station. record {

@@ -9,19 +9,19 @@ use Rattle.sqlite.specs.Effect.{Database}
 use Rattle.sqlite.specs.WalReads.{AreClean}
 use Rattle.sqlite.specs.Files.{file_state, over_files}
 use Rattle.sqlite.specs.Held.{Held}
-use Rattle.row_columns.specs.Columns.{saved_in}
+use Rattle.acceptor_store.specs.Columns.{saved_in}
 use Rattle.acceptor_store.specs.Files.{HoldsRowsAlone}
 use Rattle.acceptor_store.specs.Restarts.{GivesUp}
-use Rattle.acceptor_store.specs.Sqlite.{SqliteOf, IsOfStation, Stands, rows_layout}
+use Rattle.acceptor_store.specs.Sqlite.{SqliteOf, IsOfStation, Stands}
 
 -- the last commit is what the database holds, and that is the rows
-pub holds_alone : {D : Type 0} {g : Ghosts D} (s : SqliteOf (FileStore D g)) (files : Files D) → Stands over_files (rows_layout s) s.conn s.identity → IsCopied s.conn files → HoldsRowsAlone s files
+pub holds_alone : {D : Type 0} {g : Ghosts D} (s : SqliteOf (FileStore D g)) (files : Files D) → Stands over_files s.layout s.conn s.identity → IsCopied s.conn files → HoldsRowsAlone s files
 holds_alone s files stands copied =
     let rests = (stands.serves copied.was_clean).1 copied.was_open in
     record {
       db = (file_state s.conn).committed.trees;
-      same = λ n. ap (λ (d : Database). saved_in (rows_layout s) d.trees n) rests.settled;
-      station = subst (λ (d : Database). IsOfStation (rows_layout s) s.identity d.trees) (sym rests.settled) (stands.holds copied.was_clean copied.was_open);
+      same = λ n. ap (λ (d : Database). saved_in s.layout d.trees n) rests.settled;
+      station = subst (λ (d : Database). IsOfStation s.layout s.identity d.trees) (sym rests.settled) (stands.holds copied.was_clean copied.was_open);
       seen = copied.seen;
       left = copied.left;
     }

@@ -20,12 +20,12 @@ use Rattle.protocol.specs.Rows.{Row}
 use Rattle.saved_rows.specs.Saved.{Saved, with_row}
 use Rattle.saved_rows.specs.declared.identity.Identity.{Identity}
 use Rattle.saved_rows.specs.declared.fault.RowsFault.{RowsFault}
-use Rattle.row_groups.specs.Groups.{WithAll, WithSome, IsAllOrNone}
-use Rattle.row_groups.proofs.GroupLemmas.{same_all}
-use Rattle.row_columns.specs.Columns.{saved_in}
-use Rattle.row_columns.proofs.SaveLemmas.{saves_row}
+use Rattle.saved_rows.specs.Groups.{WithAll, WithSome, IsAllOrNone}
+use Rattle.saved_rows.proofs.GroupLemmas.{same_all}
+use Rattle.acceptor_store.specs.Columns.{saved_in}
+use Rattle.acceptor_store.proofs.SaveLemmas.{saves_row}
 use Rattle.acceptor_store.specs.Sqlite.{IsOfStation, Stands}
-use Rattle.acceptor_store.specs.Grouping.{PutsBack, PutsEach, StagesBack, StagesRows, StagesSecond, HasLayout, WereSaved, CommitsEach, CrashesWithAllOrNone, WasOpenWhereDone}
+use Rattle.acceptor_store.specs.Grouping.{PutsBack, PutsEach, StagesBack, StagesRows, StagesSecond, HasLayout, WereSaved, CommitsEach, CrashesWithAllOrNone, WasOpenWhereDone, PutsTogether, SavesTogether}
 use Rattle.acceptor_store.proofs.StandLemmas.{IsSettled, saved_station, was_clean}
 
 -- from a place on a list has what stands there and then the rest
@@ -173,6 +173,18 @@ module _ (layout : Layout) (items : List (ℕ × Row)) (old new : State) (falls 
         | inl before ↦ inl (law_old db opened before ∙ ap (λ (d : Database). d.trees) rest.settled)
         | inr puts ↦ inr puts
       ]
+
+-- rows that were put together by a connection that serves were saved together
+pub saved_together : {A : Type 0} {layout : Layout} {items : List (ℕ × Row)} {r : Result A RowsFault} {old new : State} → IsSettled old → IsSettled new
+    → PutsTogether layout items r old new → SavesTogether layout items r old new
+saved_together {layout = layout} {items = items} {r = r} {old = old} {new = new} law_old law_new puts = record {
+  serves = λ serves. serves_each layout items old new puts.ends.clean law_old law_new serves puts.ended r puts.committed puts.opened puts.ends.was_open puts.ends.neither;
+  saved = λ serves. saves_each layout items old new puts.ends.clean law_old law_new serves puts.ended r puts.committed puts.opened;
+  err = λ serves. keeps_each layout items old new puts.ends.clean law_old law_new serves puts.ended r puts.ends.was_open puts.ends.neither;
+  crash = λ serves. leaves_each layout items old new puts.ends.clean law_old law_new serves puts.ended puts.crash;
+  clean = puts.ends.clean;
+  refusal = puts.refusal;
+}
 
 -- ---- what is left where these were to be put
 

@@ -17,9 +17,9 @@ use Rattle.row_table.specs.Station.{station_columns, HoldsNone}
 use Rattle.row_table.specs.Entries.{HasLayoutOne, IsUpgraded}
 use Rattle.saved_rows.specs.declared.identity.Identity.{Identity}
 use Rattle.saved_rows.specs.Identity.{IsIdentity}
-use Rattle.row_columns.specs.Columns.{whole_in, small}
-use Rattle.row_columns.specs.StationRow.{station_from, station_of, station_in, IsStationOf}
-use Rattle.row_columns.proofs.ColumnLemmas.{ranged}
+use Rattle.acceptor_store.specs.Columns.{whole_in, small}
+use Rattle.acceptor_store.specs.StationRow.{station_from, station_of, station_in, IsStationOf}
+use Rattle.acceptor_store.proofs.ColumnLemmas.{ranged}
 
 -- the order of the rows tells nothing
 pub same_station : (xs ys : List Columns) → IsPermutation xs ys → station_in xs ≡ station_in ys

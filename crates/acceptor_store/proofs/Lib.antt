@@ -1,16 +1,22 @@
-pub mod ListLemmas
-pub mod IdentityLemmas
-pub mod StandLemmas
-pub mod RestLemmas
-pub mod UpgradeLemmas
-pub mod GroupLemmas
-pub mod OpeningLemmas
-mod ClosingLemmas
-pub mod FaultLemmas
-mod TableLemmas
-mod RestartLemmas
 mod AcknowledgedLemmas
-mod StepLemmas
+mod ClosingLemmas
 mod GivingLemmas
+mod RestartLemmas
+mod StepLemmas
+mod TableLemmas
 mod TestingLemmas
+pub mod ColumnLemmas
+pub mod EntryColumnLemmas
+pub mod FaultLemmas
+pub mod FitLemmas
+pub mod GroupLemmas
+pub mod IdentityLemmas
+pub mod LayoutLemmas
+pub mod ListLemmas
+pub mod OpeningLemmas
 pub mod ReadingLemmas
+pub mod RestLemmas
+pub mod RowsAsEntriesLemmas
+pub mod SaveLemmas
+pub mod StandLemmas
+pub mod UpgradeLemmas

@@ -13,8 +13,8 @@ use Rattle.row_table.specs.Rows.{whole, columns_at}
 use Rattle.row_table.specs.Rising.{key_of, is_above, is_at, goes_on, rise_from, listed_columns, listed_at, IsInTable, AreListed}
 use Rattle.protocol.specs.Rows.{Row, blank}
 use Rattle.saved_rows.specs.Saved.{HasPromise, saved_by, RiseFrom, IsListOf}
-use Rattle.row_columns.specs.Columns.{row_in, is_number, damage_of, first_of, damage_in, item_in, row_or_blank, whole_in, IsSound, AreSound}
-use Rattle.row_columns.proofs.ColumnLemmas.{ranged}
+use Rattle.acceptor_store.specs.Columns.{row_in, is_number, damage_of, first_of, damage_in, item_in, row_or_blank, whole_in, IsSound, AreSound}
+use Rattle.acceptor_store.proofs.ColumnLemmas.{ranged}
 
 split : (a b : Bool) → (a && b) ≡ true → (a ≡ true) × (b ≡ true)
 split true b e = (refl, e)

@@ -5,7 +5,7 @@ use Rattle.sqlite_trees.specs.Tree.{Trees}
 use Rattle.saved_rows.specs.declared.identity.Identity.{Identity}
 use Rattle.saved_rows.specs.declared.fault.RowsFault.{RowsFault}
 use Rattle.saved_rows.specs.declared.fault.RowsFault.TheVariants.{Store, WrongStation, WrongSchema, Damaged, OutOfMemory}
-use Rattle.row_columns.specs.StationRow.{stored_station, IsStationOf, Agrees, RefusesStation}
+use Rattle.acceptor_store.specs.StationRow.{stored_station, IsStationOf, Agrees, RefusesStation}
 use Rattle.acceptor_store.specs.Sqlite.{RefusesRows, RefusesToOpen}
 
 module _ (layout : Tables) (trees : Trees) (stored : ℕ × Identity) (is : stored_station trees ≡ Some stored) where

@@ -16,8 +16,8 @@ use Rattle.protocol.specs.Rows.{Vote, Row, may_stand}
 use Rattle.saved_rows.specs.Saved.{HasPromise, IsListOf}
 use Rattle.saved_rows.specs.declared.fault.RowsFault.{RowsFault}
 use Rattle.row_table.specs.declared.layout.Layout.{Layout as Coded}
-use Rattle.row_columns.specs.Layouts.{layout_of}
-use Rattle.row_columns.specs.Columns.{whole_in, ballot_from, vote_at, row_in, row_of, row_from, first_of, damage_of, damage_in, item_from, item_in, saved_in, AreSound}
+use Rattle.acceptor_store.specs.Layouts.{layout_of}
+use Rattle.acceptor_store.specs.Columns.{whole_in, ballot_from, vote_at, row_in, row_of, row_from, first_of, damage_of, damage_in, item_from, item_in, saved_in, AreSound}
 use Rattle.acceptor_store.specs.Sqlite.{Lists, IsRefusal}
 use Rattle.acceptor_store.specs.declared.reading.RowReader.{RowReader}
 use Rattle.acceptor_store.specs.Reading.{SeesFront, SeesAll, HasSeen}

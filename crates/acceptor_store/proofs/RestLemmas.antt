@@ -7,22 +7,22 @@ use Rattle.row_table.specs.Tables.{Layout}
 use Rattle.saved_rows.specs.Saved.{Saved}
 use Rattle.saved_rows.specs.Identity.{IsIdentity}
 use Rattle.saved_rows.specs.declared.identity.Identity.{Identity}
-use Rattle.row_columns.specs.Columns.{saved_in}
-use Rattle.acceptor_store.specs.Sqlite.{SqliteOf, HoldsNoRow, IsAtRest, IsKept, IsOfStation, IsOpen, LeavesNoRow, Stands, rows_layout}
+use Rattle.acceptor_store.specs.Columns.{saved_in}
+use Rattle.acceptor_store.specs.Sqlite.{SqliteOf, HoldsNoRow, IsAtRest, IsKept, IsOfStation, IsOpen, LeavesNoRow, Stands}
 use Rattle.acceptor_store.proofs.StandLemmas.{IsSettled, leaves_now, made_holds, none_saved}
 
 -- a crash leaves what there is, where the connection is open and stands on the tables of the station
-pub rests : {S : Type 0} (g : Ghosts S) (s : SqliteOf S) → IsSettled (state g s.conn) → Stands g (rows_layout s) s.conn s.identity → IsKept g s → IsOpen g s → IsAtRest g s
+pub rests : {S : Type 0} (g : Ghosts S) (s : SqliteOf S) → IsSettled (state g s.conn) → Stands g s.layout s.conn s.identity → IsKept g s → IsOpen g s → IsAtRest g s
 rests g s law stands kept opened =
-    let now = leaves_now (rows_layout s) (state g s.conn) law stands.serves kept.0 opened in
+    let now = leaves_now s.layout (state g s.conn) law stands.serves kept.0 opened in
     record {
       is_open = opened;
-      station = λ db may. subst (IsOfStation (rows_layout s) s.identity) (sym (now db may)) (stands.holds kept.0 opened);
-      rows = λ left may n. ap (λ (m : Saved). m n) may.2 ∙ ap (λ (t : Trees). saved_in (rows_layout s) t n) (now may.0 may.1);
+      station = λ db may. subst (IsOfStation s.layout s.identity) (sym (now db may)) (stands.holds kept.0 opened);
+      rows = λ left may n. ap (λ (m : Saved). m n) may.2 ∙ ap (λ (t : Trees). saved_in s.layout t n) (now may.0 may.1);
     }
 
 -- so are rows whose tables were just made
-pub made_rests : {S : Type 0} (g : Ghosts S) (s : SqliteOf S) (layout : Layout) (i : Identity) → IsIdentity i → i.circuit < 65536 → rows_layout s ≡ layout → s.identity ≡ i
+pub made_rests : {S : Type 0} (g : Ghosts S) (s : SqliteOf S) (layout : Layout) (i : Identity) → IsIdentity i → i.circuit < 65536 → s.layout ≡ layout → s.identity ≡ i
     → IsOpen g s → HoldsNoRow g s → LeavesNoRow g layout i s → IsAtRest g s
 made_rests g s layout i is small laid same opened blank leaves = record {
   is_open = opened;

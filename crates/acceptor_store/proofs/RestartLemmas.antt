@@ -27,14 +27,14 @@ use Rattle.saved_rows.specs.contracts.identity.Identity as identity
 use Rattle.saved_rows.specs.Saved.{Saved, IsEither}
 use Rattle.saved_rows.specs.declared.identity.Identity.{Identity}
 use Rattle.protocol.specs.Versions.{Version, One, Two}
-use Rattle.row_columns.specs.Layouts.{layout_now}
-use Rattle.row_columns.specs.Columns.{version_in, saved_in}
-use Rattle.row_columns.specs.StationRow.{IsStationOf}
-use Rattle.acceptor_store.specs.Sqlite.{SqliteOf, layout_code, rows_layout, rows_version, IsOurs, IsOfStation, saved_of}
+use Rattle.acceptor_store.specs.Layouts.{upgraded_from}
+use Rattle.acceptor_store.specs.Columns.{version_in, saved_in}
+use Rattle.acceptor_store.specs.StationRow.{IsStationOf}
+use Rattle.acceptor_store.specs.Sqlite.{SqliteOf, layout_code, rows_version, IsOurs, IsOfStation, saved_of}
 use Rattle.acceptor_store.specs.Files.{IsTakenUp}
 use Rattle.acceptor_store.specs.Restarts.{GivesUp, AreOpenedFrom, AreTorn, OpensWhatIsLeft, PutOutlivesCrash, GroupOutlivesCrash, GroupIsFound, UpgradeOutlivesCrash, CreateOutlivesCrash}
 use Rattle.acceptor_store.proofs.IdentityLemmas.{added}
-use Rattle.acceptor_store.proofs.StandLemmas.{still, none_saved}
+use Rattle.acceptor_store.proofs.StandLemmas.{none_saved}
 use Rattle.acceptor_store.proofs.TableLemmas.{same_schema, same_layout}
 
 some_same : {A : Type 0} (a b : A) → Some a ≡ Some b → a ≡ b
@@ -53,10 +53,6 @@ torn_from before number row after (inr new) = record {
   ];
 }
 
--- the layout of rows that were just taken up
-fresh_layout : {S : Type 0} (s : SqliteOf S) → s.upgraded ≡ false → rows_layout s ≡ s.was
-fresh_layout s fresh = ap (layout_now s.was) fresh ∙ still s.was
-
 -- what the store owes is no more than a fact
 pub ours_prop : (alone : Bool) (was : Layout) (found : Option Schema) (x y : IsOurs alone was found) → x ≡ y
 ours_prop alone was None = ×_prop (Coded-set coded_bool _ _) Unit-prop
@@ -71,7 +67,7 @@ told_apart One Two h = inl (∥∥₁_elim h (λ x y. absurd (differ x)) (λ eit
     differ : ¬ (One ≡ Two)
     differ e = absurd cc
 
-version_after : (before layout : Layout) → (layout ≡ before) ⊎ (layout ≡ layout_now before true) → (version_in layout ≡ version_in before) ⊎ (version_in layout ≡ Two)
+version_after : (before layout : Layout) → (layout ≡ before) ⊎ (layout ≡ upgraded_from before) → (version_in layout ≡ version_in before) ⊎ (version_in layout ≡ Two)
 version_after before layout (inl same) = inl (ap version_in same)
 version_after First layout (inr over) = inr (ap version_in over)
 version_after (Second origin) layout (inr over) = inr (ap version_in over)
@@ -100,8 +96,8 @@ module _ {E : Type 0} {h : Ghosts E} (left : Image) (again : SqliteOf (FileStore
   taken_layout : again.was ≡ layout
   taken_layout = same_layout again.was layout (sym taken.tables ∙ found_schema taken.was taken.opened layout tables)
 
-  now_layout : rows_layout again ≡ layout
-  now_layout = fresh_layout again taken.fresh ∙ taken_layout
+  now_layout : again.layout ≡ layout
+  now_layout = taken.fresh ∙ taken_layout
 
   pub taken_rows : (n : ℕ) → saved_of over_files again n ≡ saved_in layout (file_state taken.was).now.trees n
   taken_rows n =
@@ -115,14 +111,14 @@ pub opens : {D : Type 0} {g : Ghosts D} {E : Type 0} {h : Ghosts E} → OpensWha
 opens {h = h} s i files left again leaves gives clean may opened =
     let made = opened.made in
     let first = found_left s.conn files left gives clean may made.was (made.opened opened.honest) (made.found opened.honest) in
-    let ours = ∥∥₁_elim first (ours_prop again.alone again.was again.found) (λ db. found_ours left again opened (rows_layout s) i (leaves _ db)) in
+    let ours = ∥∥₁_elim first (ours_prop again.alone again.was again.found) (λ db. found_ours left again opened s.layout i (leaves _ db)) in
     let taken = opened.rows ours in
     let found = found_left s.conn files left gives clean may taken.was taken.opened taken.found in
     let trees = (file_state taken.was).now.trees in (
       ours,
-      ∥∥₁_elim found (Coded-set layout_code _ _) (λ db. now_layout left again taken (rows_layout s) (leaves _ db).tables),
-      ∥∥₁_elim found (Coded-set identity.the_row.coded _ _) (λ db. taken_station left again taken (rows_layout s) (leaves _ db).tables i (leaves _ db).holds.station),
-      ∥∥₁_map found (λ db. (trees, db, same_rows (saved_of over_files again) (saved_in (rows_layout s) trees) (taken_rows left again taken (rows_layout s) (leaves _ db).tables))),
+      ∥∥₁_elim found (Coded-set layout_code _ _) (λ db. now_layout left again taken s.layout (leaves _ db).tables),
+      ∥∥₁_elim found (Coded-set identity.the_row.coded _ _) (λ db. taken_station left again taken s.layout (leaves _ db).tables i (leaves _ db).holds.station),
+      ∥∥₁_map found (λ db. (trees, db, same_rows (saved_of over_files again) (saved_in s.layout trees) (taken_rows left again taken s.layout (leaves _ db).tables))),
     )
 
 pub put_outlives : {D : Type 0} {g : Ghosts D} {E : Type 0} {h : Ghosts E} → PutOutlivesCrash D g E h
@@ -154,7 +150,7 @@ upgrade_outlives {h = h} old new files left again leaves gives clean may opened 
           refl,
           told_apart (rows_version again) (rows_version old) (∥∥₁_map found (λ db.
               let all = leaves _ db in
-              version_after (rows_layout old) (rows_layout again) (subst (λ l. (l ≡ rows_layout old) ⊎ (l ≡ layout_now (rows_layout old) true)) (sym (now_layout left again taken all.layout all.station.tables)) all.either))),
+              version_after old.layout again.layout (subst (λ l. (l ≡ old.layout) ⊎ (l ≡ upgraded_from old.layout)) (sym (now_layout left again taken all.layout all.station.tables)) all.either))),
         );
         same = λ n. ∥∥₁_elim found (Coded-set row.the_row.coded _ _) (λ db. let all = leaves _ db in taken_rows left again taken all.layout all.station.tables n ∙ all.same n);
       },

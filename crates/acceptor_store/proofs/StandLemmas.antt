@@ -1,5 +1,5 @@
 -- What a call leaves of a connection that stands on the tables of a station.
-use Rattle.std.proofs.Common.{◌≡◌, ◌≢◌, ◌⊎◌, inl, inr, ◌<◌, ◌≤◌, ℕ, Bool, true, false, IsTrue, is_some, map, refl, sym, ap, subst, ◌∙◌, arith, true≢false}
+use Rattle.std.proofs.Common.{◌≡◌, ◌≢◌, ◌⊎◌, inl, inr, ◌<◌, ◌≤◌, ℕ, true, false, IsTrue, is_some, map, refl, sym, ap, subst, ◌∙◌, arith, true≢false}
 use Rattle.sqlite_trees.specs.declared.store.Store.{Ghosts}
 use Rattle.sqlite_trees.specs.Tree.{Trees}
 use Rattle.sqlite_trees.specs.View.{doubt}
@@ -17,23 +17,22 @@ use Rattle.saved_rows.specs.declared.identity.Identity.{Identity}
 use Rattle.saved_rows.specs.Identity.{IsIdentity}
 use Rattle.sqlite_trees.specs.Objects.{catalog_tree}
 use Rattle.sqlite_catalog.specs.Listing.{Lists as ListsTables}
-use Rattle.row_columns.specs.Layouts.{layout_now}
-use Rattle.row_columns.specs.StationRow.{station_in}
-use Rattle.row_columns.specs.Columns.{row_or_blank, columns_for, saved_in, ComesBack}
-use Rattle.acceptor_store.specs.Sqlite.{HoldsRows, IsOfStation, HoldsAll, Stands}
-use Rattle.row_columns.proofs.SaveLemmas.{stays_sound, stays_station}
+use Rattle.acceptor_store.specs.StationRow.{station_in}
+use Rattle.acceptor_store.specs.Columns.{row_or_blank, columns_for, saved_in, ComesBack}
+use Rattle.acceptor_store.specs.Layouts.{upgraded_from}
+use Rattle.acceptor_store.specs.Sqlite.{HoldsRows, IsOfStation, HoldsAll, Stands, StemsFrom}
+use Rattle.acceptor_store.proofs.SaveLemmas.{stays_sound, stays_station}
 use Rattle.acceptor_store.proofs.IdentityLemmas.{added}
 
--- rows that were not upgraded are in the layout that was found
-pub still : (was : Layout) → layout_now was false ≡ was
-still First = refl
-still (Second origin) = refl
+-- an upgrade of an upgraded layout is that layout
+upgrades_once : (layout : Layout) → upgraded_from (upgraded_from layout) ≡ upgraded_from layout
+upgrades_once First = refl
+upgrades_once (Second origin) = refl
 
--- an upgrade leads to one layout
-pub once_over : (was : Layout) (upgraded : Bool) → layout_now (layout_now was upgraded) true ≡ layout_now was true
-once_over First true = refl
-once_over First false = refl
-once_over (Second origin) upgraded = refl
+-- rows that are upgraded are in the layout that theirs is upgraded to
+pub upgrade_stems : (was layout : Layout) → StemsFrom was layout → StemsFrom was (upgraded_from layout)
+upgrade_stems was layout (inl same) = inr (ap upgraded_from same)
+upgrade_stems was layout (inr by) = inr (ap upgraded_from by ∙ upgrades_once was)
 
 -- the list of tables is in another tree than the rows
 catalog_apart : (layout : Layout) → catalog_tree ≢ layout_tree layout
@@ -108,14 +107,14 @@ module _ {S : Type 0} (g : Ghosts S) (old new : Held S) (falls : doubt (state g 
 pub taken_stands : {S : Type 0} (g : Ghosts S) (old new : Held S) (layout : Layout) (i : Identity) → (state g old).now.schema ≡ layout_schema layout → IsLive (state g old)
     → (HasCleanDisk (state g new) → HoldsRows layout i (state g old).now.trees)
     → (HasCleanDisk (state g new) → Serves layout (state g new))
-    → (HasCleanDisk (state g new) → IsUnchanged (state g old) (state g new)) → Stands g (layout_now layout false) new i
-taken_stands g old new layout i tables live holds serves same = subst (λ (l : Layout). Stands g l new i) (sym (still layout)) (record {
+    → (HasCleanDisk (state g new) → IsUnchanged (state g old) (state g new)) → Stands g layout new i
+taken_stands g old new layout i tables live holds serves same = record {
   serves = λ clean. serves clean clean;
   holds = λ clean opened.
       let stays = same clean in
       let lists : ListsTables ((state g old).now.trees catalog_tree) (layout_schema layout) = subst (ListsTables ((state g old).now.trees catalog_tree)) tables (live stays.0.was_open).0.lists in
       same_holds layout i (state g old).now (state g new).now stays.0.now_is (record { tables = lists; holds = holds clean });
-})
+}
 
 -- the rows of a database that was just made
 pub none_saved : (layout : Layout) (circuit member members : ℕ) (trees : Trees) → HoldsNone layout circuit member members trees → (n : ℕ) → saved_in layout trees n ≡ blank

@@ -7,8 +7,8 @@ use Rattle.row_table.specs.Tables.{Layout as Tables, layout_tree}
 use Rattle.row_table.specs.Rows.{IsListing, AreRows}
 use Rattle.row_table.specs.Rising.{rise_from, AreListed}
 use Rattle.row_table.specs.declared.layout.Layout.{Layout}
-use Rattle.row_columns.specs.Layouts.{layout_of}
-use Rattle.row_columns.specs.Columns.{first_of, damage_in, AreSound}
+use Rattle.acceptor_store.specs.Layouts.{layout_of}
+use Rattle.acceptor_store.specs.Columns.{first_of, damage_in, AreSound}
 use Rattle.acceptor_store.specs.declared.row_test.RowTest.{RowTest}
 use Rattle.acceptor_store.specs.Sqlite.{Lists}
 use Rattle.acceptor_store.specs.Testing.{begun, LeadsTo}

@@ -14,8 +14,8 @@ use Rattle.row_table.specs.Rows.{Serves, AreRows, WasKept}
 use Rattle.row_table.specs.Entries.{HasLayoutOne, IsUpgraded, WasUpgraded}
 use Rattle.saved_rows.specs.Saved.{SameRows}
 use Rattle.saved_rows.specs.declared.identity.Identity.{Identity}
-use Rattle.row_columns.specs.Columns.{saved_in, saved_at, AreSound}
-use Rattle.row_columns.specs.RowsAsEntries.{HoldsMap}
+use Rattle.acceptor_store.specs.Columns.{saved_in, saved_at, AreSound}
+use Rattle.acceptor_store.specs.RowsAsEntries.{HoldsMap}
 use Rattle.acceptor_store.specs.Sqlite.{IsOfStation, HoldsAll, Stands, WentOver}
 use Rattle.acceptor_store.proofs.IdentityLemmas.{lies_in_one, upgraded_station}
 use Rattle.acceptor_store.proofs.StandLemmas.{IsSettled, was_clean, leaves_now, holds_all}

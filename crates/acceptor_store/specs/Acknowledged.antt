@@ -13,9 +13,9 @@ use Rattle.protocol.specs.Rows.{Row}
 use Rattle.protocol.specs.Versions.{Version}
 use Rattle.protocol.specs.Circuit.{Circuit, State, Restarts, Restarted, StepsTo}
 use Rattle.saved_rows.specs.Saved.{Saved, SameRows, WithRow, IsEither}
-use Rattle.row_groups.specs.Groups.{WithAll}
+use Rattle.saved_rows.specs.Groups.{WithAll}
 use Rattle.acceptor_store.specs.Grouping.{LeavesWithAll}
-use Rattle.acceptor_store.specs.Sqlite.{SqliteOf, IsAtRest, IsOpen, IsOurs, rows_layout, rows_version, saved_of, LeavesStation, LeavesAll, LeavesEither, LeavesItsStation, LeavesNoOther, LeavesSameRows, LeavesWithRow}
+use Rattle.acceptor_store.specs.Sqlite.{SqliteOf, IsAtRest, IsOpen, IsOurs, rows_version, saved_of, LeavesStation, LeavesAll, LeavesEither, LeavesItsStation, LeavesNoOther, LeavesSameRows, LeavesWithRow}
 use Rattle.acceptor_store.specs.Restarts.{GivesUp, AreOpenedFrom}
 
 module _ {S : Type 0} (g : Ghosts S) where
@@ -55,7 +55,7 @@ module _ {S : Type 0} (g : Ghosts S) where
         (items : List (ℕ × Row)) (old new : SqliteOf S) → IsOpen g old → old.stopped ≡ false → new.identity ≡ old.identity
         → WithAll (saved_of g old) items (saved_of g new) → LeavesWithAll g items old new → LeavesItsStation g old new → IsOpen g new → IsAtRest g new
     pub get :
-        (old new : SqliteOf S) → IsAtRest g old → IsOpen g new → new.identity ≡ old.identity → rows_layout new ≡ rows_layout old
+        (old new : SqliteOf S) → IsAtRest g old → IsOpen g new → new.identity ≡ old.identity → new.layout ≡ old.layout
         → SameRows (saved_of g old) (saved_of g new) → LeavesNoOther g old new → IsAtRest g new
     pub upgrade :
         (old new : SqliteOf S) → IsOpen g new → new.identity ≡ old.identity → SameRows (saved_of g old) (saved_of g new)

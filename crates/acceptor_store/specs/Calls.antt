@@ -45,7 +45,7 @@ module _ {S : Type 0} (g : Ghosts S) where
     pub same : IsKept g new → IsOpen g new → SameRows (saved_of g old) (saved_of g new)
     pub crash : IsKept g new → LeavesNoOther g old new
     -- it stops nothing
-    pub stays : (new.stopped ≡ old.stopped) × (new.upgraded ≡ old.upgraded)
+    pub stays : (new.stopped ≡ old.stopped) × (new.layout ≡ old.layout)
 
   -- an Ok gives the row of this number, and none is changed
   pub record GivesRow (number : ℕ) (result : Result Row RowsFault) (old new : SqliteOf S) : Type 0 where
@@ -68,4 +68,4 @@ module _ {S : Type 0} (g : Ghosts S) where
     pub goes_on : OnOk result (new.stopped ≡ old.stopped)
     -- a refusal speaks of no row
     pub refusal : IfErr result IsRefusal
-    pub layout : new.upgraded ≡ old.upgraded
+    pub layout : new.layout ≡ old.layout

@@ -19,11 +19,11 @@ use Rattle.protocol.specs.Versions.{Version}
 use Rattle.saved_rows.specs.Saved.{SameRows}
 use Rattle.saved_rows.specs.declared.identity.Identity.{Identity}
 use Rattle.saved_rows.specs.declared.fault.RowsFault.{RowsFault}
-use Rattle.row_columns.specs.Columns.{saved_in}
-use Rattle.row_columns.specs.FoundTables.{has_any}
-use Rattle.row_columns.specs.Layouts.{made_in}
-use Rattle.row_columns.specs.StationRow.{IsStationOf}
-use Rattle.acceptor_store.specs.Sqlite.{SqliteOf, Agrees, HoldsNoRow, IsAtRest, IsOurs, IsOursAsFound, IsOfStation, rows_layout, rows_version, saved_of}
+use Rattle.acceptor_store.specs.Columns.{saved_in}
+use Rattle.acceptor_store.specs.FoundTables.{has_any}
+use Rattle.acceptor_store.specs.Layouts.{made_in}
+use Rattle.acceptor_store.specs.StationRow.{IsStationOf}
+use Rattle.acceptor_store.specs.Sqlite.{SqliteOf, Agrees, HoldsNoRow, IsAtRest, IsOurs, IsOursAsFound, IsOfStation, rows_version, saved_of}
 use Rattle.acceptor_store.specs.Opening.{IsReasonToRefuse, LeavesNothingNew, StaysUnwritten}
 
 -- what the store owes: where the database that the files held has the tables of a layout, and no others, they are its own, in that layout
@@ -43,7 +43,7 @@ pub record IsTakenUp {D : Type 0} {g : Ghosts D} (start : Image) (s : SqliteOf (
   pub crash : (db : Trees) → (file_state s.conn).may_leave db → (file_state was).may_leave db
   pub same : SameRows (saved_in s.was (file_state was).now.trees) (saved_of over_files s)
   pub station : IsStationOf s.was s.identity (file_state was).now.trees
-  pub fresh : s.upgraded ≡ false
+  pub fresh : s.layout ≡ s.was
 
 -- why the database that the files held is not taken up: where it has the tables of a layout, and no others, it is refused for this, and nothing is written
 pub record RefusesFiles {D : Type 0} {g : Ghosts D} (start : Image) (given : Option Identity) (fault : RowsFault) (conn : Held (FileStore D g)) : Type 0 where
@@ -72,7 +72,7 @@ pub record AreTakenUp {D : Type 0} {g : Ghosts D} (start : Image) (given : Optio
   pub made : TakesItsOwn start s
   pub rows : HasCleanDisk (file_state s.conn) → IsOurs s.alone s.was s.found → IsTakenUp start s
   pub agrees : Agrees given s.identity
-  pub fresh : s.upgraded ≡ false
+  pub fresh : s.layout ≡ s.was
   pub unstopped : s.stopped ≡ false
 
 -- rows whose tables were made in the files for this station, at this version
@@ -82,15 +82,15 @@ pub record AreMadeIn {D : Type 0} {g : Ghosts D} (start : Image) (i : Identity) 
   pub made : MakesItsOwn start s
   pub blank : HasCleanDisk (file_state s.conn) → IsOurs s.alone s.was s.found → HoldsNoRow over_files s
   pub identity : s.identity ≡ i
-  pub layout : (s.was ≡ made_in made_at) × (s.upgraded ≡ false)
+  pub layout : (s.was ≡ made_in made_at) × (s.layout ≡ s.was)
   pub version : rows_version s ≡ made_at
   pub unstopped : s.stopped ≡ false
 
 -- the database file alone, without its log, holds the rows and the station, as it reads now and after a crash
 pub record HoldsRowsAlone {D : Type 0} {g : Ghosts D} (s : SqliteOf (FileStore D g)) (files : Files D) : Type 0 where
   pub db : Trees
-  pub same : SameRows (saved_of over_files s) (saved_in (rows_layout s) db)
-  pub station : IsOfStation (rows_layout s) s.identity db
+  pub same : SameRows (saved_of over_files s) (saved_in s.layout db)
+  pub station : IsOfStation s.layout s.identity db
   pub seen : HoldsAlone (image_of g files) db
   pub left : (image : Image) → outcomes g files.log files.db image → HoldsAlone image db
 

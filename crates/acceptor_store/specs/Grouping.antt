@@ -15,8 +15,8 @@ use Rattle.row_table.specs.Within.{ActsWithin, EndsWhole}
 use Rattle.protocol.specs.Limits.{last_number}
 use Rattle.protocol.specs.Rows.{Row}
 use Rattle.saved_rows.specs.Saved.{Saved, HasPromise}
-use Rattle.row_groups.specs.Groups.{WithAll, IsAllOrNone}
-use Rattle.row_columns.specs.Columns.{columns_for, ComesBack}
+use Rattle.saved_rows.specs.Groups.{WithAll, IsAllOrNone}
+use Rattle.acceptor_store.specs.Columns.{columns_for, ComesBack}
 use Rattle.saved_rows.specs.declared.fault.RowsFault.{RowsFault}
 use Rattle.acceptor_store.specs.Sqlite.{SqliteOf, IsOpen, IsRefusal, MayLeave, saved_of}
 

@@ -13,9 +13,9 @@ use Rattle.row_table.specs.declared.layout.Layout.{Layout as LayoutValue}
 use Rattle.saved_rows.specs.declared.identity.Identity.{Identity}
 use Rattle.saved_rows.specs.declared.fault.RowsFault.{RowsFault}
 use Rattle.saved_rows.specs.declared.fault.RowsFault.TheVariants.{WrongSchema}
-use Rattle.row_columns.specs.Layouts.{layout_of}
-use Rattle.row_columns.specs.StationRow.{stored_station, Agrees, IsStationOf}
-use Rattle.row_columns.specs.Columns.{AreSound}
+use Rattle.acceptor_store.specs.Layouts.{layout_of}
+use Rattle.acceptor_store.specs.StationRow.{stored_station, Agrees, IsStationOf}
+use Rattle.acceptor_store.specs.Columns.{AreSound}
 use Rattle.acceptor_store.specs.Sqlite.{HoldsRows, IsRefusal, RefusesRows, RefusesToOpen}
 
 -- ---- a database that has the tables of a layout, whichever it is, and no others

@@ -9,7 +9,7 @@ use Rattle.row_table.specs.Rows.{Serves}
 use Rattle.row_table.specs.Reading.{KeepsServing}
 use Rattle.saved_rows.specs.Saved.{Saved, IsListOf}
 use Rattle.saved_rows.specs.declared.fault.RowsFault.{RowsFault}
-use Rattle.row_columns.specs.Columns.{item_in, damage_in, saved_in, AreSound}
+use Rattle.acceptor_store.specs.Columns.{item_in, damage_in, saved_in, AreSound}
 use Rattle.acceptor_store.specs.Sqlite.{IsRefusal}
 
 -- where the connection is open, each row of its table is sound

@@ -16,11 +16,11 @@ use Rattle.protocol.specs.Rows.{Row, blank}
 use Rattle.protocol.specs.Versions.{Version, Two}
 use Rattle.protocol.specs.Circuit.{MayLeave as MayLeaveTorn, Torn_by_store}
 use Rattle.saved_rows.specs.Saved.{Saved, SameRows, IsEither}
-use Rattle.row_groups.specs.Groups.{WithAll, IsAllOrNone}
+use Rattle.saved_rows.specs.Groups.{WithAll, IsAllOrNone}
 use Rattle.saved_rows.specs.Identity.{IsIdentity}
 use Rattle.saved_rows.specs.declared.identity.Identity.{Identity}
-use Rattle.row_columns.specs.StationRow.{stored_station}
-use Rattle.acceptor_store.specs.Sqlite.{SqliteOf, IsOurs, rows_layout, rows_version, saved_of, MayLeave, LeavesStation, LeavesAll}
+use Rattle.acceptor_store.specs.StationRow.{stored_station}
+use Rattle.acceptor_store.specs.Sqlite.{SqliteOf, IsOurs, rows_version, saved_of, MayLeave, LeavesStation, LeavesAll}
 use Rattle.acceptor_store.specs.Files.{TakesItsOwn, IsTakenUp}
 
 -- the files of a connection that was given up: where the disk has returned what was written,
@@ -43,7 +43,7 @@ OpensWhatIsLeft D g E h =
     (s : SqliteOf (FileStore D g)) (i : Identity) (files : Files D) (left : Image) (again : SqliteOf (FileStore E h))
     → LeavesStation over_files s i → GivesUp g s.conn files
     → AreClean g files.log files.db → outcomes g files.log files.db left → AreOpenedFrom left again
-    → IsOurs again.alone again.was again.found × (rows_layout again ≡ rows_layout s)
+    → IsOurs again.alone again.was again.found × (again.layout ≡ s.layout)
     × (again.identity ≡ i) × ∥ MayLeave over_files s (saved_of over_files again) ∥₁
 
 -- the rows of a station after a step that its own store tore as it saved this row: under the number a row that such a step
@@ -59,7 +59,7 @@ PutOutlivesCrash D g E h =
     (old new : SqliteOf (FileStore D g)) (number : ℕ) (row : Row) (files : Files D) (left : Image) (again : SqliteOf (FileStore E h))
     → LeavesStation over_files new old.identity → ((rows : Saved) → MayLeave over_files new rows → IsEither (saved_of over_files old) number row rows)
     → GivesUp g new.conn files → AreClean g files.log files.db → outcomes g files.log files.db left → AreOpenedFrom left again
-    → IsOurs again.alone again.was again.found × (rows_layout again ≡ rows_layout new) × (again.identity ≡ old.identity)
+    → IsOurs again.alone again.was again.found × (again.layout ≡ new.layout) × (again.identity ≡ old.identity)
     × ∥ AreTorn (saved_of over_files old) number row (saved_of over_files again) ∥₁
 
 -- The same after rows were to be saved together, as `put_all` promises of what a crash leaves then: none of them is saved, or all are,
@@ -69,7 +69,7 @@ GroupOutlivesCrash D g E h =
     (old new : SqliteOf (FileStore D g)) (items : List (ℕ × Row)) (files : Files D) (left : Image) (again : SqliteOf (FileStore E h))
     → LeavesStation over_files new old.identity → ((rows : Saved) → MayLeave over_files new rows → IsAllOrNone (saved_of over_files old) items rows)
     → GivesUp g new.conn files → AreClean g files.log files.db → outcomes g files.log files.db left → AreOpenedFrom left again
-    → IsOurs again.alone again.was again.found × (rows_layout again ≡ rows_layout new) × (again.identity ≡ old.identity)
+    → IsOurs again.alone again.was again.found × (again.layout ≡ new.layout) × (again.identity ≡ old.identity)
     × ∥ IsAllOrNone (saved_of over_files old) items (saved_of over_files again) ∥₁
 
 -- and after an Ok, as `put_all` promises of what a crash leaves then: each of them is found
@@ -78,7 +78,7 @@ GroupIsFound D g E h =
     (old new : SqliteOf (FileStore D g)) (items : List (ℕ × Row)) (files : Files D) (left : Image) (again : SqliteOf (FileStore E h))
     → LeavesStation over_files new old.identity → ((rows : Saved) → MayLeave over_files new rows → WithAll (saved_of over_files old) items rows)
     → GivesUp g new.conn files → AreClean g files.log files.db → outcomes g files.log files.db left → AreOpenedFrom left again
-    → IsOurs again.alone again.was again.found × (rows_layout again ≡ rows_layout new) × (again.identity ≡ old.identity)
+    → IsOurs again.alone again.was again.found × (again.layout ≡ new.layout) × (again.identity ≡ old.identity)
     × ∥ WithAll (saved_of over_files old) items (saved_of over_files again) ∥₁
 
 -- the version of a station after an upgrade that its own store tore, and its rows: the version is the one before or version 2, and no row is changed

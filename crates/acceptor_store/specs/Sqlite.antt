@@ -22,11 +22,11 @@ use Rattle.saved_rows.specs.contracts.identity.Identity as identity
 use Rattle.saved_rows.specs.declared.identity.Identity.{Identity}
 use Rattle.saved_rows.specs.declared.fault.RowsFault.{RowsFault}
 use Rattle.saved_rows.specs.declared.fault.RowsFault.TheVariants.{Store, WrongStation, WrongSchema, Damaged, OutOfMemory}
-use Rattle.row_columns.specs.StationRow.{IsStationOf}
-pub use Rattle.row_columns.specs.StationRow.{Agrees}
+use Rattle.acceptor_store.specs.StationRow.{IsStationOf}
+pub use Rattle.acceptor_store.specs.StationRow.{Agrees}
 use Rattle.saved_rows.specs.Saved.{Saved, SameRows, WithRow, IsEither}
-use Rattle.row_columns.specs.Layouts.{layout_now}
-use Rattle.row_columns.specs.Columns.{version_in, saved_in, AreSound, damage_in}
+use Rattle.acceptor_store.specs.Layouts.{upgraded_from}
+use Rattle.acceptor_store.specs.Columns.{version_in, saved_in, AreSound, damage_in}
 
 -- rows in a database, as clauses see them
 pub record SqliteOf (S : Type 0) : Type 0 where
@@ -39,8 +39,8 @@ pub record SqliteOf (S : Type 0) : Type 0 where
   pub found : Option Schema
   -- the layout that was found or made
   pub was : Layout
-  -- they were upgraded since
-  pub upgraded : Bool
+  -- the layout that they are in now
+  pub layout : Layout
   -- a save or an upgrade was refused
   pub stopped : Bool
   pub refusals : ℕ
@@ -70,29 +70,29 @@ layout_code = code_by (Option Bool) (coded_option coded_bool) told_by told_as as
 -- its fields, one after another
 abbrev pub sqlite_code : {S : Type 0} → Coded S → Coded (SqliteOf S)
 sqlite_code {S} store =
-    code_by (Held S × (Identity × (Bool × (Option Schema × (Layout × (Bool × (Bool × ℕ)))))))
+    code_by (Held S × (Identity × (Bool × (Option Schema × (Layout × (Layout × (Bool × ℕ)))))))
     (coded× (held_code store) (coded× identity.the_row.coded (coded× coded_bool
-    (coded× (coded_option schema.the_row.coded) (coded× layout_code (coded× coded_bool (coded× coded_bool coded_ℕ)))))))
-    (λ s. (s.conn, (s.identity, (s.alone, (s.found, (s.was, (s.upgraded, (s.stopped, s.refusals))))))))
+    (coded× (coded_option schema.the_row.coded) (coded× layout_code (coded× layout_code (coded× coded_bool coded_ℕ)))))))
+    (λ s. (s.conn, (s.identity, (s.alone, (s.found, (s.was, (s.layout, (s.stopped, s.refusals))))))))
     (λ p. record {
       conn = p.0;
       identity = p.1.0;
       alone = p.1.1.0;
       found = p.1.1.1.0;
       was = p.1.1.1.1.0;
-      upgraded = p.1.1.1.1.1.0;
+      layout = p.1.1.1.1.1.0;
       stopped = p.1.1.1.1.1.1.0;
       refusals = p.1.1.1.1.1.1.1;
     })
     (λ _. refl)
 
--- the layout that the rows are in
-abbrev pub rows_layout : {S : Type 0} → SqliteOf S → Layout
-rows_layout s = layout_now s.was s.upgraded
-
 -- the version that they are at
 abbrev pub rows_version : {S : Type 0} → SqliteOf S → Version
-rows_version s = version_in (rows_layout s)
+rows_version s = version_in s.layout
+
+-- rows are in the layout that was found or made, or in the one that it was upgraded to
+abbrev pub StemsFrom : Layout → Layout → Type 0
+StemsFrom was layout = (layout ≡ was) ⊎ (layout ≡ upgraded_from was)
 
 -- what the store owes: the tables are those that `create` makes in that layout, or an upgrade leaves, and no others
 abbrev pub IsOurs : Bool → Layout → Option Schema → Type 0
@@ -111,7 +111,7 @@ pub record IsOfStation (layout : Layout) (i : Identity) (trees : Trees) : Type 0
 -- a database of this station that holds this map, in this layout or upgraded from it
 pub record HoldsAll (before : Layout) (i : Identity) (saved : Saved) (db : Trees) : Type 0 where
   pub layout : Layout
-  pub either : (layout ≡ before) ⊎ (layout ≡ layout_now before true)
+  pub either : (layout ≡ before) ⊎ (layout ≡ upgraded_from before)
   pub station : IsOfStation layout i db
   pub same : SameRows saved (saved_in layout db)
 
@@ -170,19 +170,19 @@ module _ {S : Type 0} (g : Ghosts S) where
 
   -- the map that the database holds now
   abbrev pub saved_of : SqliteOf S → Saved
-  saved_of s = saved_in (rows_layout s) (state g s.conn).now.trees
+  saved_of s = saved_in s.layout (state g s.conn).now.trees
 
   -- what a crash at this moment may leave, in the layout of the rows
   abbrev pub MayLeave : SqliteOf S → Saved → Type 0
-  MayLeave s saved = (db : Trees) × (state g s.conn).may_leave db × (saved ≡ saved_in (rows_layout s) db)
+  MayLeave s saved = (db : Trees) × (state g s.conn).may_leave db × (saved ≡ saved_in s.layout db)
 
   -- whatever a crash at this moment leaves is a database of this station, in the layout of the rows
   abbrev pub LeavesStation : SqliteOf S → Identity → Type 0
-  LeavesStation s i = (db : Trees) → (state g s.conn).may_leave db → IsOfStation (rows_layout s) i db
+  LeavesStation s i = (db : Trees) → (state g s.conn).may_leave db → IsOfStation s.layout i db
 
   -- whatever a crash in an upgrade leaves is a database of this station with this map, in the layout of the rows or upgraded from it
   abbrev pub LeavesAll : SqliteOf S → SqliteOf S → Type 0
-  LeavesAll old new = (db : Trees) → (state g new.conn).may_leave db → HoldsAll (rows_layout old) old.identity (saved_of old) db
+  LeavesAll old new = (db : Trees) → (state g new.conn).may_leave db → HoldsAll old.layout old.identity (saved_of old) db
 
   -- each row is blank
   abbrev pub HoldsNoRow : SqliteOf S → Type 0
@@ -237,10 +237,10 @@ module _ {S : Type 0} (g : Ghosts S) where
   pub record WentOver (before : Layout) (i : Identity) (old new : Held S) : Type 0 where
     pub was_open : IsTrue (state g old).is_open
     pub is_open : IsTrue (state g new).is_open
-    pub stands : Stands (layout_now before true) new i
-    pub same : SameRows (saved_in before (state g old).now.trees) (saved_in (layout_now before true) (state g new).now.trees)
+    pub stands : Stands (upgraded_from before) new i
+    pub same : SameRows (saved_in before (state g old).now.trees) (saved_in (upgraded_from before) (state g new).now.trees)
     pub crash : (db : Trees) → (state g new).may_leave db → db ≡ (state g new).now.trees
 
   -- where the tables are those that were made, the connection of rows that go on stands on them
-  abbrev pub IsServing : Held S → Identity → Bool → Layout → Option Schema → Bool → Bool → Type 0
-  IsServing conn i alone was found upgraded stopped = stopped ≡ false → IsOurs alone was found → Stands (layout_now was upgraded) conn i
+  abbrev pub IsServing : Held S → Identity → Bool → Layout → Option Schema → Layout → Bool → Type 0
+  IsServing conn i alone was found layout stopped = stopped ≡ false → IsOurs alone was found → Stands layout conn i

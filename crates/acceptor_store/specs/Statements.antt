@@ -15,7 +15,7 @@ use Rattle.protocol.specs.Rows.{Row}
 use Rattle.protocol.specs.Versions.{Version}
 use Rattle.saved_rows.specs.Saved.{IsListOf, HasPromise, RowFits, AreFitting}
 use Rattle.saved_rows.specs.declared.fault.RowsFault.{RowsFault}
-use Rattle.row_columns.specs.Columns.{columns_for, saved_in, version_in, ComesBack}
+use Rattle.acceptor_store.specs.Columns.{columns_for, saved_in, version_in, ComesBack}
 use Rattle.acceptor_store.specs.Reading.{BlamesNoRow}
 use Rattle.acceptor_store.specs.Sqlite.{IsRefusal}
 

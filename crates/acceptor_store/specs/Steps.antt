@@ -7,7 +7,7 @@ use Rattle.protocol.specs.Versions.{Version}
 use Rattle.protocol.specs.Circuit.{Circuit, State, Step, Restarts, Upgrades, Restarted, Torn_by_store, seat_at, task_of, setup_of, StepsTo}
 use Rattle.protocol.specs.Rows.{Row}
 use Rattle.saved_rows.specs.Saved.{Saved}
-use Rattle.row_groups.specs.Groups.{WithAll, IsAllOrNone}
+use Rattle.saved_rows.specs.Groups.{WithAll, IsAllOrNone}
 use Rattle.acceptor_store.specs.Acknowledged.{RestartsWith}
 use Rattle.acceptor_store.specs.Restarts.{AreTorn, AreUpgradeTorn}
 

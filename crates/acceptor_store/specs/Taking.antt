@@ -13,10 +13,10 @@ use Rattle.saved_rows.specs.Saved.{SameRows}
 use Rattle.saved_rows.specs.declared.identity.Identity.{Identity}
 use Rattle.saved_rows.specs.declared.fault.RowsFault.{RowsFault}
 use Rattle.saved_rows.specs.declared.fault.RowsFault.TheVariants.{Store}
-use Rattle.row_columns.specs.Columns.{saved_in}
-use Rattle.row_columns.specs.FoundTables.{has_any, has_none, has_tables}
-use Rattle.row_columns.specs.Layouts.{made_in}
-use Rattle.row_columns.specs.StationRow.{IsStationOf}
+use Rattle.acceptor_store.specs.Columns.{saved_in}
+use Rattle.acceptor_store.specs.FoundTables.{has_any, has_none, has_tables}
+use Rattle.acceptor_store.specs.Layouts.{made_in}
+use Rattle.acceptor_store.specs.StationRow.{IsStationOf}
 use Rattle.acceptor_store.specs.declared.rows_at_path.Wanted.{Wanted}
 use Rattle.acceptor_store.specs.declared.rows_at_path.Wanted.TheVariants.{Stored, Made}
 use Rattle.acceptor_store.specs.declared.faults.FileFault.{FileFault}
@@ -35,7 +35,7 @@ module _ {S : Type 0} (g : Ghosts S) where
     pub agrees : Agrees given s.identity
     pub stored : IsKept g s → IsStationOf s.was s.identity was.now.trees
     pub tables : IsKept g s → was.now.schema ≡ layout_schema s.was
-    pub fresh : s.upgraded ≡ false
+    pub fresh : s.layout ≡ s.was
     pub unstopped : s.stopped ≡ false
     pub clean : doubt was.is_clean ≤ doubt (state g s.conn).is_clean
     pub crash : IsKept g s → (left : Trees) → (state g s.conn).may_leave left → was.may_leave left
@@ -51,7 +51,7 @@ module _ {S : Type 0} (g : Ghosts S) where
     pub blank : IsKept g s → HoldsNoRow g s
     pub identity : s.identity ≡ i
     pub layout : s.was ≡ made_in made_at
-    pub fresh : s.upgraded ≡ false
+    pub fresh : s.layout ≡ s.was
     pub version : rows_version s ≡ made_at
     pub unstopped : s.stopped ≡ false
     pub clean : doubt was.is_clean ≤ doubt (state g s.conn).is_clean

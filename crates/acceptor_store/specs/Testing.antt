@@ -7,8 +7,8 @@ use Rattle.row_table.specs.Rows.{AreRows}
 use Rattle.row_table.specs.Rising.{rise_from}
 use Rattle.saved_rows.specs.declared.fault.RowsFault.{RowsFault}
 use Rattle.row_table.specs.declared.layout.Layout.{Layout}
-use Rattle.row_columns.specs.Layouts.{layout_of}
-use Rattle.row_columns.specs.Columns.{damage_in, first_of, AreSound}
+use Rattle.acceptor_store.specs.Layouts.{layout_of}
+use Rattle.acceptor_store.specs.Columns.{damage_in, first_of, AreSound}
 use Rattle.acceptor_store.specs.Sqlite.{Lists, RefusesRows}
 use Rattle.acceptor_store.specs.declared.row_test.RowTest.{RowTest}
 

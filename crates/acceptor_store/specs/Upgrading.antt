@@ -12,8 +12,8 @@ use Rattle.row_table.specs.Tables.Layout.{First, Second}
 use Rattle.row_table.specs.Rows.{WasKept}
 use Rattle.saved_rows.specs.declared.identity.Identity.{Identity}
 use Rattle.saved_rows.specs.declared.fault.RowsFault.{RowsFault}
-use Rattle.row_columns.specs.Columns.{saved_in}
-use Rattle.row_columns.specs.RowsAsEntries.{HoldsMap}
+use Rattle.acceptor_store.specs.Columns.{saved_in}
+use Rattle.acceptor_store.specs.RowsAsEntries.{HoldsMap}
 use Rattle.acceptor_store.specs.Sqlite.{HoldsAll, IsRefusal, Stands, WentOver}
 
 module _ {S : Type 0} (g : Ghosts S) where

@@ -1,11 +1,11 @@
 //! Why a file of the host gives no rows.
 
 ghost use Rattle.std.specs.Prelude.{◌≡◌, true, false, IfErr, OnOk};
-ghost use Rattle.row_columns.specs.FoundTables.{has_tables};
+ghost use Rattle.acceptor_store.specs.FoundTables.{has_tables};
 ghost use Rattle.acceptor_store.specs.Faults.{rows_fault, IsOfFile};
 ghost use Rattle.acceptor_store.specs.Sqlite.{IsRefusal};
 
-use row_columns::has_tables;
+use crate::found_tables::has_tables;
 use saved_rows::RowsFault;
 use sqlite::{Error, ErrorCode};
 use sqlite_schema::schema::Schema;

@@ -1,20 +1,20 @@
 //! Rows that are saved together, in one transaction.
 
-ghost use Rattle.std.specs.Prelude.{◌≡◌, false};
 ghost use Rattle.sqlite.specs.Held.{state};
 ghost use Rattle.row_table.specs.Tables.Layout.{First};
 ghost use Rattle.protocol.specs.Versions.{One};
 ghost use Rattle.saved_rows.specs.Saved.{HasPromise};
-ghost use Rattle.row_groups.specs.Groups.{AreRowsOf};
-ghost use Rattle.row_columns.specs.Columns.{version_in};
-ghost use Rattle.row_columns.specs.Layouts.{layout_of};
-ghost use Rattle.acceptor_store.specs.Grouping.{PutsTogether, SavesTogether, StagesBack, StagesEach, StagesRows, StagesSecond};
+ghost use Rattle.saved_rows.specs.Groups.{AreRowsOf};
+ghost use Rattle.acceptor_store.specs.Columns.{version_in};
+ghost use Rattle.acceptor_store.specs.Layouts.{layout_of};
+ghost use Rattle.acceptor_store.specs.Grouping.{SavesTogether, StagesBack, StagesEach, StagesRows, StagesSecond};
 ghost use Rattle.acceptor_store.specs.Statements.{CanBeSaved};
 
+use crate::columns::columns_for;
+use crate::entry_columns::entry_columns_for;
 use crate::statements::fault_of;
 use ballots::{Number, Row};
-use row_columns::{Layout, columns_for, entry_columns_for};
-use row_table::{stage_entry, stage_row};
+use row_table::{Layout, stage_entry, stage_row};
 use saved_rows::RowsFault;
 use sqlite::{Alter, Connection, Transaction};
 use std::alloc::Global;
@@ -92,25 +92,6 @@ fn put_each<S: Alter>(
     Ok(())
 }
 
-/// Puts these rows in one transaction.
-fn put_all<S: Alter>(
-    alloc: Global,
-    conn: &mut Connection<S>,
-    layout: Layout,
-    items: &[(Number, Row)],
-) -> Result<(), RowsFault>
-    requires alone { conn.old.in_transaction ≡ false }
-    requires rows { AreRowsOf (version_in (layout_of layout)) items.now }
-    ensures { PutsTogether (layout_of layout) items.now result (state S.Store conn.old) (state S.Store conn.new) }
-{
-    let mut tx = conn.transaction();
-    put_each(alloc, &mut tx, layout, items)?;
-    match tx.commit() {
-        Ok(()) => Ok(()),
-        Err(error) => Err(fault_of(&error)),
-    }
-}
-
 /// Saves rows that have a promise, and that the layout has: all or none.
 pub(crate) fn save_all<S: Alter>(
     alloc: Global,
@@ -124,5 +105,10 @@ pub(crate) fn save_all<S: Alter>(
     if !conn.is_autocommit() {
         return Err(RowsFault::Store);
     }
-    put_all(alloc, conn, layout, items)
+    let mut tx = conn.transaction();
+    put_each(alloc, &mut tx, layout, items)?;
+    match tx.commit() {
+        Ok(()) => Ok(()),
+        Err(error) => Err(fault_of(&error)),
+    }
 }

@@ -2,18 +2,24 @@
 #![tactic(auto)]
 
 mod closing;
+mod columns;
+mod entry_columns;
 mod faults;
+mod found_tables;
 mod given_up;
 mod group;
 mod host_file;
 pub mod laws;
+mod layout;
 mod make_tables;
 mod opening;
 mod reading;
 mod row_test;
+mod rows_as_entries;
 mod rows_at_path;
 mod sqlite_rows;
 mod statements;
+mod station_row;
 mod upgrade;
 
 pub use faults::FileFault;

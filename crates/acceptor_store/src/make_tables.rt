@@ -4,7 +4,7 @@ ghost use Rattle.std.specs.Prelude.{◌≡◌, false};
 ghost use Rattle.sqlite.specs.Held.{state};
 ghost use Rattle.tape_frames.specs.Entries.{version_of};
 ghost use Rattle.row_table.specs.Making.{CommitsTables};
-ghost use Rattle.row_columns.specs.Layouts.{made_in};
+ghost use Rattle.acceptor_store.specs.Layouts.{made_in};
 ghost use Rattle.acceptor_store.specs.Opening.{columns_of_station};
 
 use row_table::{StationColumns, create_entry_tables, create_tables};

@@ -3,13 +3,14 @@
 ghost use Rattle.std.specs.Prelude.{◌≤◌};
 ghost use Rattle.sqlite_trees.specs.View.{doubt};
 ghost use Rattle.sqlite.specs.Held.{state};
-ghost use Rattle.row_columns.specs.Layouts.{layout_of};
+ghost use Rattle.acceptor_store.specs.Layouts.{layout_of};
 ghost use Rattle.acceptor_store.specs.Opening.{ReadsIdentity, TakesStation, TakesUp, TestsRows};
 
+use crate::layout::layout_in;
 use crate::row_test::RowTest;
 use crate::statements::fault_of;
-use row_columns::{Layout, agrees, layout_in, station_in, wanted_station};
-use row_table::{get_station, visit_rows};
+use crate::station_row::{agrees, station_in, wanted_station};
+use row_table::{Layout, get_station, visit_rows};
 use saved_rows::{Identity, RowsFault};
 use sqlite::{Alter, Connection};
 use sqlite_schema::schema::Schema;

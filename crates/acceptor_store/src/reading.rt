@@ -4,15 +4,15 @@ ghost use Rattle.std.specs.Prelude.{◌≡◌, ◌⊎◌, ◌++◌, ◌∷◌, [
 ghost use Rattle.sqlite_value.specs.Order.{column};
 ghost use Rattle.sqlite.specs.Held.{state};
 ghost use Rattle.protocol.specs.Rows.{Row as RowValue};
-ghost use Rattle.row_columns.specs.Layouts.{layout_of};
-ghost use Rattle.row_columns.specs.Columns.{row_in, damage_of, item_in};
+ghost use Rattle.acceptor_store.specs.Layouts.{layout_of};
+ghost use Rattle.acceptor_store.specs.Columns.{row_in, damage_of, item_in};
 ghost use Rattle.acceptor_store.specs.Sqlite.{IsRefusal};
 ghost use Rattle.acceptor_store.specs.Reading.{HasSeen, ShowsRows};
 
+use crate::columns::{damage_of, item_in};
 use crate::statements::fault_of;
 use ballots::{Number, Row};
-use row_columns::{Layout, damage_of, item_in};
-use row_table::{Taker, number_above, rising_is_listed, rows_rise, visit_rows};
+use row_table::{Layout, Taker, number_above, rising_is_listed, rows_rise, visit_rows};
 use saved_rows::RowsFault;
 use sqlite::{Alter, Connection};
 use std::alloc::Global;

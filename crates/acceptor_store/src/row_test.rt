@@ -2,12 +2,12 @@
 
 ghost use Rattle.std.specs.Prelude.{◌≡◌, refl};
 ghost use Rattle.sqlite_value.specs.Order.{column};
-ghost use Rattle.row_columns.specs.Layouts.{layout_of};
-ghost use Rattle.row_columns.specs.Columns.{row_in, damage_of, first_of};
+ghost use Rattle.acceptor_store.specs.Layouts.{layout_of};
+ghost use Rattle.acceptor_store.specs.Columns.{row_in, damage_of, first_of};
 ghost use Rattle.acceptor_store.specs.Testing.{begun, LeadsTo, PassesSoundRows, RefusesUnsoundRows, RisesWith};
 
-use row_columns::{Layout, damage_of};
-use row_table::{Taker, number_above, rising_is_listed};
+use crate::columns::damage_of;
+use row_table::{Layout, Taker, number_above, rising_is_listed};
 use saved_rows::RowsFault;
 use sqlite::Row;
 

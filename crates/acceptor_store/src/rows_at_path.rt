@@ -10,9 +10,9 @@ ghost use Rattle.acceptor_store.specs.Taking.{AreAsWanted, CanBeMade, GivesWante
 ghost use Rattle.acceptor_store.specs.declared.rows_at_path.Wanted.TheVariants.{Stored, Made};
 
 use crate::faults::{FileFault, file_fault_of, test_unmade};
+use crate::found_tables::has_none;
 use crate::given_up::into_files;
 use crate::sqlite_rows::SqliteRows;
-use row_columns::has_none;
 use saved_rows::Identity;
 use sqlite::{Alter, Connection, FileFrom, FileStore, Start};
 use sqlite_disk::Disk;

@@ -6,24 +6,25 @@ ghost use Rattle.tape_frames.specs.Entries.{version_of};
 ghost use Rattle.row_table.specs.Tables.{no_schema};
 ghost use Rattle.saved_rows.specs.Identity.{IsIdentity};
 ghost use Rattle.protocol.specs.Versions.{Two};
-ghost use Rattle.row_columns.specs.FoundTables.{has_any};
-ghost use Rattle.row_columns.specs.Layouts.{layout_now};
-ghost use Rattle.acceptor_store.specs.Sqlite.{rows_layout, rows_version};
+ghost use Rattle.acceptor_store.specs.FoundTables.{has_any};
+ghost use Rattle.acceptor_store.specs.Layouts.{upgraded_from};
+ghost use Rattle.acceptor_store.specs.Sqlite.{rows_version};
 ghost use Rattle.acceptor_store.specs.Calls.{GivesAll, GivesRow, IsCalled, Reads, SavesOrStops, in_database};
 ghost use Rattle.acceptor_store.specs.Reading.{SeesAll, SeesFront};
-ghost use Rattle.row_groups.specs.Groups.{AreRowsOf, PutsAll};
+ghost use Rattle.saved_rows.specs.Groups.{AreRowsOf, PutsAll};
 ghost use Rattle.saved_rows.specs.Saved.{SameRows, WithRow, HasPromise, RowFits, Rises};
 
+use crate::found_tables::has_any;
 use crate::group::save_all;
+use crate::layout::{made_in, upgraded_from, version_in};
 use crate::make_tables::make_tables;
 use crate::opening::take_up;
 use crate::reading::{RowVisitor, show_all};
 use crate::statements::{Numbered, fault_of, list, read, save};
 use crate::upgrade::go_over;
 use ballots::{Number, Row};
-use row_columns::{Layout, has_any, layout_now, made_in, version_in};
-use row_groups::{SavesAll, Settles};
-use saved_rows::{Identity, Rows, RowsFault};
+use row_table::Layout;
+use saved_rows::{Identity, Rows, RowsFault, SavesAll, Settles};
 use sqlite::{Alter, Connection};
 use sqlite_schema::schema::Schema;
 use std::alloc::Global;
@@ -57,18 +58,23 @@ fn stop(stopped: &mut bool, refusals: &mut u64)
 pub struct SqliteRows<S: Alter + Drop> {
     conn: Connection<S>,
     identity: Identity,
+    // Its tables were found, or were made in an empty database.
     alone: bool,
+    // The schema as it was found.
     found: Option<Schema>,
+    // The layout that was found or made.
     was: Layout,
-    upgraded: bool,
+    // The layout that the rows are in.
+    layout: Layout,
+    // A save or an upgrade was refused.
     stopped: bool,
     refusals: u64,
     alloc: Global,
 }
 
 impl<S: Alter + Drop> Model for SqliteRows<S> {
-    ghost use Rattle.acceptor_store.specs.Sqlite.{SqliteOf, sqlite_code, IsServing};
-    ghost use Rattle.row_columns.specs.Layouts.{layout_of};
+    ghost use Rattle.acceptor_store.specs.Sqlite.{SqliteOf, sqlite_code, IsServing, StemsFrom};
+    ghost use Rattle.acceptor_store.specs.Layouts.{layout_of};
 
     ghost Value = { SqliteOf S };
 
@@ -80,12 +86,12 @@ impl<S: Alter + Drop> Model for SqliteRows<S> {
       alone = s.alone;
       found = s.found;
       was = layout_of s.was;
-      upgraded = s.upgraded;
+      layout = layout_of s.layout;
       stopped = s.stopped;
       refusals = s.refusals;
     } };
 
-    ghost invariant = { λ s. IsServing S.Store s.conn s.identity s.alone (layout_of s.was) s.found s.upgraded s.stopped };
+    ghost invariant = { λ s. StemsFrom (layout_of s.was) (layout_of s.layout) × IsServing S.Store s.conn s.identity s.alone (layout_of s.was) s.found (layout_of s.layout) s.stopped };
 }
 
 /// Whether a database has no table, index or view.
@@ -97,7 +103,7 @@ fn is_empty(schema: &Schema) -> bool
 }
 
 impl<S: Alter + Drop> SqliteRows<S> {
-    ghost use Rattle.acceptor_store.specs.Sqlite.{IsAtRest, IsKept, IsOpen, IsOurs, Stands, saved_of};
+    ghost use Rattle.acceptor_store.specs.Sqlite.{IsAtRest, IsKept, IsOpen, IsOurs, Stands, StemsFrom, saved_of};
     ghost use Rattle.acceptor_store.specs.Taking.{IsMadeFor, OpensAsStored, RefusesStored, RefusesToMake};
     ghost use Rattle.sqlite.specs.Held.{state};
 
@@ -130,13 +136,14 @@ impl<S: Alter + Drop> SqliteRows<S> {
         }
         // What the database lists is known once it is read.
         let _tables = conn.schema();
+        let layout = made_in(version);
         Ok(SqliteRows {
             conn,
             identity,
             alone,
             found: None,
-            was: made_in(version),
-            upgraded: false,
+            was: layout,
+            layout,
             stopped: false,
             refusals: 0,
             alloc,
@@ -174,7 +181,7 @@ impl<S: Alter + Drop> SqliteRows<S> {
                 alone: true,
                 found: Some(found),
                 was: taken.0,
-                upgraded: false,
+                layout: taken.0,
                 stopped: false,
                 refusals: 0,
                 alloc,
@@ -194,8 +201,7 @@ impl<S: Alter + Drop> SqliteRows<S> {
             self.refusals = self.refusals.saturating_add(1);
             return Err(RowsFault::Store);
         }
-        let layout = layout_now(self.was, self.upgraded);
-        match list(self.alloc, &mut self.conn, layout) {
+        match list(self.alloc, &mut self.conn, self.layout) {
             Ok(rows) => Ok(rows),
             Err(fault) => {
                 self.refusals = self.refusals.saturating_add(1);
@@ -224,8 +230,7 @@ impl<S: Alter + Drop> SqliteRows<S> {
             self.refusals = self.refusals.saturating_add(1);
             return Err(RowsFault::Store);
         }
-        let layout = layout_now(self.was, self.upgraded);
-        match show_all(self.alloc, &mut self.conn, layout, visitor) {
+        match show_all(self.alloc, &mut self.conn, self.layout, visitor) {
             Ok(all) => Ok(all),
             Err(fault) => {
                 self.refusals = self.refusals.saturating_add(1);
@@ -242,6 +247,13 @@ impl<S: Alter + Drop> SqliteRows<S> {
         let _stopped = self.stopped;
     }
 
+    /// A law, which does nothing: rows are in the layout that was found or made, or in the one that it was upgraded to.
+    pub fn layout_stems(&self)
+        ensures { StemsFrom self.now.was self.now.layout }
+    {
+        let _stopped = self.stopped;
+    }
+
     /// The station that the rows belong to.
     pub fn identity(&self) -> Identity
         ensures { result ≡ self.now.identity }
@@ -252,7 +264,7 @@ impl<S: Alter + Drop> SqliteRows<S> {
     /// The connection, given back.
     pub fn into_connection(self) -> Connection<S>
         ensures connection { result ≡ self.conn }
-        ensures stands { self.stopped ≡ false → IsOurs self.alone self.was self.found → Stands S.Store (rows_layout self) self.conn self.identity }
+        ensures stands { self.stopped ≡ false → IsOurs self.alone self.was self.found → Stands S.Store self.layout self.conn self.identity }
     {
         let SqliteRows {
             conn,
@@ -260,7 +272,7 @@ impl<S: Alter + Drop> SqliteRows<S> {
             alone: _,
             found: _,
             was: _,
-            upgraded: _,
+            layout: _,
             stopped: _,
             refusals: _,
             alloc: _,
@@ -292,7 +304,7 @@ impl<S: Alter + Drop> Rows for SqliteRows<S> {
     ghost halves = { λ _. (λ both. both, λ both. both) };
 
     fn version(&self) -> Version {
-        version_in(layout_now(self.was, self.upgraded))
+        version_in(self.layout)
     }
 
     fn get(&mut self, number: Number) -> Result<Row, RowsFault>
@@ -302,8 +314,7 @@ impl<S: Alter + Drop> Rows for SqliteRows<S> {
             self.refusals = self.refusals.saturating_add(1);
             return Err(RowsFault::Store);
         }
-        let layout = layout_now(self.was, self.upgraded);
-        match read(self.alloc, &mut self.conn, layout, number) {
+        match read(self.alloc, &mut self.conn, self.layout, number) {
             Ok(row) => Ok(row),
             Err(fault) => {
                 self.refusals = self.refusals.saturating_add(1);
@@ -330,8 +341,12 @@ impl<S: Alter + Drop> Rows for SqliteRows<S> {
             self.refusals = self.refusals.saturating_add(1);
             return Err(RowsFault::Store);
         }
-        let layout = layout_now(self.was, self.upgraded);
-        match save(self.alloc, &mut self.conn, layout, Numbered { number, row }) {
+        match save(
+            self.alloc,
+            &mut self.conn,
+            self.layout,
+            Numbered { number, row },
+        ) {
             Ok(()) => Ok(()),
             Err(fault) => {
                 // Whether the row is saved is not known.
@@ -348,9 +363,9 @@ impl<S: Alter + Drop> Rows for SqliteRows<S> {
         ensures call { IsCalled S.Store result self.old self.new }
 
         // A refused upgrade stops it, and its layout stays.
-        ensures stops { OnErr result (IsTrue self.new.stopped × (self.new.upgraded ≡ self.old.upgraded)) }
+        ensures stops { OnErr result (IsTrue self.new.stopped × (self.new.layout ≡ self.old.layout)) }
         ensures goes_on { OnOk result (self.new.stopped ≡ self.old.stopped) }
-        ensures upgraded { OnOk result (rows_layout self.new ≡ layout_now self.old.was true) }
+        ensures upgraded { OnOk result (self.new.layout ≡ upgraded_from self.old.layout) }
 
         // Whatever comes of it, a crash leaves the station and its map, all in the one layout or all in the other; after the Ok in layout 2.
         ensures crash { IsKept S.Store self.new → IsOpen S.Store self.old → self.old.stopped ≡ false → LeavesAll S.Store self.old self.new }
@@ -361,10 +376,9 @@ impl<S: Alter + Drop> Rows for SqliteRows<S> {
             self.refusals = self.refusals.saturating_add(1);
             return Err(RowsFault::Store);
         }
-        let layout = layout_now(self.was, self.upgraded);
-        match go_over(self.alloc, &mut self.conn, layout) {
+        match go_over(self.alloc, &mut self.conn, self.layout) {
             Ok(()) => {
-                self.upgraded = true;
+                self.layout = upgraded_from(self.layout);
                 Ok(())
             }
             Err(fault) => {
@@ -399,8 +413,7 @@ impl<S: Alter + Drop> SavesAll for SqliteRows<S> {
             self.refusals = self.refusals.saturating_add(1);
             return Err(RowsFault::Store);
         }
-        let layout = layout_now(self.was, self.upgraded);
-        match save_all(self.alloc, &mut self.conn, layout, items) {
+        match save_all(self.alloc, &mut self.conn, self.layout, items) {
             Ok(()) => Ok(()),
             Err(fault) => {
                 // Whether the rows are saved is not known.

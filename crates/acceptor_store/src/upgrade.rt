@@ -3,12 +3,12 @@
 ghost use Rattle.std.specs.Prelude.{[]};
 ghost use Rattle.row_table.specs.Tables.Layout.{First};
 ghost use Rattle.row_table.specs.Entries.{with_entries};
-ghost use Rattle.row_columns.specs.Layouts.{layout_of};
+ghost use Rattle.acceptor_store.specs.Layouts.{layout_of};
 ghost use Rattle.acceptor_store.specs.Upgrading.{MovesEntries, TestsUpgraded, Upgrades};
 
+use crate::rows_as_entries::entries_for;
 use crate::statements::{fault_of, list};
-use row_columns::{Layout, entries_for};
-use row_table::{EntryColumns, get_row, upgrade_tables};
+use row_table::{EntryColumns, Layout, get_row, upgrade_tables};
 use saved_rows::RowsFault;
 use sqlite::{Alter, Connection};
 use std::alloc::Global;

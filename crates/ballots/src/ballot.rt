@@ -4,6 +4,7 @@ ghost use Rattle.std.specs.Prelude.{◌≡◌, ◌≤◌, Some, IsSome, IfSome, 
 ghost use Rattle.protocol.specs.Ballots.{IsBallot, is_below, is_same, next};
 ghost use Rattle.ballots.specs.Texts.{ballot_text};
 
+use crate::laws::range_of_member;
 use crate::member::Member;
 use std::fmt;
 use std::marker::Model;
@@ -34,8 +35,7 @@ impl Ballot {
         ensures some { IsSome result ↔ (1 ≤ round) }
         ensures value { IfSome result (λ b. b ≡ record { round = round; owner = owner }) }
     {
-        // The owner's range is known once it is read.
-        let _range = owner.get();
+        range_of_member(owner);
         if round == 0 {
             None
         } else {

@@ -15,7 +15,7 @@ use Rattle.ballots.specs.contracts.row.Row as row_code
 use Rattle.protocol.specs.Rows.{Row}
 use Rattle.protocol.specs.Refusals.{Call}
 use Rattle.saved_rows.specs.Saved.{Saved, SameRows, WithRow, IsEither, with_row}
-use Rattle.row_columns.specs.Columns.{version_in}
+use Rattle.acceptor_store.specs.Columns.{version_in}
 use Rattle.station.specs.declared.station.Station.{Station}
 use Rattle.station.specs.Stations.{Sight}
 use Rattle.acceptor_store.specs.Sqlite.{SqliteOf, IsOurs, LeavesStation, rows_version, saved_of}

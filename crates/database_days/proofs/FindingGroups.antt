@@ -10,9 +10,9 @@ use Rattle.sqlite.specs.declared.FileStore.{FileStore}
 use Rattle.sqlite.specs.Files.{over_files}
 use Rattle.protocol.specs.Rows.{Row}
 use Rattle.saved_rows.specs.Saved.{Saved, SameRows, with_row}
-use Rattle.row_groups.specs.Groups.{WithAll, IsAllOrNone, with_all}
-use Rattle.row_groups.specs.Grouped.{GroupedOf}
-use Rattle.row_columns.specs.Columns.{version_in}
+use Rattle.saved_rows.specs.Groups.{WithAll, IsAllOrNone, with_all}
+use Rattle.saved_rows.specs.Grouped.{GroupedOf}
+use Rattle.acceptor_store.specs.Columns.{version_in}
 use Rattle.station.specs.declared.station.Station.{Station}
 use Rattle.station.specs.Stations.{Sight}
 use Rattle.acceptor_store.specs.Sqlite.{SqliteOf, LeavesNoOther, rows_version, saved_of}

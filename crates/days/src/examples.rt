@@ -5,8 +5,7 @@ ghost use Rattle.protocol.specs.Entries.{Taped};
 ghost use Rattle.days.specs.Examples.{DayOfTwo, OfferedBoth, Received, TookIn};
 
 use line_check::Setting;
-use row_groups::{Grouped, Settles};
-use saved_rows::{MemoryRows, Rows};
+use saved_rows::{Grouped, MemoryRows, Rows, Settles};
 use station::{Answer, Membership, Release, Station};
 use std::alloc::Global;
 use tape_frames::Tape;

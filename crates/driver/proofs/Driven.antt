@@ -16,14 +16,14 @@ use Rattle.command_ends.specs.Ends.{end_of, end_of_step, IsOfWriting}
 use Rattle.command_ends.specs.declared.end.End.{End}
 use Rattle.command_ends.specs.declared.end.End.TheVariants as ends
 use Rattle.command_ends.specs.declared.fault.Fault.{Fault}
-use Rattle.exchange.specs.Driving.{Rests}
-use Rattle.exchange.specs.Events.{Event, Aside, asked, took, stored, aside, heard, hailed, rolled, coming, sending, going, coming_by, going_by, passing_behind, waiting_behind, Takes, HasCause, ended}
+use Rattle.driver.specs.Events.{Event, Aside, asked, took, stored, aside, heard, hailed, rolled, coming, sending, going, coming_by, going_by, passing_behind, waiting_behind, Takes, HasCause, ended}
 use Rattle.wire.proofs.Passing.{Passes-nil, Passes-then}
-use Rattle.exchange.proofs.Stretches.{settling_kept, takes_kept, takes_then, passing_then, waiting_then, ends_badly, cause_then, refused_cause, unstored_cause}
+use Rattle.driver.proofs.Stretches.{settling_kept, takes_kept, takes_then, passing_then, waiting_then, ends_badly, cause_then, refused_cause, unstored_cause}
 use Rattle.driver.specs.declared.calls.Call.{Call}
 use Rattle.driver.specs.declared.calls.Call.TheVariants.{Offer, Withdraw, Seek}
 use Rattle.driver.specs.Calls.{call_of, IsAsked}
 use Rattle.driver.specs.Fates.{ByAnswer, ByStored, Fates}
+use Rattle.driver.specs.TakingIn.{Rests}
 use Rattle.driver.specs.Todos.{IsGoodSending, IsHailing}
 use Rattle.driver.specs.Driving.{Post, post, post_with, Fate, Known, known, Driven, Drove, Anyhow, AtClock, Then, Held, TakesUp, SameHands, HasEnded, IsUnstored, WasSent, HandsOn, Holds, IsReceiving, IsTakingIn, IsFallingDue, IsSeeingToDue, IsTakingUp, IsDueUp, IsStoring, no_step}
 use Rattle.driver.specs.declared.driver.Driver.{Driver}

@@ -3,7 +3,7 @@ use Rattle.std.specs.Prelude.{◌≡◌, ℕ, List, [], ◌∷◌, length, Ok}
 use Rattle.protocol.specs.Entries.{Taped, Void}
 use Rattle.protocol.specs.Refusals.{Call as StationCall, Offering, Seeking}
 use Rattle.station.specs.declared.answer.Answer.{Answer}
-use Rattle.exchange.specs.Events.{Event, took, stored}
+use Rattle.driver.specs.Events.{Event, took, stored}
 use Rattle.driver.specs.declared.calls.Call.{Call}
 use Rattle.driver.specs.declared.calls.Call.TheVariants.{Offer, Withdraw, Seek}
 

@@ -13,7 +13,7 @@ use Rattle.command_ends.specs.Ends.{end_of, end_of_step, IsOfWriting}
 use Rattle.command_ends.specs.declared.end.End.{End}
 use Rattle.command_ends.specs.declared.end.End.TheVariants as ends
 use Rattle.command_ends.specs.declared.fault.Fault.{Fault}
-use Rattle.exchange.specs.Events.{Event, asked, took, stored, aside, heard, coming, sending, passing_behind, waiting_behind, Takes, HasCause, ended}
+use Rattle.driver.specs.Events.{Event, asked, took, stored, aside, heard, coming, sending, passing_behind, waiting_behind, Takes, HasCause, ended}
 use Rattle.driver.specs.Fates.{ByAnswer, ByStored}
 use Rattle.driver.specs.declared.driver.Driver.{Driver}
 use Rattle.driver.specs.declared.group.Group.{Group}

@@ -5,7 +5,7 @@ use Rattle.station.specs.declared.answer.Answer.{Answer}
 use Rattle.refusals.specs.declared.refusal.StepRefusal.{StepRefusal}
 use Rattle.command_ends.specs.Ends.{IsOfWriting}
 use Rattle.command_ends.specs.declared.fault.Fault.{Fault}
-use Rattle.exchange.specs.Events.{Event, Aside, asked, aside, stored, took}
+use Rattle.driver.specs.Events.{Event, Aside, asked, aside, stored, took}
 
 -- a search, what is due and what comes need nothing of a sink; an offer may
 abbrev pub NeedsNothing : Call → Type 0

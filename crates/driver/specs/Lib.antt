@@ -1,7 +1,11 @@
 pub mod Calls
-pub mod Fates
 pub mod Driving
+pub mod Events
+pub mod Fates
+pub mod Grouping
+pub mod Layouts
 pub mod Pacing
 pub mod Replies
+pub mod Said
+pub mod TakingIn
 pub mod Todos
-pub mod Grouping

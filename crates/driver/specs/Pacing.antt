@@ -1,11 +1,11 @@
 -- The pace of a station that stays up: what was done of its works, what is found before the next, and what is heard of the members.
 use Rattle.std.specs.Prelude.{ℕ, Bool, true, false, Option, Some, None}
 use Rattle.protocol.specs.Ballots.{Ballot}
-use Rattle.messages.specs.declared.body.PacketKind.{PacketKind}
-use Rattle.messages.specs.declared.body.PacketKind.TheVariants as kinds
+use Rattle.packets.specs.declared.body.PacketKind.{PacketKind}
+use Rattle.packets.specs.declared.body.PacketKind.TheVariants as kinds
 use Rattle.node_core.specs.declared.turn.Note.{Note}
 use Rattle.node_core.specs.declared.turn.Note.TheVariants.{Idle}
-use Rattle.exchange.specs.declared.said.Said.{Said}
+use Rattle.driver.specs.declared.said.Said.{Said}
 use Rattle.pace.specs.Behind.{PaceValue, asked_for, came_up, is_any_behind, seen_by, spoken_by}
 use Rattle.pace.specs.Order.{Counts, after_work}
 use Rattle.pace.specs.declared.turns.Done.{Done}

@@ -10,7 +10,7 @@ use Rattle.station.specs.declared.answer.Answer.{Answer}
 use Rattle.catch_up.specs.Errands.{IsGoodErrand}
 use Rattle.catch_up.specs.declared.errand.Errand.{Errand}
 use Rattle.catch_up.specs.declared.errand.Errand.TheVariants as errands
-use Rattle.exchange.specs.Events.{Event, took, stored, aside, hailed, rolled}
+use Rattle.driver.specs.Events.{Event, took, stored, aside, hailed, rolled}
 use Rattle.driver.specs.declared.calls.Call.{Call}
 use Rattle.driver.specs.Calls.{call_of}
 use Rattle.driver.specs.Driving.{MayStore, IsTakingUp, IsDueUp, Then}

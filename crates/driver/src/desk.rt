@@ -1,7 +1,7 @@
 //! What a station that stays up does beside what comes and what is due.
 
 ghost use Rattle.std.specs.Prelude.{List, [], ◌∷◌, ℕ, IfSome, Ok};
-ghost use Rattle.exchange.specs.Events.{stored};
+ghost use Rattle.driver.specs.Events.{stored};
 ghost use Rattle.driver.specs.Calls.{call_of};
 ghost use Rattle.driver.specs.Fates.{IsNoted};
 ghost use Rattle.driver.specs.Todos.{IsGoodTodo};

@@ -6,16 +6,15 @@ ghost use Rattle.driver.specs.Driving.{DroveBehind};
 ghost use Rattle.driver.specs.Todos.{IsGoodSending, IsHailing, IsRunOf, IsSearching, IsTellingAgain};
 
 use crate::desk::{Declined, Desk};
-use crate::driver::Driver;
+use crate::driver::{Driver, pass_over};
 use crate::group::Group;
 use crate::log::Log;
+use crate::sending::send_bytes;
 use crate::sink::TakenStep;
 use ballots::{Member, Number};
 use catch_up::Errand;
 use command_ends::Fault;
-use exchange::{pass_over, send_bytes};
-use row_groups::Settles;
-use saved_rows::Rows;
+use saved_rows::{Rows, Settles};
 use std::io::Write;
 use wire::Wire;
 

@@ -11,8 +11,7 @@ use crate::group::Group;
 use crate::log::Log;
 use command_ends::Fault;
 use pace::Work;
-use row_groups::Settles;
-use saved_rows::Rows;
+use saved_rows::{Rows, Settles};
 use std::io::Write;
 use wire::Wire;
 

@@ -1,18 +1,18 @@
 //! Steps that share one save: what they hand out waits until all that the station saved is stored.
 
-ghost use Rattle.std.specs.Prelude.{◌≡◌, ◌++◌, [], ◌∷◌, Ok, OnOk};
-ghost use Rattle.exchange.specs.Events.{sending, stored};
+ghost use Rattle.std.specs.Prelude.{◌≡◌, [], ◌∷◌, Ok, OnOk};
+ghost use Rattle.driver.specs.Events.{stored};
 ghost use Rattle.wire.specs.Passing.{Passes};
-ghost use Rattle.driver.specs.Driving.{IsHeld, sends, sends_of};
-ghost use Rattle.driver.specs.Grouping.{comes_late, ends_group, goes_alone, has_waited, is_full, is_worth, one_more, worthy, HasAdded};
+ghost use Rattle.driver.specs.Driving.{IsHeld, sends_of};
+ghost use Rattle.driver.specs.Grouping.{comes_late, ends_group, goes_alone, has_waited, is_full, is_worth, one_more, HasAdded};
 
 use crate::desk::Desk;
 use crate::log::Log;
+use crate::sending::send_all;
 use crate::sink::TakenStep;
 use command_ends::Fault;
-use exchange::send_all;
 use pace::Work;
-use std::alloc::{AllocError, Global};
+use std::alloc::Global;
 use std::io::Write;
 use wire::Wire;
 
@@ -101,19 +101,8 @@ impl Group {
         self.works = self.works.saturating_add(1).min(MOST_WORKS);
     }
 
-    /// One step more, behind those before it, unless it neither sends nor releases anything. There may be no memory for it.
-    fn add(&mut self, step: TakenStep) -> Result<(), AllocError>
-        ensures behind { OnOk result (self.new.steps.items ≡ self.old.steps.items ++ worthy step) }
-        ensures only_steps { self.new ≡ record self.old { steps = self.new.steps } }
-        ensures sends { OnOk result (sends_of self.new ≡ sends_of self.old ++ sending step.answer.out.items) }
-    {
-        if is_worth(&step) {
-            self.steps.push(step)?;
-        }
-        Ok(())
-    }
-
-    /// Holds a step until what it saved is stored: the desk notes it, and it waits behind those before it.
+    /// Holds a step until what it saved is stored: the desk notes it, and it waits behind those before it, unless it neither sends nor
+    /// releases anything. There may be no memory for it.
     pub(crate) fn hold<S: Desk, E: Write>(
         &mut self,
         step: TakenStep,
@@ -125,7 +114,10 @@ impl Group {
         ensures holds { IsHeld S.Sink desk.old desk.new self.old self.new step.answer result }
     {
         desk.note(&step, log)?;
-        match self.add(step) {
+        if !is_worth(&step) {
+            return Ok(());
+        }
+        match self.steps.push(step) {
             Ok(()) => Ok(()),
             Err(_) => Err(Fault::OutOfMemory),
         }
@@ -146,18 +138,11 @@ impl Group {
         ensures none { self.new.steps.items ≡ [] }
         ensures begins { self.new.works ≡ 0 }
     {
-        send_each(self.steps.as_slice(), wire, log.err);
+        for step in &self.steps {
+            send_all(step.answer.out.as_slice(), wire, log.err);
+        }
         desk.hand_out(self.steps.as_slice(), now, log);
         self.steps.clear();
         self.works = 0;
-    }
-}
-
-/// Sends what steps hand out, each datagram once, in order.
-fn send_each<N: Wire, E: Write>(steps: &[TakenStep], wire: &mut N, err: &mut E)
-    ensures { Passes (N.passed wire.old) (N.passed wire.new) (sends steps.now) }
-{
-    for step in steps {
-        send_all(step.answer.out.as_slice(), wire, err);
     }
 }

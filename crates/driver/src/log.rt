@@ -1,4 +1,4 @@
-//! What a station that stays up tells whoever watches it.
+//! What a station on a wire tells whoever watches it.
 
 use std::io::Write;
 

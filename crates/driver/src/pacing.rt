@@ -6,11 +6,11 @@ ghost use Rattle.pace.specs.Behind.{first_pace};
 ghost use Rattle.pace.specs.Order.{first_counts, next_work};
 ghost use Rattle.driver.specs.Pacing.{asking_of, begun_at, counts_at, done_of, heard_from, seen_as, settled_where, sight_at};
 
+use crate::said::Said;
 use ballots::{Ballot, Member, Number};
-use exchange::Said;
-use messages::PacketKind;
 use node_core::Note;
 use pace::{Deeds, Done, Pace, Sight, Turns, Work};
+use packets::PacketKind;
 
 /// What is to be done with files.
 #[derive(Clone, Copy)]

@@ -1,7 +1,7 @@
 //! The turns of a station that stays up: one work after the other, in the order of `pace`, until the run is over.
 
 ghost use Rattle.std.specs.Prelude.{◌≡◌, [], OnOk, true};
-ghost use Rattle.exchange.specs.Events.{ended};
+ghost use Rattle.driver.specs.Events.{ended};
 ghost use Rattle.driver.specs.Replies.{IsAskedBy, awaited, reply_of};
 ghost use Rattle.driver.specs.Driving.{Anyhow, AtClock, Drove, DroveBehind, fate_of, known, post_of};
 ghost use Rattle.driver.specs.Grouping.{goes_alone};
@@ -9,18 +9,17 @@ ghost use Rattle.driver.specs.Todos.{IsAskingFor, IsDeed, IsGoodTodo, IsNextWork
 
 use crate::calls::ask;
 use crate::desk::{Chance, Denied, Desk, Todo};
-use crate::driver::Driver;
+use crate::driver::{Driver, pass_over};
 use crate::group::Group;
 use crate::log::Log;
 use crate::pacing::asking_of;
 use crate::sink::TakenStep;
+use crate::telling::{tell_lost, tell_strangers};
 use ballots::Ballot;
 use command_ends::{End, Fault};
-use exchange::{pass_over, tell_lost, tell_strangers};
 use folders::{FileRequest, OfferKind};
 use pace::Work;
-use row_groups::Settles;
-use saved_rows::Rows;
+use saved_rows::{Rows, Settles};
 use station::{Answer, Station, StepRefusal};
 use std::alloc::Global;
 use std::io::Write;

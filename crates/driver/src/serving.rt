@@ -6,11 +6,11 @@ ghost use Rattle.driver.specs.Driving.{DroveUpTo, WentOn, HandedOn, IsTakingIn, 
 use crate::calls::{Call, ask};
 use crate::driver::Driver;
 use crate::log::Log;
+use crate::sending::send_all;
 use crate::sink::{Outlet, TakenStep};
+use crate::telling::tell_strangers;
 use command_ends::Fault;
-use exchange::{send_all, tell_strangers};
-use row_groups::Settles;
-use saved_rows::Rows;
+use saved_rows::{Rows, Settles};
 use std::io::Write;
 use wire::Wire;
 

@@ -2,13 +2,13 @@
 
 ghost use Rattle.std.specs.Prelude.{◌≡◌, [], List};
 ghost use Rattle.protocol.specs.Refusals.{Call};
-ghost use Rattle.exchange.specs.Events.{Event};
+ghost use Rattle.driver.specs.Events.{Event};
 ghost use Rattle.driver.specs.Fates.{Fates, IsTaken};
 ghost use Rattle.driver.specs.Pacing.{said_of};
 
 use crate::log::Log;
+use crate::said::Said;
 use command_ends::Fault;
-use exchange::Said;
 use rolls::Aside;
 use station::{Answer, StepRefusal};
 use std::io::Write;

@@ -3,7 +3,6 @@
 #![tactic(auto)]
 
 mod acts;
-mod backlog;
 mod change;
 mod fault;
 mod first_start;
@@ -25,7 +24,6 @@ mod stamp;
 mod wishes;
 
 pub use acts::{Act, Noted};
-pub use backlog::write_waiting;
 pub use change::{Change, Records};
 pub use fault::FolderFault;
 pub use first_start::{first_went_out, went_before};

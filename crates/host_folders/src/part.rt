@@ -101,14 +101,16 @@ impl Part {
     /// filled before and after: where another stands under either name, `Changed`. For the host renames by path, and the folder may be
     /// another by now.
     pub(crate) fn name_as(self, rt: &HostRuntime, path: &str) -> Result<Held, FolderFault> {
-        if let Err(fault) = self.rename(rt, path) {
-            self.discard(rt);
-            return Err(fault);
+        match self.rename(rt, path) {
+            Ok(()) => Ok(Held {
+                file: self.file,
+                id: self.id,
+            }),
+            Err(fault) => {
+                self.discard(rt);
+                Err(fault)
+            }
         }
-        Ok(Held {
-            file: self.file,
-            id: self.id,
-        })
     }
 
     /// Takes it away, where it has its own name still.

@@ -87,30 +87,23 @@ impl Releases {
         }
     }
 
-    /// A file that holds these bytes, and has no name yet.
-    fn fill_one(&mut self, maker: &mut Maker<'_>, bytes: &[u8]) -> Result<Part, FolderFault> {
-        let empty = match self.spares.pop() {
-            Some(spare) => spare,
-            None => Part::make(maker, &self.guarded.path)?,
-        };
-        empty.fill(maker.rt, bytes)
-    }
-
-    /// The first of these files, filled, in their order. To write all of them before the first wait for the disk takes less than to write
-    /// one after the other: the disk then has them together, and the waits behind the first are short.
-    fn begin(&mut self, maker: &mut Maker<'_>, files: &[NamedFile]) -> VecDeque<Part> {
-        let mut begun = VecDeque::new(maker.rt.alloc());
-        if self.check(maker.rt).is_err() {
-            return begun;
-        }
+    /// Fills the first of these files, in their order, up to one that can't be begun. To write all of them before the first wait for the disk
+    /// takes less than to write one after the other: the disk then has them together, and the waits behind the first are short.
+    fn begin(
+        &mut self,
+        maker: &mut Maker<'_>,
+        files: &[NamedFile],
+        begun: &mut VecDeque<Part>,
+    ) -> Result<(), FolderFault> {
+        self.check(maker.rt)?;
         for named in files.iter().take(MOST_BEGUN) {
-            // One that can't be begun is written whole in its turn, or refused then.
-            let Ok(part) = self.fill_one(maker, &named.bytes) else {
-                return begun;
+            let empty = match self.spares.pop() {
+                Some(spare) => spare,
+                None => Part::make(maker, &self.guarded.path)?,
             };
-            let _ = begun.push_back(part);
+            let _ = begun.push_back(empty.fill(maker.rt, &named.bytes)?);
         }
-        begun
+        Ok(())
     }
 
     /// Writes a file whole, and again where another comes to stand under its name.
@@ -167,7 +160,8 @@ impl Releases {
         let mut begun = VecDeque::new(maker.rt.alloc());
         for (written, named) in files.iter().enumerate() {
             if begun.is_empty() {
-                begun = self.begin(maker, &files[written..]);
+                // One that can't be begun is written whole in its turn, or refused then.
+                let _ = self.begin(maker, &files[written..], &mut begun);
             }
             if let Err(fault) = self.put(maker, named, begun.pop_front()) {
                 for part in begun {

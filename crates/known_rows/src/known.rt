@@ -29,7 +29,7 @@ pub fn known_rows<S: Alter + Drop>(
     ensures was_kept { IsKept S.Store rows.new → IsKept S.Store rows.old }
     ensures was_open { IsKept S.Store rows.new → IsOpen S.Store rows.new → IsOpen S.Store rows.old }
     ensures counts { rows.old.refusals ≤ rows.new.refusals }
-    ensures stays { (rows.new.stopped ≡ rows.old.stopped) × (rows.new.identity ≡ rows.old.identity) × (rows.new.upgraded ≡ rows.old.upgraded) }
+    ensures stays { (rows.new.stopped ≡ rows.old.stopped) × (rows.new.identity ≡ rows.old.identity) × (rows.new.layout ≡ rows.old.layout) }
 
     // What the store owes stays as it was.
     ensures ours { (rows.new.alone ≡ rows.old.alone) × (rows.new.was ≡ rows.old.was) × (rows.new.found ≡ rows.old.found) }

@@ -10,7 +10,7 @@ ghost use Rattle.tape_frames.specs.Entries.{lent_entry, owned_entry};
 
 use crate::slot::Slot;
 use arrayvec::ArrayVec;
-use ballots::laws::slots_of_members;
+use ballots::laws::{range_of_member, slots_of_members};
 use ballots::{Ballot, MOST_MEMBERS, Member, Vote, majority};
 use std::alloc::{AllocError, Global};
 use std::marker::Model;
@@ -118,10 +118,10 @@ fn count_votes(slots: &[Slot]) -> u8
 
 /// The ballot of the least member's vote at whose ballot the votes of a majority stand. Where so few slots have votes that
 /// no ballot has a majority, no ballot is looked at.
-fn chosen_at(slots: &[Slot]) -> Option<Ballot>
-    requires { length slots.now ≤ most_members }
-    ensures { result ≡ option_map (λ (v : VoteValue). v.ballot) (ripe_in slots.now) }
+fn chosen_at(heard: &Option<Box<Slots>>) -> Option<Ballot>
+    ensures { result ≡ option_map (λ (v : VoteValue). v.ballot) (ripe_in (written heard.now)) }
 {
+    let slots = lent(heard);
     if !majority(count_votes(slots), slots.len() as u8) {
         return None;
     }
@@ -270,15 +270,14 @@ impl Heard {
         ensures no_memory { IsOkWhereNotAbove result member ballot self.old }
     {
         slots_of_members::<Option<Vote>>();
-        // The member's range is known once it is read.
-        let _range = member.get();
+        range_of_member(member);
         let vote = NewVote {
             member,
             ballot,
             entry,
         };
         keep(self.alloc, &mut self.slots, self.members, vote)?;
-        Ok(chosen_at(lent(&self.slots)))
+        Ok(chosen_at(&self.slots))
     }
 
     /// The entry of the least member whose latest vote has this ballot, lent.

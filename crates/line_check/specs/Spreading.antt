@@ -1,5 +1,5 @@
 -- How what is left is spread over the bands: each has this width, and the first ones a unit more.
-use Rattle.std.specs.Prelude.{◌≡◌, ℕ, ◌+◌, ◌-◌, min, List, [], ◌∷◌, Option, Some, None, option_map}
+use Rattle.std.specs.Prelude.{◌≡◌, ℕ, ◌+◌, ◌-◌, min, nat_lt, true, false, List, [], ◌∷◌, Option, Some, None, option_map}
 use Rattle.slug_reader.specs.declared.item.Item.{Item}
 use Rattle.slug_reader.specs.declared.item.Item.TheVariants as items
 use Rattle.slug_reader.specs.declared.line.Line.{Line}
@@ -25,6 +25,16 @@ abbrev pub IsMisfit : Option Cause → LineFault → Type 0
 IsMisfit cause (faults.Overset over) = cause ≡ Some (causes.Overset over)
 IsMisfit cause (faults.Loose under) = cause ≡ Some (causes.Loose under)
 IsMisfit cause faults.OutOfMemory = cause ≡ None
+
+-- this much of the measure is left beside a line of this least width
+pub record IsRoomBeside (measure least room : ℕ) : Type 0 where
+  pub fits : nat_lt measure least ≡ false
+  pub whole : room + least ≡ measure
+
+-- a line of this least width is overset, and this fault says by how much
+pub record IsOversetBy (measure least : ℕ) (fault : LineFault) : Type 0 where
+  pub over : nat_lt measure least ≡ true
+  pub by : fault ≡ faults.Overset (least - measure)
 
 -- the first line that does not fit: where it is cut, and why
 abbrev pub misfit_among : WidthFile → List Line → Option (ℕ × Cause)

@@ -4,7 +4,7 @@ ghost use Rattle.std.specs.Prelude.{◌≡◌, [], ◌∷◌, ◌≤◌, ◌<◌
 ghost use Rattle.tape_frames.specs.Frames.{most_frames};
 ghost use Rattle.line_check.specs.declared.fault.LineFault.TheVariants.{OutOfMemory};
 ghost use Rattle.line_check.specs.Slugs.{fixed_width, is_band, fixed_of, bands_of, least_width, greatest_width, kind_of, item_of_sort, misfit, looseness, StandsAt, IsSlug, IsJustified, Quads};
-ghost use Rattle.line_check.specs.Spreading.{sorts_of, IsMisfit};
+ghost use Rattle.line_check.specs.Spreading.{sorts_of, IsMisfit, IsOversetBy, IsRoomBeside};
 
 use crate::fault::LineFault;
 use crate::slug::{Kind, Slug};
@@ -178,6 +178,22 @@ fn kind_of(quad: Quad) -> Kind
     }
 }
 
+/// How much the measure leaves beside a line with its bands at their least, in units; or by how much the line is overset.
+fn room(widths: &Widths, tally: Tally) -> Result<u16, LineFault>
+    requires range { (tally.fixed ≤ 65535 * most_frames) × (tally.bands ≤ most_frames) }
+    ensures room { IfOk result (IsRoomBeside widths.now.measure (tally.fixed + tally.bands * widths.now.band_min)) }
+    ensures over { IfErr result (IsOversetBy widths.now.measure (tally.fixed + tally.bands * widths.now.band_min)) }
+{
+    let measure = u32::from(widths.measure());
+    let least = tally.fixed + tally.bands * u32::from(widths.band_min());
+    if least > measure {
+        return Err(LineFault::Overset {
+            over: least - measure,
+        });
+    }
+    Ok((measure - least) as u16)
+}
+
 /// The slug of a line.
 ///
 /// `Overset` comes where the line has more than the measure though its bands are at their least, else `Loose` where
@@ -189,18 +205,9 @@ pub fn check(alloc: Global, line: &Line, widths: &Widths) -> Result<Slug, LineFa
 {
     let items = line.items.as_slice();
     let tally = tally_of(items);
-    let measure = u32::from(widths.measure());
-    let least = tally.fixed + tally.bands * u32::from(widths.band_min());
-    if least > measure {
-        return Err(LineFault::Overset {
-            over: least - measure,
-        });
-    }
+    let blank = room(widths, tally)?;
     match line.quad {
         None => justified(alloc, items, widths, tally),
-        Some(quad) => {
-            let blank = (measure - least) as u16;
-            quadded(alloc, items, widths, Margin { quad, blank })
-        }
+        Some(quad) => quadded(alloc, items, widths, Margin { quad, blank }),
     }
 }

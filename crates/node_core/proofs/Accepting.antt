@@ -1,6 +1,6 @@
 -- The acceptor's lines of the turn, from what it replies.
 use Rattle.std.proofs.Common.{◌≡◌, ℕ, refl, sym, ap, subst, ◌∙◌, List, [], ◌∷◌, Option, Some, None, Bool, true, false}
-use Rattle.std.specs.Prelude.{unwrap_or, option_map}
+use Rattle.std.specs.Prelude.{unwrap_or, option_map, MatchOption}
 use Rattle.protocol.specs.Ballots.{Ballot, is_below}
 use Rattle.protocol.specs.Entries.{Entry}
 use Rattle.protocol.specs.Rows.{Vote, Row, vote_for, raised, voted}
@@ -8,21 +8,20 @@ use Rattle.protocol.specs.Packets.{Packet, Promise}
 use Rattle.protocol.specs.Marks.{Mark}
 use Rattle.protocol.specs.Acceptor.{Reply, Prepares, Accepts, Promises, Nacks, Says_nothing, Votes, Votes_again, reply_of, next_row, is_above, is_at, vote_is_at, nack_of}
 use Rattle.protocol.specs.Turn as said
-use Rattle.protocol.specs.Turn.{answer, prepare_turn, accept_turn, reply_turn, take_vote, hear, packet_to, to_others}
+use Rattle.protocol.specs.Turn.{answer, prepare_turn, accept_turn, reply_turn, take_vote, hear, packet_to}
 use Rattle.protocol.specs.Proposals.{was_released}
-use Rattle.tape_frames.specs.Entries.{owned_entry, lent_entry}
+use Rattle.tape_frames.specs.Entries.{owned_entry}
 use Rattle.tape_frames.specs.declared.entry.Entry.{Entry as OwnedEntry}
-use Rattle.tape_frames.specs.declared.entry.EntryRef.{EntryRef}
 use Rattle.node_core.specs.declared.instance.Instance.{Instance}
 use Rattle.node_core.specs.declared.turn.Turn.{Turn}
-use Rattle.mail.specs.declared.letter.Letter.TheVariants as letters
+use Rattle.packets.specs.declared.letter.Letter.TheVariants as letters
 use Rattle.node_core.specs.declared.turn.Note.{Note}
 use Rattle.node_core.specs.declared.turn.Note.TheVariants as notes
 use Rattle.node_core.specs.Handling.{IsTurnAlone, IsVote, IsVoting}
 use Rattle.protocol.specs.Seats.{Seat}
 use Rattle.node_core.specs.Standing.{Answers, IsLeft}
 use Rattle.node_core.specs.Turns.{IsSending, IsOrderly, IsRowAfter, Stirs, is_quiet, note_value, sent}
-use Rattle.mail.specs.Mails.{vote_below}
+use Rattle.packets.specs.Mails.{vote_below}
 use Rattle.acceptor.specs.Said.{may_report}
 use Rattle.node_core.proofs.Phases.{is_same-self}
 
@@ -72,6 +71,18 @@ no_vote : (o : Option Ballot) → nack_of o ≡ Votes → ⊥
 no_vote None e = cc
 no_vote (Some a) e = cc
 
+no_second : (o : Option Ballot) → nack_of o ≡ Votes_again → ⊥
+no_second None e = cc
+no_second (Some a) e = cc
+
+-- a row whose vote stands has one
+has_vote : (row : Row) (b : Ballot) (t : Entry) → reply_of row (Accepts b t) ≡ Votes_again → row.vote ≡ None → ⊥
+has_vote row b t e none = go (is_above row.promised b) refl
+  where
+    go : (x : Bool) → is_above row.promised b ≡ x → ⊥
+    go true u = no_second row.promised (rw u at e)
+    go false u = let f : Votes ≡ Votes_again = rw (u, none) at e in cc
+
 pub voting : (row : Row) (b : Ballot) (t : Entry) → reply_of row (Accepts b t) ≡ Votes → Voting row b t
 voting row b t e = go (is_above row.promised b) refl (vote_is_at row.vote b) refl
   where
@@ -120,33 +131,40 @@ module _ (s : Seat) (row : Row) (p : Packet) (entry : Entry) where
     releases_nothing = r.release;
   })
 
+  -- the vote of the row after is a vote for its entry
+  is_voting : (x : Turn) (own : Vote) → (unwrap_or x.row row).vote ≡ Some own → IsVote s row p entry x own.entry → IsVoting s row p entry x true
+  is_voting x own has v = subst (λ (o : Option Vote). MatchOption o ⊥ (λ w. IsVote s row p entry x w.entry)) (sym has) v
+
   -- a vote that stands
   pub again_votes :
-      (x : Turn) (v : Vote) (b : Ballot) (voted : Entry) → b ≡ p.ballot → voted ≡ v.entry → row.vote ≡ Some v
-      → reply_of row (Accepts p.ballot entry) ≡ Votes_again → row ≡ next_row row (Accepts p.ballot entry)
-      → IsSending x None (notes.VotedAgain b) (record { seat = s; number = p.number; ballot = p.ballot; letter = letters.Vote }) → IsVote s row p entry x voted
-  again_votes x v b voted its same has reply is r = record {
-    after = row;
-    line = λ marks. by_reply marks row Votes_again reply is ∙ ap (take_vote s marks row p (said.Note_voted_again p.ballot)) has ∙ rw (r.noted, its, same) refl;
-    row_after = rw r.row_after refl;
-    out = rw (r.out, r.row_after, has, same) refl;
-    release = r.release;
-  }
+      (x : Turn) (b : Ballot) → b ≡ p.ballot → reply_of row (Accepts p.ballot entry) ≡ Votes_again → row ≡ next_row row (Accepts p.ballot entry)
+      → IsSending x None (notes.VotedAgain b) (record { seat = s; number = p.number; ballot = p.ballot; letter = letters.Vote }) → IsVoting s row p entry x true
+  again_votes x b its reply is r = go row.vote refl
+    where
+      go : (o : Option Vote) → row.vote ≡ o → IsVoting s row p entry x true
+      go None has = absurd (has_vote row p.ballot entry reply has)
+      go (Some v) has = is_voting x v (ap (λ (o : Option Row). (unwrap_or o row).vote) r.row_after ∙ has) (record {
+        after = row;
+        line = λ marks. by_reply marks row Votes_again reply is ∙ ap (take_vote s marks row p (said.Note_voted_again p.ballot)) has ∙ rw (r.noted, its) refl;
+        row_after = rw r.row_after refl;
+        out = rw (r.out, r.row_after, has) refl;
+        release = r.release;
+      })
 
   -- a new vote
   pub now_votes :
       (x : Turn) (after : Row) (b : Ballot) → b ≡ p.ballot → reply_of row (Accepts p.ballot entry) ≡ Votes → after ≡ next_row row (Accepts p.ballot entry)
-      → IsSending x (Some after) (notes.Voted b) (record { seat = s; number = p.number; ballot = p.ballot; letter = letters.Vote }) → IsVote s row p entry x entry
+      → IsSending x (Some after) (notes.Voted b) (record { seat = s; number = p.number; ballot = p.ballot; letter = letters.Vote }) → IsVoting s row p entry x true
   now_votes x after b its reply is r =
       let v : Voting row p.ballot entry = voting row p.ballot entry reply in
       let votes : after.vote ≡ Some (vote_for p.ballot entry) = ap (λ (w : Row). w.vote) (is ∙ v.row_after) in
-      record {
+      is_voting x (vote_for p.ballot entry) (ap (λ (o : Option Row). (unwrap_or o row).vote) r.row_after ∙ votes) (record {
         after = after;
         line = λ marks. by_reply marks after Votes reply is ∙ ap (λ (w : Row). take_vote s marks after p (said.Note_voted p.ballot) w.vote) (is ∙ v.row_after) ∙ rw (r.noted, its) refl;
         row_after = rw r.row_after (refl, λ same. v.changes (sym is ∙ same));
         out = rw (r.out, r.row_after, votes) refl;
         release = r.release;
-      }
+      })
 
   -- the turn, once the vote is heard
   pub vote_heard :
@@ -175,6 +193,22 @@ module _ (s : Seat) (row : Row) (p : Packet) (entry : Entry) where
     releases_nothing = v.release;
   })
 
-  pub voting_alone : (marks : List Mark) (x : Turn) (o : Option EntryRef) → IsVoting s row p entry x o → was_released p.number marks ≡ true → IsTurnAlone row marks (accept_turn s marks row p entry) x
-  voting_alone marks x None h r = h marks
-  voting_alone marks x (Some u) h r = vote_alone marks x (lent_entry u) h r
+  pub voting_alone : (marks : List Mark) (x : Turn) (votes : Bool) → IsVoting s row p entry x votes → was_released p.number marks ≡ true → IsTurnAlone row marks (accept_turn s marks row p entry) x
+  voting_alone marks x false h r = h marks
+  voting_alone marks x true h r = alone (unwrap_or x.row row).vote h
+    where
+      alone : (o : Option Vote) → MatchOption o ⊥ (λ own. IsVote s row p entry x own.entry) → IsTurnAlone row marks (accept_turn s marks row p entry) x
+      alone None h = absurd h
+      alone (Some own) h = vote_alone marks x own.entry h r
+
+  -- which entry is heard
+  pub vote_told : (x : Turn) (votes : Bool) (own : Vote) (heard : Entry) → votes ≡ true → (unwrap_or x.row row).vote ≡ Some own → heard ≡ own.entry → IsVoting s row p entry x votes → IsVote s row p entry x heard
+  vote_told x votes own heard is has same v =
+      let voting : IsVoting s row p entry x true = subst (IsVoting s row p entry x) is v in
+      subst (IsVote s row p entry x) (sym same) (subst (λ (o : Option Vote). MatchOption o ⊥ (λ w. IsVote s row p entry x w.entry)) has voting)
+
+  -- the row after a vote has one
+  pub vote_there : (x : Turn) (votes : Bool) → votes ≡ true → (unwrap_or x.row row).vote ≡ None → IsVoting s row p entry x votes → ⊥
+  vote_there x votes is none v =
+      let voting : IsVoting s row p entry x true = subst (IsVoting s row p entry x) is v in
+      subst (λ (o : Option Vote). MatchOption o ⊥ (λ w. IsVote s row p entry x w.entry)) none voting

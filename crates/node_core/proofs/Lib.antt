@@ -7,3 +7,4 @@ pub mod Telling
 pub mod Stirring
 pub mod Keeping
 pub mod Dueing
+pub mod Settling

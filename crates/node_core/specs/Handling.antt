@@ -1,5 +1,5 @@
 -- What comes of an event: of a number that was not released, with what is in hand of it, and of one that was.
-use Rattle.std.specs.Prelude.{◌≡◌, ◌≤◌, ℕ, List, ◌∷◌, Option, None, Bool, true, false, Result, MatchResult, IfOk, IfErr, OnOk, OnErr, if◌then◌else◌, IsSome, IsTrue, Some, option_map}
+use Rattle.std.specs.Prelude.{◌≡◌, ◌≤◌, ℕ, List, ◌∷◌, Option, None, Bool, true, false, Result, MatchResult, IfOk, IfErr, OnOk, OnErr, MatchOption, unwrap_or, if◌then◌else◌, IsSome, IsTrue, Some, option_map}
 use Rattle.protocol.specs.Ballots.{Ballot}
 use Rattle.protocol.specs.Entries.{Entry}
 use Rattle.protocol.specs.Rows.{Vote, Row, raised}
@@ -8,9 +8,8 @@ use Rattle.protocol.specs.Acceptor.{is_above}
 use Rattle.protocol.specs.Proposals.{Opening, was_released, open_proposal, proposal_at, gathering_at, since_began, counted, pick, is_due_number}
 use Rattle.protocol.specs.Turn as said
 use Rattle.proposer.specs.InHand.{InHand, StandsFor as ProposalStandsFor}
-use Rattle.tape_frames.specs.Entries.{owned_entry, lent_entry}
+use Rattle.tape_frames.specs.Entries.{owned_entry}
 use Rattle.tape_frames.specs.declared.entry.Entry.{Entry as OwnedEntry}
-use Rattle.tape_frames.specs.declared.entry.EntryRef.{EntryRef}
 use Rattle.node_core.specs.declared.instance.Instance.{Instance}
 use Rattle.node_core.specs.declared.event.Event.{Event}
 use Rattle.node_core.specs.declared.turn.Turn.{Turn}
@@ -22,7 +21,7 @@ use Rattle.protocol.specs.Seats.{Seat}
 use Rattle.node_core.specs.Standing.{Core, StandsFor, InstanceStands, AllStand, AreInstancesOf, IsInstanceOf, IsLeastPassing, IsLeft, Answers, Settles, Kept, Moves, IsFresh, IsSameSeat, seat_of, instance_at}
 use Rattle.node_core.specs.Calls.{StartIs, TurnIs, MayTakeMemory, IsForMember, MayCome, TookTurn, IsRefused, RefusesEvent, MayWantMemory}
 use Rattle.node_core.specs.Turns.{IsTurn, IsRowAfter, IsOrderly, HasPromise, HandsNothing, event_value, note_value, Stirs, sent}
-use Rattle.messages.specs.Rules.{keeps_rules}
+use Rattle.packets.specs.Rules.{keeps_rules}
 use Rattle.protocol.specs.Packets.{Packet, Prepare, Accept, Accepted}
 use Rattle.protocol.specs.Turn.{accept_turn, vote_turn, recall_turn, to_others}
 
@@ -214,11 +213,7 @@ pub record IsTurnAlone (row : Row) (marks : List Mark) (t : said.Turn) (x : Turn
   pub takes_nothing : t.marks ≡ marks
   pub releases_nothing : x.release ≡ None
 
--- a packet was answered so, or memory was refused to it where the turn is not quiet
-abbrev pub Answered : {E : Type 0} → Row → List Mark → said.Turn → Result Turn E → Type 0
-Answered row marks t result = MatchResult result (λ x. IsTurnAlone row marks t x) (λ _. Stirs t)
-
--- the same of any event
+-- an event was taken by such a turn, or memory was refused to it where the turn is not quiet
 abbrev pub TakesNothing : Seat → Event → Row → List Mark → Result Turn CoreRefusal → Type 0
 TakesNothing s event row marks result =
     MatchResult result (λ x. TurnIs s event marks row (λ t. IsTurnAlone row marks t x)) (λ e. e ≡ refusals.OutOfMemory → TurnIs s event marks row Stirs)
@@ -228,13 +223,6 @@ pub record AnswersPrepare {E : Type 0} (s : Seat) (p : Packet) (row : Row) (resu
   pub turn : IfOk result (λ x. (marks : List Mark) → IsTurn row (said.prepare_turn s marks row p) x)
   pub orderly : IfOk result (λ x. IsOrderly x)
   pub memory : OnErr result ((marks : List Mark) → Stirs (said.prepare_turn s marks row p))
-
--- a packet of a number that was released was answered, whatever the moment
-pub record AnsweredReleased {E : Type 0} (s : Seat) (p : Packet) (row : Row) (result : Result Turn E) : Type 0 where
-  pub turn :
-      (now : ℕ) (marks : List Mark) → was_released p.number marks ≡ true
-      → Answered row marks (said.packet_turn s now marks row p p.body) result
-  pub orderly : IfOk result (λ x. IsOrderly x)
 
 -- the number of the event was released
 abbrev pub IsReleased : Event → List Mark → Type 0
@@ -294,10 +282,10 @@ pub record IsVote (s : Seat) (row : Row) (p : Packet) (entry : Entry) (x : Turn)
   pub out : sent row x ≡ to_others s p.number p.ballot (Accepted voted)
   pub release : x.release ≡ None
 
--- an Accept is voted for, with this entry, or refused
-abbrev pub IsVoting : Seat → Row → Packet → Entry → Turn → Option EntryRef → Type 0
-IsVoting s row p entry x None = (marks : List Mark) → IsTurnAlone row marks (accept_turn s marks row p entry) x
-IsVoting s row p entry x (Some voted) = IsVote s row p entry x (lent_entry voted)
+-- an Accept is voted for, by the vote of the row after, or refused
+abbrev pub IsVoting : Seat → Row → Packet → Entry → Turn → Bool → Type 0
+IsVoting s row p entry x false = (marks : List Mark) → IsTurnAlone row marks (accept_turn s marks row p entry) x
+IsVoting s row p entry x true = MatchOption (unwrap_or x.row row).vote ⊥ (λ own. IsVote s row p entry x own.entry)
 
 -- the station is to hear this vote of its row from itself, and the code hands out nothing but the note of that
 pub record TellsItself (s : Seat) (to : ℕ) (row : Row) (x : Turn) (own : Vote) : Type 0 where

@@ -9,7 +9,7 @@ use Rattle.node_core.specs.declared.event.Event.TheVariants as events
 use Rattle.node_core.specs.declared.turn.Note.{Note}
 use Rattle.node_core.specs.declared.turn.Note.TheVariants as notes
 use Rattle.node_core.specs.declared.turn.Turn.{Turn}
-use Rattle.mail.specs.Mails.{Mail, mail_sends, IsFew}
+use Rattle.packets.specs.Mails.{Mail, mail_sends, IsFew}
 
 -- what comes to the station
 abbrev pub event_value : Event → said.Event

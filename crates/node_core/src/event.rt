@@ -5,7 +5,7 @@ ghost use Rattle.protocol.specs.Turn.{number_of};
 ghost use Rattle.node_core.specs.Turns.{event_value};
 
 use ballots::{Member, Number};
-use messages::PacketRef;
+use packets::PacketRef;
 use tape_frames::Entry;
 
 /// An event of one number. `now` is its moment, in milliseconds.
@@ -41,7 +41,7 @@ pub enum Event<'a> {
 
 impl Event<'_> {
     /// The number that it is about.
-    pub(crate) fn number(&self) -> Number
+    pub fn number(&self) -> Number
         ensures { result ≡ number_of (event_value self.now) }
     {
         match self {

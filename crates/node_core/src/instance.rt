@@ -17,8 +17,7 @@ use crate::turn::{CoreRefusal, Note, Turn};
 use crate::voting::{self, RecallAnswer, Voting};
 use ballots::{Ballot, Member, Number, Row, VoteRef};
 use learner::Heard;
-use mail::{Letter, Mail, Seat};
-use messages::{BodyRef, PacketRef};
+use packets::{BodyRef, Letter, Mail, PacketRef, Seat};
 use proposer::{Beginning, Counted, DueAnswer, Proposal};
 use std::alloc::{AllocError, Global};
 use tape_frames::{Entry, EntryRef};
@@ -305,15 +304,18 @@ impl Instance {
         requires { MayTakeAccept sitting.seat packet.now (lent_entry entry) self.old }
         ensures { HandlesAccept sitting.seat packet.now (lent_entry entry.entry) row.now result self.old self.new }
     {
-        let seat = sitting.seat;
-        let Voting { turn, vote } = voting::accept(sitting, packet, entry, row)?;
-        match vote {
-            None => Ok(turn),
-            Some(entry) => {
-                let release = self.hear(seat.me(), packet.ballot(), entry)?;
-                Ok(Turn { release, ..turn })
-            }
+        // The packet is to this member, which is one of its circuit.
+        packets::laws::range_of_seat(sitting.seat);
+        let Voting { turn, votes } = voting::accept(sitting, packet, entry, row)?;
+        if !votes {
+            return Ok(turn);
         }
+        // The row's own entry is heard, not the packet's: so its tape is unpacked once.
+        let release = match turn.row.as_ref().unwrap_or(row).vote() {
+            Some(vote) => self.hear(packet.to(), packet.ballot(), vote.entry())?,
+            None => unreachable!(),
+        };
+        Ok(Turn { release, ..turn })
     }
 
     /// Takes an Accepted: the sender's vote is heard.

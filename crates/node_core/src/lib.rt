@@ -4,14 +4,14 @@
 mod event;
 mod instance;
 mod instances;
+pub mod laws;
 mod node;
 mod rows;
-mod settled;
 mod sitting;
 mod turn;
 mod voting;
 
 pub use event::Event;
-pub use mail::{Mail, Outgoing};
 pub use node::NodeCore;
+pub use packets::{Mail, Outgoing};
 pub use turn::{CoreRefusal, Note, Turn};

@@ -12,9 +12,9 @@ use crate::event::Event;
 use crate::instance::Instance;
 use crate::instances::InstanceBox;
 use crate::turn::{CoreRefusal, Turn};
-use crate::{instances, settled};
+use crate::{instances, voting};
 use ballots::{Ballot, Member, Number, Row};
-use mail::Seat;
+use packets::Seat;
 use std::alloc::{AllocError, Global};
 use std::collections::{BTreeMap, BTreeSet};
 use std::marker::Model;
@@ -149,24 +149,6 @@ impl NodeCore {
         instances::put(self.alloc, &mut self.instances, instance)
     }
 
-    /// Takes an event of a number of which nothing is in hand.
-    fn act_anew(&mut self, number: Number, event: Event<'_>, row: &Row) -> Result<Turn, CoreRefusal>
-        requires act { MayAct number event self.old }
-        requires nothing { instance_at self.old number ≡ None }
-        ensures { Acts number event.entry row.now result self.old self.new }
-    {
-        // Marks of one number change nothing that is read of another.
-        learner::laws::other_marks_pass();
-        proposer::laws::other_marks_pass();
-        if self.released(number) {
-            return settled::take(self.alloc, self.seat, &event, row);
-        }
-        let mut instance = Instance::new(self.alloc, number, self.seat);
-        let turn = instance.take(self.alloc, self.seat, event, row)?;
-        self.keep(instance)?;
-        Ok(turn)
-    }
-
     /// Takes an event of the number; where its entry is released now, that is still to be noted.
     fn act(&mut self, number: Number, event: Event<'_>, row: &Row) -> Result<Turn, CoreRefusal>
         requires { MayAct number event self.old }
@@ -175,10 +157,16 @@ impl NodeCore {
         // Marks of one number change nothing that is read of another.
         learner::laws::other_marks_pass();
         proposer::laws::other_marks_pass();
-        match self.instances.get_mut(&number.get()) {
-            Some(boxed) => boxed.instance.take(self.alloc, self.seat, event, row),
-            None => self.act_anew(number, event, row),
+        if let Some(boxed) = self.instances.get_mut(&number.get()) {
+            return boxed.instance.take(self.alloc, self.seat, event, row);
         }
+        if self.released(number) {
+            return voting::settled(self.alloc, self.seat, &event, row);
+        }
+        let mut instance = Instance::new(self.alloc, number, self.seat);
+        let turn = instance.take(self.alloc, self.seat, event, row)?;
+        self.keep(instance)?;
+        Ok(turn)
     }
 
     /// The turn of the event, or why there is none; memory that was refused may leave anything behind.

@@ -1,6 +1,6 @@
 //! Where and when a turn is taken.
 
-use mail::Seat;
+use packets::Seat;
 use std::alloc::Global;
 
 /// The seat whose turn it is, the moment, and the memory for the turn.

@@ -5,7 +5,7 @@ ghost use Rattle.node_core.specs.Turns.{HandsNothing, IsOrderly, sent};
 ghost use Rattle.node_core.specs.declared.turn.CoreRefusal.TheVariants.{OutOfMemory};
 
 use ballots::{Ballot, Row};
-use mail::{Mail, Outgoing};
+use packets::{Mail, Outgoing};
 use std::alloc::AllocError;
 use tape_frames::Entry;
 

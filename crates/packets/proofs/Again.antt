@@ -14,9 +14,9 @@ use Rattle.protocol.specs.Rows.{Vote}
 use Rattle.protocol.specs.Versions.{Version, One, Two}
 use Rattle.protocol.specs.Packets.{Packet, Body, Prepare, Promise, Accept, Accepted, Nack}
 use Rattle.protocol.specs.Fitting.{Fits, BodyFits}
-use Rattle.messages.specs.declared.body.PacketKind.{PacketKind}
-use Rattle.messages.specs.declared.body.PacketKind.TheVariants as kinds
-use Rattle.messages.specs.Rules.{kind_of, may_send, may_say, keeps_rules}
+use Rattle.packets.specs.declared.body.PacketKind.{PacketKind}
+use Rattle.packets.specs.declared.body.PacketKind.TheVariants as kinds
+use Rattle.packets.specs.Rules.{kind_of, may_send, may_say, keeps_rules}
 use Rattle.packets.specs.Spelling.{kind_byte, ballot_bytes, header_bytes, entry_bytes, body_bytes, spelling}
 use Rattle.packets.specs.Grammar.{IsTapeOne, IsBody, IsPacket, number_of_version}
 use Rattle.packets.specs.Laws.{Packings}
@@ -51,7 +51,7 @@ kind_again v kind rest h =
     rw (long, version, kind_back kind) refl
 
 header_again : (v : Version) (kind : PacketKind) (circuit from to number : ℕ) (b : Ballot) (rest : List ℕ) → circuit < 65536 → IsMember 15 from → IsMember 15 to → 1 ≤ number → number ≤ 999999 → IsBallot b → eqb from to ≡ false → may_send kind b.owner from to ≡ true
-    → header_at v (header_bytes v kind circuit from to number ++ ballot_bytes b ++ rest) ≡ Ok (record { kind = kind; route = record { circuit = circuit; from = from; to = to }; number = number; ballot = b })
+    → header_at v (header_bytes v kind circuit from to number b ++ rest) ≡ Ok (record { kind = kind; route = record { circuit = circuit; from = from; to = to }; number = number; ballot = b })
 unfolding header_at members_at member_at number_at ballot_at
 header_again v kind circuit from to number b rest fits is_from is_to low high is differ send =
     let first = kind_again v kind (to_be_bytes w16 circuit ++ from ∷ to ∷ [] ++ to_be_bytes w32 number ++ ballot_bytes b ++ rest) (omega arith) in

@@ -7,7 +7,7 @@ use Rattle.protocol.specs.Ballots.{IsMember}
 use Rattle.protocol.specs.Limits.{most_members}
 use Rattle.protocol.specs.Versions.{Version}
 use Rattle.protocol.specs.Packets.{Packet}
-use Rattle.messages.specs.Rules.{keeps_rules}
+use Rattle.packets.specs.Rules.{keeps_rules}
 use Rattle.packets.specs.Grammar.{Spells, SpellsAlike, IsPacket}
 use Rattle.packets.specs.Laws.{Packings}
 use Rattle.packets.specs.Spelling.{spelling}

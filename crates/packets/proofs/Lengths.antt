@@ -1,8 +1,5 @@
 -- How many bytes a spelling has.
 use Rattle.std.proofs.Common.{◌≡◌, ℕ, ◌+◌, ◌≤◌, List, length, Some, None, ap, arith}
-use Rattle.std.specs.Prelude.{Result, Ok, Err, IfOk}
-use Rattle.std.specs.declared.alloc.AllocError.{AllocError}
-use Rattle.std.specs.Global.{Vec}
 use Rattle.tape_frames.specs.Entries.{entry_frames, IsEntry}
 use Rattle.protocol.specs.Limits.{most_frames_one}
 use Rattle.protocol.specs.Entries.{Entry, Void, Taped}
@@ -44,13 +41,3 @@ module _ (k : Packings) where
   lengths_are_bounded v bytes p s =
       let is = packet_is v bytes p s in
       (has_header v bytes p s, omega (arith, as_written v bytes p s, body_length v p.body is.0.body is.1))
-
-  -- ---- a writer's answer
-
-  pub is_at_least : (v : Version) (p : Packet) (r : Result (Vec ℕ) AllocError) → IfOk r (λ o. Spells v o.items p) → IfOk r (λ o. shortest ≤ length o.items)
-  is_at_least v p (Ok o) s = has_header v o.items p s
-  is_at_least v p (Err x) s = tt
-
-  pub is_at_most : (v : Version) (p : Packet) (r : Result (Vec ℕ) AllocError) → IfOk r (λ o. Spells v o.items p) → IfOk r (λ o. length o.items ≤ longest v)
-  is_at_most v p (Ok o) s = (lengths_are_bounded v o.items p s).1
-  is_at_most v p (Err x) s = tt

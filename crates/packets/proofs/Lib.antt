@@ -1,11 +1,12 @@
-pub mod Numbers
-pub mod Entries
-pub mod Tapes
-pub mod Written
-pub mod Again
-pub mod Taken
-pub mod Saying
-pub mod Unique
-pub mod Lengths
-pub mod Alike
+mod Sending
 mod Speaking
+pub mod Again
+pub mod Alike
+pub mod Entries
+pub mod Lengths
+pub mod Numbers
+pub mod Saying
+pub mod Taken
+pub mod Tapes
+pub mod Unique
+pub mod Written

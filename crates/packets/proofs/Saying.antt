@@ -11,8 +11,8 @@ use Rattle.protocol.specs.Rows.{Vote, vote_for}
 use Rattle.protocol.specs.Versions.{Version, One, Two}
 use Rattle.protocol.specs.Packets.{Packet, Body, Prepare, Promise, Accept, Accepted, Nack}
 use Rattle.protocol.specs.Fitting.{Fits, BodyFits}
-use Rattle.messages.specs.declared.body.PacketKind.{PacketKind}
-use Rattle.messages.specs.declared.body.PacketKind.TheVariants as kinds
+use Rattle.packets.specs.declared.body.PacketKind.{PacketKind}
+use Rattle.packets.specs.declared.body.PacketKind.TheVariants as kinds
 use Rattle.packets.specs.Grammar.{said_version, number_of_version}
 use Rattle.packets.specs.Laws.{ReadAsSaid, ReadWhatFits, TwoReadsBoth}
 use Rattle.packets.specs.Reading.{wanted, u16_at, kind_at, header_at, frames_at, entry_at, whole_entry_at, ballot_at, vote_at, promise_at, nack_at, body_at, packet_in}

@@ -8,7 +8,7 @@ use Rattle.protocol.specs.Ballots.{Ballot, IsBallot, IsBelow, IsMember, is_below
 use Rattle.protocol.specs.Packets.{Packet, Body, Prepare, Promise, Accept, Accepted, Nack}
 use Rattle.protocol.specs.Circuit.{Circuit}
 use Rattle.protocol.specs.Progress.{IsBallotOf, BodyMaySay, MaySay}
-use Rattle.messages.specs.Rules.{kind_of, may_send, may_say}
+use Rattle.packets.specs.Rules.{kind_of, may_send, may_say}
 use Rattle.packets.specs.Grammar.{IsBody, IsPacket}
 use Rattle.packets.specs.Laws.{HasOneSpelling, ReadsItAgain, ReadWhatFits, MembersCanSpeak}
 use Rattle.std.proofs.lemmas.Bool.Decides.{nat_tests}

@@ -15,10 +15,10 @@ use Rattle.protocol.specs.Versions.{Version, One, Two}
 use Rattle.protocol.specs.Packets.{Packet, Body, Prepare, Promise, Accept, Accepted, Nack}
 use Rattle.packets.specs.declared.fault.PacketFault.{PacketFault}
 use Rattle.packets.specs.declared.fault.PacketFault.TheVariants.{BadPad}
-use Rattle.messages.specs.declared.body.PacketKind.{PacketKind}
-use Rattle.messages.specs.declared.body.PacketKind.TheVariants as kinds
+use Rattle.packets.specs.declared.body.PacketKind.{PacketKind}
+use Rattle.packets.specs.declared.body.PacketKind.TheVariants as kinds
 use Rattle.packets.specs.declared.header.Header.{Header}
-use Rattle.messages.specs.Rules.{kind_of, may_send, may_say, keeps_rules}
+use Rattle.packets.specs.Rules.{kind_of, may_send, may_say, keeps_rules}
 use Rattle.packets.specs.Spelling.{kind_byte}
 use Rattle.packets.specs.Grammar.{IsBytes, SpellsTwo, SpellsFour, SpellsBallot, SpellsTape, SpellsEntry, SpellsBody, Spells, number_of_version, number_of_kind}
 use Rattle.packets.specs.Laws.{Packings, FindsWhatIsSpelled}

@@ -61,6 +61,10 @@ module _ (k : Packings) where
   pub is_read : ReadsItAgain
   is_read v bytes p s = ap (packet_in v) (sym (append-nil bytes)) ∙ spelled v bytes [] p s
 
+  -- and so by a station of version 2
+  pub is_two : (v : Version) (bytes : List ℕ) (p : Packet) → Spells v bytes p → packet_at Two bytes ≡ Ok p
+  is_two v bytes p s = two_reads_both v bytes p (is_read v bytes p s)
+
   one_in : (v : Version) (bytes : List ℕ) (p q : Packet) → Spells v bytes p → Spells v bytes q → p ≡ q
   one_in v bytes p q s t = ok_is p q (sym (is_read v bytes p s) ∙ is_read v bytes q t)
 
@@ -87,8 +91,8 @@ module _ (k : Packings) where
 
   pub at_read : (v : Version) (bytes : List ℕ) (p : Packet) → SpellsAt v bytes p → packet_at v bytes ≡ Ok p
   at_read One bytes p s = is_read One bytes p s
-  at_read Two bytes p (inl s) = two_reads_both One bytes p (is_read One bytes p s)
-  at_read Two bytes p (inr s) = two_reads_both Two bytes p (is_read Two bytes p s)
+  at_read Two bytes p (inl s) = is_two One bytes p s
+  at_read Two bytes p (inr s) = is_two Two bytes p s
 
   pub at_nothing : (v : Version) (bytes : List ℕ) (r : Result Packet PacketFault) → r ≡ packet_at v bytes → OnErr r ((p : Packet) → SpellsAt v bytes p → ⊥)
   at_nothing v bytes (Ok p) e = tt
@@ -100,11 +104,6 @@ module _ (k : Packings) where
   is_again v p (Ok o) s = is_read v o.items p s
   is_again v p (Err x) s = tt
 
-  pub is_own : (v : Version) (p : Packet) (r : Result (Vec ℕ) AllocError) → IfOk r (λ o. Spells v o.items p) → IfOk r (λ o. packet_at v o.items ≡ Ok p)
-  is_own One p (Ok o) s = is_read One o.items p s
-  is_own Two p (Ok o) s = two_reads_both Two o.items p (is_read Two o.items p s)
-  is_own v p (Err x) s = tt
-
-  pub is_two : (v : Version) (p : Packet) (r : Result (Vec ℕ) AllocError) → IfOk r (λ o. Spells v o.items p) → IfOk r (λ o. packet_at Two o.items ≡ Ok p)
-  is_two v p (Ok o) s = two_reads_both v o.items p (is_read v o.items p s)
-  is_two v p (Err x) s = tt
+  pub is_own : (v : Version) (bytes : List ℕ) (p : Packet) → Spells v bytes p → packet_at v bytes ≡ Ok p
+  is_own One bytes p s = is_read One bytes p s
+  is_own Two bytes p s = is_two Two bytes p s

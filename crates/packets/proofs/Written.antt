@@ -1,8 +1,5 @@
 -- What spells a packet in a version is what is written of it, and what is written spells it.
-use Rattle.std.proofs.Common.{◌≡◌, ℕ, List, [], ◌∷◌, ◌++◌, length, Some, None, refl, sym, ap, subst, ◌∙◌, arith}
-use Rattle.std.specs.Prelude.{Result, Ok, Err, IfOk, OnOk}
-use Rattle.std.specs.declared.alloc.AllocError.{AllocError}
-use Rattle.std.specs.Global.{Vec}
+use Rattle.std.proofs.Common.{◌≡◌, ℕ, List, [], ◌∷◌, ◌++◌, length, Some, None, refl, sym, ap, subst, ◌∙◌, arith, append_assoc}
 use Rattle.std.specs.Int.{w16, w32, to_be_bytes}
 use Rattle.tape_frames.specs.Entries.{entry_frames, IsEntry}
 use Rattle.tape_frames.specs.Packing.{packing_of}
@@ -12,7 +9,7 @@ use Rattle.protocol.specs.Rows.{Vote}
 use Rattle.protocol.specs.Versions.{Version, One, Two}
 use Rattle.protocol.specs.Packets.{Packet, Body, Prepare, Promise, Accept, Accepted, Nack}
 use Rattle.protocol.specs.Fitting.{Fits, BodyFits}
-use Rattle.messages.specs.Rules.{kind_of}
+use Rattle.packets.specs.Rules.{kind_of}
 use Rattle.packets.specs.Spelling.{kind_byte, ballot_bytes, entry_bytes, report_bytes, body_bytes, spelling}
 use Rattle.packets.specs.Grammar.{IsTapeOne, SpellsBallot, SpellsTape, SpellsPacked, SpellsEntry, SpellsVote, SpellsBody, Spells, number_of_version, number_of_kind, IsBody, IsPacket}
 use Rattle.packets.specs.Laws.{HasOneSpelling, OnlyWhatFits, Packings}
@@ -26,6 +23,10 @@ kind_is (Promise report) = refl
 kind_is (Accept entry) = refl
 kind_is (Accepted entry) = refl
 kind_is (Nack promised) = refl
+
+-- what is put behind bytes that were put
+pub behind : (out first second once twice : List ℕ) → once ≡ out ++ first → twice ≡ once ++ second → twice ≡ out ++ (first ++ second)
+behind out first second once twice e f = f ∙ ap (λ (x : List ℕ). x ++ second) e ∙ append_assoc out first second
 
 -- the fields of a packet, one behind the other
 abbrev joined : ℕ → ℕ → List ℕ → ℕ → ℕ → List ℕ → List ℕ → List ℕ → List ℕ
@@ -185,10 +186,8 @@ module _ (k : Packings) where
   has_one v p is fits = (spelling v p, packet_written v p is fits, λ other s. packet_are v other p s)
 
   -- what was written, in the grammar's words
-  pub is_spelled : (v : Version) (p : Packet) (r : Result (Vec ℕ) AllocError) → BodyFits v p.body → IfOk r (λ o. o.items ≡ spelling v p) → OnOk r (IsPacket p) → IfOk r (λ o. Spells v o.items p)
-  is_spelled v p (Ok o) fits e is = subst (λ (x : List ℕ). Spells v x p) (sym e) (packet_written v p is fits)
-  is_spelled v p (Err x) fits e is = tt
+  pub is_spelled : (v : Version) (p : Packet) (bytes : List ℕ) → IsPacket p → BodyFits v p.body → bytes ≡ spelling v p → Spells v bytes p
+  is_spelled v p bytes is fits e = subst (λ (x : List ℕ). Spells v x p) (sym e) (packet_written v p is fits)
 
-  pub is_only : (v : Version) (p : Packet) (r : Result (Vec ℕ) AllocError) → IfOk r (λ o. o.items ≡ spelling v p) → IfOk r (λ o. (other : List ℕ) → Spells v other p → other ≡ o.items)
-  is_only v p (Ok o) e = λ other s. packet_are v other p s ∙ sym e
-  is_only v p (Err x) e = tt
+  pub is_only : (v : Version) (p : Packet) (bytes : List ℕ) → bytes ≡ spelling v p → (other : List ℕ) → Spells v other p → other ≡ bytes
+  is_only v p bytes e other s = packet_are v other p s ∙ sym e

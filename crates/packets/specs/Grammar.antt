@@ -11,7 +11,7 @@ use Rattle.protocol.specs.Rows.{Vote}
 use Rattle.protocol.specs.Versions.{Version, One, Two}
 use Rattle.protocol.specs.Packets.{Packet, Body, Prepare, Promise, Accept, Accepted, Nack}
 use Rattle.protocol.specs.Limits.{most_members, last_number, most_frames_one}
-use Rattle.messages.specs.Rules.{keeps_rules}
+use Rattle.packets.specs.Rules.{keeps_rules}
 
 -- a tape that version 1 spells: one frame or more, up to its most
 pub record IsTapeOne (tape : Tape) : Type 0 where
@@ -136,13 +136,14 @@ IsBody (Accept entry) = IsEntry entry
 IsBody (Accepted entry) = IsEntry entry
 IsBody (Nack promised) = IsBallot promised
 
--- each number of the header is in its range
+-- each field of the header is in its range
 pub record IsHeader (p : Packet) : Type 0 where
   pub circuit : p.circuit < 65536
   pub from : IsMember most_members p.from
   pub to : IsMember most_members p.to
   pub number_low : 1 ≤ p.number
   pub number_high : p.number ≤ last_number
+  pub ballot : IsBallot p.ballot
 
 -- what has a spelling in some version: each field is in its range, and the rules are kept
 pub record IsPacket (p : Packet) : Type 0 where

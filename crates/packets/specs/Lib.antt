@@ -1,4 +1,7 @@
+pub mod Bodies
 pub mod Grammar
-pub mod Spelling
-pub mod Reading
 pub mod Laws
+pub mod Mails
+pub mod Reading
+pub mod Rules
+pub mod Spelling

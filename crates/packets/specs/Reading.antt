@@ -9,12 +9,12 @@ use Rattle.protocol.specs.Rows.{Vote, vote_for}
 use Rattle.protocol.specs.Versions.{Version, One, Two}
 use Rattle.protocol.specs.Packets.{Packet, Body, Prepare, Promise, Accept, Accepted, Nack}
 use Rattle.protocol.specs.Limits.{most_members, is_number, most_frames_one}
-use Rattle.messages.specs.Rules.{may_send, packet_with}
+use Rattle.packets.specs.Rules.{may_send, packet_with}
 use Rattle.packets.specs.Grammar.{number_of_version, said_version}
 use Rattle.packets.specs.declared.fault.PacketFault.{PacketFault}
 use Rattle.packets.specs.declared.fault.PacketFault.TheVariants.{Short, BadMark, BadVersion, BadKind, BadMember, BadNumber, BadBallot, BadSender, BadReport, BadFrames, BadPad, Long}
-use Rattle.messages.specs.declared.body.PacketKind.{PacketKind}
-use Rattle.messages.specs.declared.body.PacketKind.TheVariants as kinds
+use Rattle.packets.specs.declared.body.PacketKind.{PacketKind}
+use Rattle.packets.specs.declared.body.PacketKind.TheVariants as kinds
 use Rattle.packets.specs.declared.header.Header.{Header}
 
 -- one step after another, up to the first fault

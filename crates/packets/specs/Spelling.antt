@@ -8,10 +8,10 @@ use Rattle.protocol.specs.Entries.{Entry}
 use Rattle.protocol.specs.Rows.{Vote}
 use Rattle.protocol.specs.Versions.{Version, One, Two}
 use Rattle.protocol.specs.Packets.{Packet, Body, Prepare, Promise, Accept, Accepted, Nack}
-use Rattle.messages.specs.Rules.{kind_of}
+use Rattle.packets.specs.Rules.{kind_of}
 use Rattle.packets.specs.Grammar.{number_of_version}
-use Rattle.messages.specs.declared.body.PacketKind.{PacketKind}
-use Rattle.messages.specs.declared.body.PacketKind.TheVariants as kinds
+use Rattle.packets.specs.declared.body.PacketKind.{PacketKind}
+use Rattle.packets.specs.declared.body.PacketKind.TheVariants as kinds
 
 -- the number of a kind
 abbrev pub kind_byte : PacketKind → ℕ
@@ -25,14 +25,14 @@ kind_byte kinds.Nack = 5
 abbrev pub ballot_bytes : Ballot → List ℕ
 ballot_bytes b = to_be_bytes w32 b.round ++ b.owner ∷ []
 
--- the header as far as the ballot
-abbrev pub header_bytes : Version → PacketKind → ℕ → ℕ → ℕ → ℕ → List ℕ
-header_bytes v kind circuit from to number =
-    84 ∷ 78 ∷ number_of_version v ∷ kind_byte kind ∷ [] ++ to_be_bytes w16 circuit ++ from ∷ to ∷ [] ++ to_be_bytes w32 number
+-- the fields of a header
+abbrev pub header_bytes : Version → PacketKind → ℕ → ℕ → ℕ → ℕ → Ballot → List ℕ
+header_bytes v kind circuit from to number ballot =
+    84 ∷ 78 ∷ number_of_version v ∷ kind_byte kind ∷ [] ++ to_be_bytes w16 circuit ++ from ∷ to ∷ [] ++ to_be_bytes w32 number ++ ballot_bytes ballot
 
--- the header of a packet as far as the ballot
+-- the header of a packet
 abbrev pub header_of : Version → Packet → List ℕ
-header_of v p = header_bytes v (kind_of p.body) p.circuit p.from p.to p.number
+header_of v p = header_bytes v (kind_of p.body) p.circuit p.from p.to p.number p.ballot
 
 -- frames: one a byte in version 1, packed in version 2
 abbrev pub frame_bytes : Version → List ℕ → List ℕ
@@ -58,4 +58,4 @@ body_bytes v (Nack promised) = ballot_bytes promised
 
 -- the bytes that a packet is written as
 abbrev pub spelling : Version → Packet → List ℕ
-spelling v p = header_bytes v (kind_of p.body) p.circuit p.from p.to p.number ++ ballot_bytes p.ballot ++ body_bytes v p.body
+spelling v p = header_of v p ++ body_bytes v p.body

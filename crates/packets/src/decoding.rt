@@ -7,17 +7,18 @@ ghost use Rattle.tape_frames.specs.Entries.{lent_entry, version_of};
 ghost use Rattle.protocol.specs.Ballots.{is_below};
 ghost use Rattle.protocol.specs.Fitting.{BodyFits};
 ghost use Rattle.protocol.specs.Packets.{Packet as PacketValue};
-ghost use Rattle.messages.specs.Bodies.{said};
-ghost use Rattle.packets.specs.Grammar.{SpellsAt, said_version};
-ghost use Rattle.messages.specs.Rules.{kind_of, may_say};
+ghost use Rattle.packets.specs.Bodies.{said};
+ghost use Rattle.packets.specs.Grammar.{SpellsAt};
+ghost use Rattle.packets.specs.Rules.{kind_of, may_say};
 ghost use Rattle.packets.specs.Reading.{frames_at, packed_entry, packed_at, entry_at, whole_entry_at, vote_at, promise_at, nack_at, body_at, packet_in, packet_at, Seen};
-ghost use Rattle.messages.specs.declared.body.PacketKind.TheVariants as kinds;
+ghost use Rattle.packets.specs.declared.body.PacketKind.TheVariants as kinds;
 
+use crate::body::{BodyRef, PacketKind};
 use crate::fault::PacketFault;
 use crate::header::{HEADER_LEN, ballot_of, header_of, u16_of};
 use crate::laws::packings;
+use crate::packet::PacketRef;
 use ballots::{Ballot, VoteRef};
-use messages::{BodyRef, PacketKind, PacketRef};
 use tape_frames::{EntryRef, MAX_FRAMES, MAX_FRAMES_ONE, PackedRef, TapeRef, Version, packed_len};
 
 #[tactic(auto, unfolding(crate::specs::Reading::frames_at))]
@@ -208,23 +209,13 @@ fn packet_of(bytes: &[u8], version: Version) -> Result<PacketRef<'_>, PacketFaul
     }
 }
 
-/// Of which version the bytes say that they are.
-fn said_version(bytes: &[u8]) -> Version
-    ensures { version_of result ≡ said_version bytes.now }
-{
-    if bytes.len() > 2 && bytes[2] == 2 {
-        Version::Two
-    } else {
-        Version::One
-    }
-}
-
-fn packet_at(bytes: &[u8], version: Version) -> Result<PacketRef<'_>, PacketFault>
-    ensures { result ≡ packet_at (version_of version) bytes.now }
+/// The version in which a station of this version reads the bytes: a station of version 2 goes by what they say.
+fn read_version(bytes: &[u8], version: Version) -> Version
+    ensures { packet_in (version_of result) bytes.now ≡ packet_at (version_of version) bytes.now }
 {
     match version {
-        Version::One => packet_of(bytes, Version::One),
-        Version::Two => packet_of(bytes, said_version(bytes)),
+        Version::Two if bytes.len() > 2 && bytes[2] == 2 => Version::Two,
+        _ => Version::One,
     }
 }
 
@@ -243,5 +234,5 @@ pub fn decode(bytes: &[u8], version: Version) -> Result<PacketRef<'_>, PacketFau
     ensures fits { IfOk result (λ p. BodyFits (version_of version) p.body) }
 {
     packings();
-    packet_at(bytes, version)
+    packet_of(bytes, read_version(bytes, version))
 }

@@ -7,16 +7,17 @@ ghost use Rattle.protocol.specs.Ballots.{IsBallot};
 ghost use Rattle.protocol.specs.Fitting.{BodyFits};
 ghost use Rattle.protocol.specs.Packets.{Promise};
 ghost use Rattle.protocol.specs.Versions.{Two};
-ghost use Rattle.messages.specs.Bodies.{said};
-ghost use Rattle.packets.specs.Grammar.{Spells, SpellsAlike, IsBody, IsHeader, IsPacket};
+ghost use Rattle.packets.specs.Bodies.{said};
+ghost use Rattle.packets.specs.Grammar.{Spells, SpellsAlike, IsBody, IsHeader};
 ghost use Rattle.packets.specs.Laws.{shortest, longest};
 ghost use Rattle.packets.specs.Reading.{packet_in, packet_at};
 ghost use Rattle.packets.specs.Spelling.{kind_byte, ballot_bytes, header_of, entry_bytes, report_bytes, body_bytes, spelling};
 
+use crate::body::{BodyRef, PacketKind};
 use crate::header::{HEADER_LEN, version_byte};
-use crate::laws::packings;
+use crate::laws::{keeps_rules, packings};
+use crate::packet::PacketRef;
 use ballots::{Ballot, Member, VoteRef};
-use messages::{BodyRef, PacketKind, PacketRef};
 use std::alloc::{AllocError, Global};
 use tape_frames::{EntryRef, Version, packed_len};
 
@@ -86,7 +87,7 @@ fn put_body(out: &mut Vec<u8>, body: &BodyRef<'_>, version: Version) -> Result<(
     }
 }
 
-/// Puts the header as far as the ballot.
+/// Puts the header of a packet.
 fn put_header(out: &mut Vec<u8>, packet: &PacketRef<'_>, version: Version) -> Result<(), AllocError>
     ensures ok { OnOk result (out.new.items ≡ out.old.items ++ header_of (version_of version) packet.now) }
     ensures range { OnOk result (IsHeader packet.now) }
@@ -96,6 +97,7 @@ fn put_header(out: &mut Vec<u8>, packet: &PacketRef<'_>, version: Version) -> Re
     out.extend_from_slice(&packet.circuit().to_be_bytes())?;
     out.extend_from_slice(&[packet.from().get(), packet.to().get()])?;
     out.extend_from_slice(&packet.number().get().to_be_bytes())?;
+    put_ballot(out, packet.ballot())?;
     Ok(())
 }
 
@@ -127,18 +129,6 @@ fn body_len(body: &BodyRef<'_>, version: Version) -> usize
     }
 }
 
-fn written(alloc: Global, packet: &PacketRef<'_>, version: Version) -> Result<Vec<u8>, AllocError>
-    ensures exact { IfOk result (λ v. v.items ≡ spelling (version_of version) packet.now) }
-    ensures range { OnOk result (IsPacket packet.now) }
-{
-    let body = packet.body();
-    let mut out = Vec::with_capacity(alloc, HEADER_LEN + body_len(body, version))?;
-    put_header(&mut out, packet, version)?;
-    put_ballot(&mut out, packet.ballot())?;
-    put_body(&mut out, body, version)?;
-    Ok(out)
-}
-
 /// The one spelling of a packet in a version that has one for its entry, if it carries any: 17 bytes or more,
 /// at most 4,121 in version 1, and 12,313 in version 2. Its memory is asked for once.
 pub fn encode(
@@ -160,7 +150,11 @@ pub fn encode(
     ensures at_most { IfOk result (λ v. length v.items ≤ longest (version_of version)) }
 {
     packings();
-    written(alloc, packet, version)
+    let body = packet.body();
+    let mut out = Vec::with_capacity(alloc, HEADER_LEN + body_len(body, version))?;
+    put_header(&mut out, packet, version)?;
+    put_body(&mut out, body, version)?;
+    Ok(out)
 }
 
 /// A copy of a packet's spelling that goes to another member: its addressee is the header's eighth byte.
@@ -192,8 +186,7 @@ pub fn encode_beside(
     match alike {
         None => encode(alloc, packet, version),
         Some(spelled) => {
-            // The rules that it keeps are known once it is read.
-            let _body = packet.body();
+            keeps_rules(packet);
             readdressed(alloc, spelled, packet.to())
         }
     }

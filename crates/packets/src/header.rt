@@ -4,11 +4,12 @@ ghost use Rattle.std.specs.Prelude.{◌≡◌, ◌≤◌, ◌+◌, ◌==◌, len
 ghost use Rattle.tape_frames.specs.Entries.{version_of};
 ghost use Rattle.packets.specs.Grammar.{number_of_version};
 ghost use Rattle.packets.specs.Reading.{kind_of_byte, kind_at, u16_at, u32_at, member_at, members_at, ballot_at, header_at};
-ghost use Rattle.messages.specs.Rules.{may_send};
+ghost use Rattle.packets.specs.Rules.{may_send};
 
+use crate::body::{PacketKind, may_send};
 use crate::fault::PacketFault;
+use crate::packet::Route;
 use ballots::{Ballot, Member, Number};
-use messages::{PacketKind, Route, may_send};
 use tape_frames::Version;
 
 /// The length of a header.

@@ -1,11 +1,15 @@
-//! Laws over the grammar. The functions do nothing: their contracts are the laws. A call in them brings in the laws of packings.
+//! Laws over packets and their grammar. The functions do nothing: their contracts are the laws. A call in them brings in what it tells.
 
-ghost use Rattle.std.specs.Prelude.{[], ◌∷◌, ◌++◌};
+ghost use Rattle.std.specs.Prelude.{[], ◌∷◌, ◌++◌, ◌≤◌, IsTrue};
+ghost use Rattle.protocol.specs.Limits.{most_members};
 ghost use Rattle.protocol.specs.Entries.{Void, Taped};
 ghost use Rattle.protocol.specs.Versions.{Two};
 ghost use Rattle.packets.specs.Grammar.{Spells};
+ghost use Rattle.packets.specs.Rules.{keeps_rules};
 ghost use Rattle.packets.specs.Laws.{HasOneSpelling, MembersCanSpeak, OnlyWhatFits, SaysItsVersion, OnePacket, NoFront, LengthsAreBounded, ReadsItAgain, FindsWhatIsSpelled, ReadAsSaid, ReadWhatFits, TwoReadsBoth, Packings, worked_packet, worked_front, worked_tape, worked_packing};
 
+use crate::packet::PacketRef;
+use crate::seat::Seat;
 use tape_frames::laws::{packed, packing, unpacking};
 
 /// What is known of packings.
@@ -15,6 +19,24 @@ pub(crate) fn packings()
     packing();
     unpacking();
     packed();
+}
+
+/// The member at a seat is one of its circuit's, which are 15 at most.
+pub fn range_of_seat(seat: Seat)
+    ensures low { 1 ≤ seat.me }
+    ensures high { seat.me ≤ seat.members }
+    ensures few { seat.members ≤ most_members }
+{
+    // Its range is known once it is read.
+    let _me = seat.me();
+}
+
+/// A packet keeps the rules of packets.
+pub(crate) fn keeps_rules(packet: &PacketRef<'_>)
+    ensures { IsTrue (keeps_rules packet.now) }
+{
+    // They are known once it is read.
+    let _body = packet.body();
 }
 
 /// Each packet has exactly one spelling in each version that its entries fit, and none in one that they don't.

@@ -3,7 +3,7 @@ use Rattle.std.specs.Prelude.{◌≡◌, ◌⊎◌, ◌++◌, ℕ, true, false, 
 use Rattle.protocol.specs.Circuit.{Datagram}
 use Rattle.node_core.specs.declared.turn.Note.{Note}
 use Rattle.node_core.specs.declared.turn.Note.TheVariants as notes
-use Rattle.exchange.specs.declared.said.Said.{Said}
+use Rattle.driver.specs.declared.said.Said.{Said}
 use Rattle.station.specs.declared.answer.Answer.{Answer}
 use Rattle.station.specs.declared.answer.Release.{Release}
 use Rattle.driver.specs.declared.sink.HeardDatagram.{HeardDatagram}

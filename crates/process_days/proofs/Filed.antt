@@ -16,9 +16,8 @@ use Rattle.station.specs.declared.answer.Release.{Release}
 use Rattle.station.specs.Readiness.{slugs_of, IsNumber}
 use Rattle.folders.specs.Doings.{Doing, saw_file, read_file, wrote_file, moved_file, removed_file}
 use Rattle.folders.specs.Written.{File}
-use Rattle.plant_files.specs.Filing.{entry_files, files_of, release_files}
-use Rattle.exchange.specs.Events.{Event, asked, took, stored, aside}
-use Rattle.run_command.specs.Filing.{filing}
+use Rattle.run_command.specs.ReleaseFiles.{entry_files, files_of, filing, release_files}
+use Rattle.driver.specs.Events.{Event, asked, took, stored, aside}
 use Rattle.run_command.specs.Story.{stepped, events_of, doings_of, files_of_story}
 use Rattle.run_command.specs.Story.{Happened as Run}
 use Rattle.run_command.specs.Story.{did as done}

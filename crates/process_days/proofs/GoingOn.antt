@@ -12,7 +12,7 @@ use Rattle.station.specs.Steps.{tears, IsStep}
 use Rattle.refusals.specs.declared.refusal.StepRefusal.{StepRefusal}
 use Rattle.refusals.specs.declared.refusal.StepRefusal.TheVariants.{Stopped, Store}
 use Rattle.protocol_laws.proofs.Places.{with_at-same}
-use Rattle.exchange.specs.Events.{Event, asked, took, stored, aside, Aside, Takes}
+use Rattle.driver.specs.Events.{Event, asked, took, stored, aside, Aside, Takes}
 use Rattle.days.specs.Happening.{Ending, At_rest, In_call, Happened, did, Came}
 use Rattle.days.specs.Handing.{Plants, Member, runs, over, after_call}
 use Rattle.days.specs.Days.{Day, answers, settles, refuses, ends, DaysAgree}

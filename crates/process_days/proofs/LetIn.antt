@@ -4,7 +4,7 @@ use Rattle.std.specs.Prelude.{Ok, Err}
 use Rattle.protocol.specs.Refusals.{Call, Offering, Seeking, Falling_due, Receiving, Recalling}
 use Rattle.wire.specs.Passing.{Passed, Trace, untold, listed, guarded, AllCame, Passes}
 use Rattle.wire.proofs.Passing.{came_first, came_last}
-use Rattle.exchange.specs.Events.{Event, asked, took, stored, aside, coming, coming_by, going, going_by, passing_behind}
+use Rattle.driver.specs.Events.{Event, asked, took, stored, aside, coming, coming_by, going, going_by, passing_behind}
 use Rattle.process_days.specs.Telling.{AllTaken, CallTakes, TakesLetIn}
 
 call_takes : (Is : List ℕ → Type 0) (call : Call) → AllCame Is (coming call) → CallTakes Is call

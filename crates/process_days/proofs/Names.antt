@@ -4,7 +4,7 @@ use Rattle.std.specs.Str.Parse.{AllDigits}
 use Rattle.std.proofs.lemmas.Str.Parse.{digit_from_value}
 use Rattle.std.proofs.lemmas.Fmt.{decimal_is_IsNumeral, decimal_injective}
 use Rattle.station.specs.Readiness.{IsNumber}
-use Rattle.plant_files.specs.Filing.{name_of}
+use Rattle.run_command.specs.ReleaseFiles.{file_name}
 
 -- digits that end at a dot end there in one way
 split :
@@ -18,7 +18,7 @@ split (x ∷ xs) (y ∷ ys) a b p q e =
     let more = split xs ys a b p.1 q.1 rest in (cc, more.1)
 
 pub one_name :
-    (m n : ℕ) (a b : List ℕ) → IsNumber m → IsNumber n → name_of m (46 ∷ a) ≡ name_of n (46 ∷ b) → (m ≡ n) × (a ≡ b)
+    (m n : ℕ) (a b : List ℕ) → IsNumber m → IsNumber n → file_name m (46 ∷ a) ≡ file_name n (46 ∷ b) → (m ≡ n) × (a ≡ b)
 one_name m n a b p q e =
     let small : m < 2 ^ 64 = omega (arith, p.1) in
     let low : n < 2 ^ 64 = omega (arith, q.1) in

@@ -6,8 +6,7 @@ use Rattle.station.specs.declared.answer.Release.{Release}
 use Rattle.station.specs.Readiness.{IsNumber}
 use Rattle.folders.specs.Written.{File}
 use Rattle.folders.specs.Doings.{Doing, Does, wrote_file}
-use Rattle.plant_files.specs.Filing.{name_of, release_files}
-use Rattle.run_command.specs.Filing.{filing}
+use Rattle.run_command.specs.ReleaseFiles.{filing, file_name, release_files}
 use Rattle.run_command.specs.Running.{WritesFront}
 use Rattle.run_command.specs.Story.{events_of, doings_of}
 use Rattle.run_command.specs.Story.{Happened as Run}
@@ -22,7 +21,7 @@ IsFiled day m f = (r : Release) × WasReleased day m r × IsAmong (release_files
 
 -- the file is called so, as `12.tape`
 abbrev pub IsCalled : ℕ → List ℕ → File → Type 0
-IsCalled n kind f = f.name ≡ name_of n kind
+IsCalled n kind f = f.name ≡ file_name n kind
 
 -- the files of what was released in the day agree
 pub record FilesAgree (day : List Happened) : Type 0 where

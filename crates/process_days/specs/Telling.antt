@@ -8,7 +8,7 @@ use Rattle.refusals.specs.declared.refusal.StepRefusal.TheVariants.{Stopped}
 use Rattle.station.specs.declared.station.Station.{Station}
 use Rattle.wire.specs.Passing.{Trace, untold, listed, guarded}
 use Rattle.command_ends.specs.declared.end.End.{End}
-use Rattle.exchange.specs.Events.{Event, asked, took, stored, aside}
+use Rattle.driver.specs.Events.{Event, asked, took, stored, aside}
 use Rattle.driver.specs.declared.sink.Sink.{Ghosts as SinkGhosts}
 use Rattle.driver.specs.Driving.{Post, Driven, Stepped, known, fate_of}
 use Rattle.days.specs.Happening.{Happened, did, ended, At_rest, Came}

@@ -10,7 +10,7 @@ use crate::slot::ReportSlot;
 use arrayvec::ArrayVec;
 use ballots::laws::slots_of_members;
 use ballots::{MOST_MEMBERS, Member, Vote, VoteRef, majority};
-use mail::Seat;
+use packets::Seat;
 use std::alloc::{AllocError, Global};
 use std::marker::Model;
 

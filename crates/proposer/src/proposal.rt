@@ -13,7 +13,7 @@ use crate::answer::{BeginRefusal, Counted, DueAnswer};
 use crate::promises::{ReportSlots, count_once, counted_alone, greatest_vote, is_quorum};
 use ballots::laws::slots_of_members;
 use ballots::{Ballot, Member, Vote, VoteRef};
-use mail::Seat;
+use packets::Seat;
 use std::alloc::{AllocError, Global};
 use std::marker::Model;
 use tape_frames::{Entry, EntryRef};

@@ -33,6 +33,7 @@ recall_again : (r : Recall) → IsRecall r → recall_at (spelling r) ≡ Ok r
 unfolding recall_at mark_at ticket_at count_of
 recall_again r is =
     let long : ltb (length (spelling r)) 17 ≡ false = le-ltb _ _ (let e = spelling_length r in let some = is.some in omega arith) in
+    let headed : ltb (length (spelling r)) 12 ≡ false = le-ltb _ _ (let e = spelling_length r in let some = is.some in omega arith) in
     let from_low : leb 1 r.from ≡ true = le-leb 1 r.from is.from.0 in
     let from_high : leb r.from 15 ≡ true = le-leb r.from 15 is.from.1 in
     let to_low : leb 1 r.to ≡ true = le-leb 1 r.to is.to.0 in
@@ -44,7 +45,7 @@ recall_again r is =
     let asked = from_be_bytes-to_be_bytes_4 r.asked (let h = is.asked in omega arith) in
     let numbers : numbers_at (length r.numbers) 0 (number_bytes r.numbers) ≡ Ok (r.numbers, []) =
     subst (λ (l : List ℕ). numbers_at (length r.numbers) 0 l ≡ Ok (r.numbers, [])) (append-nil (number_bytes r.numbers)) (numbers_again r.numbers 0 [] is.rise) in
-    rw (long, from_low, from_high, to_low, to_high, apart, some, few, numbers, circuit, asked) refl
+    rw (long, headed, from_low, from_high, to_low, to_high, apart, some, few, numbers, circuit, asked) refl
 
 pub reads_it_again : ReadsItAgain Spells recall_at
 reads_it_again bytes r s = ap recall_at (spelled_is bytes r s) ∙ recall_again r (only_recalls bytes r s)

@@ -1,5 +1,5 @@
 -- What each recall and each roll begins with: who asks or answers whom, in which circuit, and as which of the asker's.
-use Rattle.std.specs.Prelude.{ℕ, Bool, List, take, drop, slice_index, not, ◌&&◌, ◌==◌, Option, Some, None, nat_le, if◌then◌else◌}
+use Rattle.std.specs.Prelude.{ℕ, Bool, List, length, take, drop, slice_index, not, ◌&&◌, ◌==◌, Option, Some, None, nat_le, nat_lt, if◌then◌else◌}
 use Rattle.std.specs.Int.{w16, w32, from_be_bytes}
 use Rattle.protocol.specs.Limits.{most_members}
 
@@ -26,9 +26,10 @@ is_member_at bytes at = nat_le 1 (slice_index bytes at) && nat_le (slice_index b
 abbrev pub ticket_in : List ℕ → Ticket
 ticket_in bytes = record { circuit = u16_at bytes 4; from = slice_index bytes 6; to = slice_index bytes 7; asked = u32_at bytes 8 }
 
--- the ticket of bytes, if they have one: the sender and the addressee are members, and differ
+-- the ticket of bytes, if they have one: they are long enough, and the sender and the addressee are members, and differ
 unfoldable pub ticket_at : List ℕ → Option Ticket
 ticket_at bytes =
+    if nat_lt (length bytes) 12 then None else
     if not (is_member_at bytes 6) then None else
     if not (is_member_at bytes 7) then None else
     if slice_index bytes 6 == slice_index bytes 7 then None else Some (ticket_in bytes)

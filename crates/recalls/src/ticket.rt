@@ -1,6 +1,6 @@
 //! What each recall and each roll begins with.
 
-ghost use Rattle.std.specs.Prelude.{◌≡◌, ◌≤◌, ◌↔◌, IsSome, IfSome, length};
+ghost use Rattle.std.specs.Prelude.{◌≡◌, ◌↔◌, IsSome, IfSome};
 ghost use Rattle.recalls.specs.Tickets.{ticket_at};
 
 use ballots::Member;
@@ -44,12 +44,14 @@ impl Ticket {
         })
     }
 
-    /// The ticket of these bytes; `None` where the sender or the addressee is no member, or they are one member.
+    /// The ticket of these bytes; `None` where they are fewer than twelve, the sender or the addressee is no member, or they are one member.
     #[tactic(auto, unfolding(crate::specs::Tickets::ticket_at))]
     pub fn read(bytes: &[u8]) -> Option<Ticket>
-        requires { 12 ≤ length bytes.now }
         ensures { result ≡ ticket_at bytes.now }
     {
+        if bytes.len() < 12 {
+            return None;
+        }
         let from = Member::new(bytes[6])?;
         let to = Member::new(bytes[7])?;
         let (_, circuit) = bytes.split_at(4);

@@ -85,6 +85,7 @@ module _ (r : Roll) (is : IsRoll r) where
   ticket_again : ticket_at (spelling r) ≡ Some (ticket_of r)
   unfolding ticket_at
   ticket_again =
+      let long : ltb (length (spelling r)) 12 ≡ false = le-ltb _ _ (let e = spelling_length r is in omega (arith, e)) in
       let from_low : leb 1 r.from ≡ true = le-leb 1 r.from is.from.0 in
       let from_high : leb r.from 15 ≡ true = le-leb r.from 15 is.from.1 in
       let to_low : leb 1 r.to ≡ true = le-leb 1 r.to is.to.0 in
@@ -92,7 +93,7 @@ module _ (r : Roll) (is : IsRoll r) where
       let apart : eqb r.from r.to ≡ false = ne_eqb r.from r.to is.differ in
       let circuit = from_be_bytes-to_be_bytes_2 r.circuit (let h = is.circuit in omega (arith, h)) in
       let asked = from_be_bytes-to_be_bytes_4 r.asked (let h = is.asked in omega (arith, h)) in
-      rw (from_low, from_high, to_low, to_high, apart, circuit, asked) refl
+      rw (long, from_low, from_high, to_low, to_high, apart, circuit, asked) refl
 
   pub roll_again : roll_at (spelling r) ≡ Ok r
   unfolding roll_at

@@ -99,7 +99,7 @@ member_found bytes at e = let both = both_true _ _ (unnot _ e) in (leb-true _ _ 
 
 ticket_found : (bytes : List ℕ) (h : Ticket) → wanted BadMember (ticket_at bytes) ≡ Ok h → Members bytes h
 unfolding ticket_at
-ticket_found bytes h e = from (not (is_member_at bytes 6)) refl (there BadMember _ h e)
+ticket_found bytes h e = long (ltb (length bytes) 12) (there BadMember _ h e)
   where
     apart : (b : Bool) → eqb (slice_index bytes 6) (slice_index bytes 7) ≡ b → not (is_member_at bytes 6) ≡ false → not (is_member_at bytes 7) ≡ false
         → (if b then None else Some (ticket_in bytes)) ≡ Some h → Members bytes h
@@ -116,6 +116,12 @@ ticket_found bytes h e = from (not (is_member_at bytes 6)) refl (there BadMember
         → Members bytes h
     from true is e = cc
     from false is e = to (not (is_member_at bytes 7)) refl is e
+
+    long : (b : Bool)
+        → (if b then None else if not (is_member_at bytes 6) then None else if not (is_member_at bytes 7) then None else if eqb (slice_index bytes 6) (slice_index bytes 7) then None else Some (ticket_in bytes))
+        ≡ Some h → Members bytes h
+    long true e = cc
+    long false e = from (not (is_member_at bytes 6)) refl e
 
 -- bytes of a length
 none_left : (bytes : List ℕ) → length bytes ≡ 0 → bytes ≡ []

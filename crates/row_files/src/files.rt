@@ -14,8 +14,7 @@ use crate::causes::RefusedRows;
 use crate::creating::NewRows;
 use command_ends::End;
 use gone_out::Known;
-use row_groups::SavesAll;
-use saved_rows::Identity;
+use saved_rows::{Identity, SavesAll};
 use std::alloc::Global;
 use std::io::Write;
 

@@ -11,27 +11,43 @@ use Rattle.saved_rows.specs.declared.rows.Rows.{Ghosts}
 use Rattle.station.specs.declared.station.Station.{Station}
 use Rattle.wire.specs.Passing.{Trace}
 use Rattle.command_ends.specs.declared.end.End.{End}
-use Rattle.exchange.specs.Events.{Event, took, HasCause}
+use Rattle.driver.specs.Events.{Event, took, HasCause}
 use Rattle.wire.proofs.Passing.{Passes-nil}
 use Rattle.driver.specs.Driving.{known, post, Drove, Anyhow}
 use Rattle.folders.specs.declared.names.FileRequest.{FileRequest}
 use Rattle.folders.specs.declared.wishes.Wish.{Wish}
 use Rattle.folders.specs.declared.wishes.Wish.TheVariants.{Offered, Sought}
-use Rattle.plant_files.specs.Standing.{Texts}
-use Rattle.plant_files.specs.Asking.{call_of}
-use Rattle.plant_files.specs.Filing.{files_of}
+use Rattle.run_command.specs.Standing.{Texts}
+use Rattle.run_command.specs.Calls.{call_of}
+use Rattle.run_command.specs.ReleaseFiles.{files_of, filing}
 use Rattle.offers.specs.Book.{IsFresh}
 use Rattle.offers.specs.Rules.{Standing}
-use Rattle.run_command.specs.Filing.{filing}
 use Rattle.run_command.specs.Minding.{WasRead, Holds, onto}
-use Rattle.run_command.specs.Living.{Kept, kept, HandsOut, Lived, LivedFront, MayAsk}
+use Rattle.run_command.specs.Living.{Kept, kept, HandsOut, Lived, LivedFront, MayAsk, SettlesWritten}
 use Rattle.run_command.specs.Running.{Tells, tells}
 use Rattle.run_command.specs.Story.{Happened, stepped, did, event_in, events_of, doing_in, doings_of, file_in, files_of_story, MayBeCalled}
 use Rattle.run_command.specs.Working.{Follows, Keeps, Looked, Releases, Writes}
 use Rattle.run_command.specs.Lives.{joined_front}
+use Rattle.run_command.specs.declared.plant.Plant.{Plant}
 use Rattle.run_command.proofs.Story.{onto_then, events_none, doings_all, files_all, files_written, in_order_then, in_order_wrote}
-use Rattle.run_command.proofs.Looking.{Deals, deals_follows, deals_looked, deals_out}
+use Rattle.run_command.proofs.Looking.{Deals, deals_follows, deals_looked, deals_out, follows_same, settles_none, settles_then}
 use Rattle.run_command.proofs.Minds.{holds_first, holds_follows, holds_noted, holds_out, out_released, deals_in_order, holds_deals}
+
+-- nothing was done with the folders, and what is kept in mind is as it was
+pub settled_beside : (a b : Option (List Doing)) (p q : Plant) → b ≡ a → q.papers.book ≡ p.papers.book → q.waits ≡ p.waits → q.texts ≡ p.texts → SettlesWritten a b p q
+settled_beside a b p q still book waits texts = record { settles = settles_none a b _ _ still (follows_same _ _ book); none = λ full. still; waits = waits; texts = texts }
+
+pub settled_none : (a : Option (List Doing)) (p : Plant) → SettlesWritten a a p p
+settled_none a p = settled_beside a a p p refl refl refl refl
+
+-- one step after the other
+pub settled_then : (a b c : Option (List Doing)) (p q r : Plant) → SettlesWritten a b p q → SettlesWritten b c q r → SettlesWritten a c p r
+settled_then a b c p q r d e = record {
+  settles = settles_then a b c _ _ _ d.settles e.settles;
+  none = λ full. e.none (λ none. full (ap (λ v. v.items) (sym d.waits) ∙ none)) ∙ d.none full;
+  waits = e.waits ∙ d.waits;
+  texts = e.texts ∙ d.texts;
+}
 
 -- what is asked for a file that was read may be asked
 pub may_be_called : (t : Texts) (past : List Happened) (r : FileRequest) (now : ℕ) (wish : Wish) → WasRead t (doings_of past) r wish → MayBeCalled t past (call_of wish r.number now)

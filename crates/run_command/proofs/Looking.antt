@@ -30,8 +30,8 @@ use Rattle.offers.specs.declared.stage.Stage.TheVariants as stages
 use Rattle.offers.specs.Order.{rank}
 use Rattle.offers.specs.Stages.{after, changed, news_of}
 use Rattle.offers.specs.Turns.{IsInTurn}
-use Rattle.exchange.specs.Events.{Event}
-use Rattle.plant_files.specs.Standing.{Texts}
+use Rattle.driver.specs.Events.{Event}
+use Rattle.run_command.specs.Standing.{Texts}
 use Rattle.run_command.specs.Departing.{departure_of, task_of, way_to, place_of, IsFree, IsFreeWay, IsFreeTask}
 use Rattle.run_command.specs.Minding.{name_of, WasRead, WereRead, HasRelease, HaveReleases, onto, IsOfRelease, AreLooks, IsLook, AreSettlings, IsSettling}
 use Rattle.run_command.specs.Story.{IsReleasedIn}

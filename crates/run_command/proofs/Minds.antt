@@ -10,10 +10,9 @@ use Rattle.folders.specs.Written.{File}
 use Rattle.offers.specs.Book.{IsFresh}
 use Rattle.offers.specs.Rules.{Standing, entry_in}
 use Rattle.offers.specs.declared.offer.Offer.{Offer}
-use Rattle.plant_files.specs.Filing.{files_of}
-use Rattle.plant_files.specs.Standing.{Texts}
-use Rattle.exchange.specs.Events.{Event, took}
-use Rattle.run_command.specs.Filing.{filing}
+use Rattle.run_command.specs.ReleaseFiles.{files_of, filing}
+use Rattle.run_command.specs.Standing.{Texts}
+use Rattle.driver.specs.Events.{Event, took}
 use Rattle.run_command.specs.Minding.{IsReadOffer, WereRead, HaveReleases, Holds, onto}
 use Rattle.run_command.specs.Story.{Happened, stepped, did, events_of, doings_of, files_of_story, IsInOrder}
 use Rattle.run_command.specs.Working.{Follows, Keeps, Releases}

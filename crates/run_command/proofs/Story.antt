@@ -16,10 +16,9 @@ use Rattle.folders.specs.declared.wishes.Wish.{Wish}
 use Rattle.offers.specs.Rules.{Standing}
 use Rattle.offers.specs.Stages.{wish_of}
 use Rattle.offers.specs.declared.offer.Offer.{Offer}
-use Rattle.plant_files.specs.Filing.{files_of, release_files}
-use Rattle.plant_files.specs.Standing.{Texts, LayThere}
-use Rattle.exchange.specs.Events.{Event, took}
-use Rattle.run_command.specs.Filing.{filing}
+use Rattle.run_command.specs.ReleaseFiles.{files_of, filing, release_files}
+use Rattle.run_command.specs.Standing.{Texts, LayThere}
+use Rattle.driver.specs.Events.{Event, took}
 use Rattle.run_command.specs.Minding.{WasRead, IsRead, IsReadOffer, WereRead, HasRelease, HaveReleases, onto, IsOfRelease, IsLook, IsSettling, AreLooks, AreSettlings}
 use Rattle.run_command.specs.Story.{Happened, did, events_of, doings_of, files_of_story, IsReleasedIn, MayBeDone, IsInOrder}
 use Rattle.run_command.specs.Working.{Releases}

@@ -23,7 +23,7 @@ use Rattle.offers.specs.declared.stage.OfferFault.{OfferFault}
 use Rattle.offers.specs.declared.stage.Stage.{Stage}
 use Rattle.offers.specs.declared.stage.Stage.TheVariants.{Watched, Waiting, UnderWay, Refused, Answered, Gone}
 use Rattle.offers.specs.declared.stage.Tries.{Tries}
-use Rattle.plant_files.specs.Standing.{Texts}
+use Rattle.run_command.specs.Standing.{Texts}
 use Rattle.run_command.specs.Minding.{WasRead, IsRead, IsReadOffer, WereRead}
 
 -- what is known of a wish then was known before

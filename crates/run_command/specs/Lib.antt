@@ -1,11 +1,13 @@
+pub mod Calls
 pub mod Departing
-pub mod Filing
 pub mod Lives
 pub mod Living
 pub mod Looking
 pub mod Minding
 pub mod Noting
+pub mod ReleaseFiles
 pub mod Running
+pub mod Standing
 pub mod Story
 pub mod Straying
 pub mod Working

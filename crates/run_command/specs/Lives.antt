@@ -9,11 +9,11 @@ use Rattle.refusals.specs.declared.refusal.StepRefusal.{StepRefusal}
 use Rattle.folders.specs.Doings.{Doing, Does}
 use Rattle.folders.specs.Written.{File}
 use Rattle.folders.proofs.Doings.{does_nothing, does_then}
-use Rattle.exchange.specs.Events.{Event, asked, took, stored, aside}
-use Rattle.plant_files.specs.Standing.{Texts}
+use Rattle.driver.specs.Events.{Event, asked, took, stored, aside}
+use Rattle.run_command.specs.Standing.{Texts}
 use Rattle.driver.specs.Fates.{Fates, NeedsNothing}
 use Rattle.offers.specs.Rules.{Standing}
-use Rattle.run_command.specs.Filing.{filing}
+use Rattle.run_command.specs.ReleaseFiles.{filing}
 use Rattle.run_command.specs.Minding.{HasRelease, HaveReleases, Holds, onto}
 use Rattle.run_command.specs.Living.{Kept, Lived, LivedFront, MayAsk}
 use Rattle.run_command.specs.Story.{Happened, stepped, event_in, events_of, doing_in, doings_of, file_in, files_of_story, IsInOrder}

@@ -4,13 +4,14 @@ use Rattle.protocol.specs.Refusals.{Call}
 use Rattle.folders.specs.Doings.{Doing, Does, WritesSome}
 use Rattle.folders.specs.Written.{File}
 use Rattle.offers.specs.Rules.{Standing}
-use Rattle.exchange.specs.Events.{Event}
-use Rattle.run_command.specs.Filing.{filing}
+use Rattle.driver.specs.Events.{Event}
+use Rattle.run_command.specs.ReleaseFiles.{filing}
 use Rattle.run_command.specs.Minding.{Holds, onto}
 use Rattle.run_command.specs.Story.{Happened, events_of, doings_of, MayBeCalled, IsInOrder}
-use Rattle.plant_files.specs.Standing.{Texts}
+use Rattle.run_command.specs.Standing.{Texts}
 use Rattle.run_command.specs.Working.{Writes, Settles}
 use Rattle.run_command.specs.declared.desk.PlantDesk.{PlantDesk}
+use Rattle.run_command.specs.declared.plant.Plant.{Plant}
 
 -- the folders of a plant, the files that wait to be written among the releases, and what is kept in mind
 pub record Kept (F : Type 0) : Type 0 where
@@ -70,3 +71,10 @@ pub record HandsOut {F : Type 0} (doings : F → Option (List Doing)) (old new :
   pub writes : WritesSome (doings old.folders) mid old.waits new.waits
   pub settles : Settles mid (doings new.folders) old.book new.book
   pub none : (new.waits ≡ [] → ⊥) → doings new.folders ≡ mid
+
+-- what steps released was settled at a plant: files left the offers for it where nothing waits to be written, and none did where a file waits
+pub record SettlesWritten (old new : Option (List Doing)) (was is : Plant) : Type 0 where
+  pub settles : Settles old new was.papers.book is.papers.book
+  pub none : (was.waits.items ≡ [] → ⊥) → new ≡ old
+  pub waits : is.waits ≡ was.waits
+  pub texts : is.texts ≡ was.texts

@@ -14,9 +14,9 @@ use Rattle.folders.specs.declared.wishes.Wish.{Wish}
 use Rattle.offers.specs.Rules.{Standing, entry_of}
 use Rattle.offers.specs.Stages.{wish_of}
 use Rattle.offers.specs.declared.offer.Offer.{Offer}
-use Rattle.plant_files.specs.Standing.{Texts, StandsFor, wished, LayThere}
-use Rattle.exchange.specs.Events.{Event}
-use Rattle.run_command.specs.Filing.{filing}
+use Rattle.run_command.specs.Standing.{Texts, StandsFor, wished, LayThere}
+use Rattle.driver.specs.Events.{Event}
+use Rattle.run_command.specs.ReleaseFiles.{filing}
 use Rattle.run_command.specs.Story.{Happened, events_of, doings_of, files_of_story, IsReleasedIn}
 
 -- the name of the file that asks for this

@@ -6,10 +6,10 @@ use Rattle.wire.specs.Passing.{Trace}
 use Rattle.command_ends.specs.declared.end.End.{End}
 use Rattle.folders.specs.Doings.{Doing, Does}
 use Rattle.folders.specs.Written.{File}
-use Rattle.plant_files.specs.Standing.{Texts}
-use Rattle.exchange.specs.Events.{Event}
+use Rattle.run_command.specs.Standing.{Texts}
+use Rattle.driver.specs.Events.{Event}
 use Rattle.driver.specs.Driving.{Fate, known, post, Drove, Anyhow}
-use Rattle.run_command.specs.Filing.{filing}
+use Rattle.run_command.specs.ReleaseFiles.{filing}
 use Rattle.run_command.specs.Story.{Happened, events_of, doings_of, files_of_story, IsInOrder}
 
 -- of these files the first were written in a story, in order, and no others

@@ -9,10 +9,9 @@ use Rattle.folders.specs.Offers.{IsNameOf, IsStop}
 use Rattle.folders.specs.Written.{File}
 use Rattle.folders.specs.declared.leaving.Place.TheVariants as places
 use Rattle.folders.specs.declared.names.OfferKind.{OfferKind}
-use Rattle.plant_files.specs.Filing.{release_files}
-use Rattle.plant_files.specs.Standing.{Texts, WasLaid}
-use Rattle.exchange.specs.Events.{Event, asked, took, stored, aside}
-use Rattle.run_command.specs.Filing.{filing}
+use Rattle.run_command.specs.ReleaseFiles.{filing, release_files}
+use Rattle.run_command.specs.Standing.{Texts, WasLaid}
+use Rattle.driver.specs.Events.{Event, asked, took, stored, aside}
 
 -- the clock was asked, the station was called, it stored what it saved, or something passed beside its packets; or something was done with the
 -- folders

@@ -15,8 +15,8 @@ use Rattle.folders.specs.declared.wishes.Wish.{Wish}
 use Rattle.offers.specs.Rules.{Standing}
 use Rattle.offers.specs.declared.stage.OfferFault.{OfferFault}
 use Rattle.offers.specs.declared.stage.OfferFault.TheVariants as reasons
-use Rattle.plant_files.specs.Standing.{Texts, StandsFor, wished, LayThere}
-use Rattle.exchange.specs.Events.{Event}
+use Rattle.run_command.specs.Standing.{Texts, StandsFor, wished, LayThere}
+use Rattle.driver.specs.Events.{Event}
 use Rattle.run_command.specs.Departing.{IsKnown, place_of}
 use Rattle.run_command.specs.Minding.{name_of, WereRead, HaveReleases, AreLooks, AreSettlings}
 use Rattle.run_command.specs.declared.departures.Departure.{Departure}

@@ -5,10 +5,11 @@ ghost use Rattle.std.proofs.Common.{refl, ◌∙◌};
 ghost use Rattle.run_command.specs.Living.{CameOn, HandsOut, IsSameDesk, LivedOn, MayAsk, kept, kept_of, texts_of};
 ghost use Rattle.run_command.specs.Lives.{plant_fates};
 
-use crate::asking::released_tape;
-use crate::closing::is_opened;
+use crate::calls::{call_for, is_of_offer};
 use crate::plant::Plant;
-use crate::status::{note_asked, note_step};
+use crate::range_asks::released_tape;
+use crate::release_files::keep_files;
+use crate::status::note_asked;
 use command_ends::Fault;
 use driver::{
     Call, Chance, Declined, Denied, Desk, HeardDatagram, Log, Sink, TakenStep, Tasks, Todo,
@@ -16,7 +17,6 @@ use driver::{
 use folders::{FileRequest, Folders};
 use offers::OfferFault;
 use pace::Deeds;
-use plant_files::{call_for, is_of_offer, keep_files};
 use plant_status::StatusFile;
 use station::StepRefusal;
 use std::io::Write;
@@ -84,11 +84,7 @@ impl<F: Folders, S: StatusFile> Desk for PlantDesk<'_, '_, '_, F, S> {
         if keep_files(alloc, &step.answer.release, &mut self.plant.waits).is_err() {
             return Err(Fault::OutOfMemory);
         }
-        let opened = is_opened(&self.plant.papers.book, step);
-        let journal = &mut self.plant.papers.journal;
-        journal.care.did(step, opened);
-        note_step(&mut journal.keeper, step);
-        self.plant.papers.close(step, log);
+        self.plant.papers.note(step, log);
         Ok(())
     }
 
@@ -96,11 +92,7 @@ impl<F: Folders, S: StatusFile> Desk for PlantDesk<'_, '_, '_, F, S> {
     // Then each release is told, and files leave the offers that asked for it.
     fn hand_out<E: Write>(&mut self, steps: &[TakenStep], now: u64, log: &mut Log<'_, E>) {
         self.plant.write(self.folders, now, log);
-        if self.plant.waits.is_empty() {
-            self.plant.papers.settle_each(self.folders, steps, now, log);
-        } else {
-            self.plant.papers.journal.tell_releases(steps, now, log);
-        }
+        self.plant.settle_each(self.folders, steps, now, log);
     }
 
     fn tasks(&mut self) -> Tasks {

@@ -1,12 +1,11 @@
-//! What is told of a plant, what is noted of what went out, and the writing of its releases.
+//! What is told of a plant, and what is noted and caught up with there.
 
 ghost use Rattle.std.specs.Prelude.{◌≡◌};
-ghost use Rattle.folders.specs.Doings.{WritesSome};
 ghost use Rattle.run_command.specs.Working.{LooksOnly};
 
 use crate::status::note_heard;
-use driver::{HeardDatagram, Log, TakenStep};
-use folders::{FolderFault, Folders, NamedFile, write_waiting};
+use driver::{HeardDatagram, Log};
+use folders::{FolderFault, Folders};
 use plant_care::Care;
 use plant_log::{LogEvent, Told};
 use plant_status::Keeper;
@@ -34,26 +33,6 @@ impl Journal {
         self.care.hear(heard, now, log);
     }
 
-    /// Writes the files that wait, at a moment, and notes which numbers went out. That the folder of releases does not take them, or that it
-    /// can't be noted, is told once, and again each hour.
-    pub(crate) fn write<F: Folders, E: Write>(
-        &mut self,
-        folders: &mut F,
-        waits: &mut Vec<NamedFile>,
-        now: u64,
-        log: &mut Log<'_, E>,
-    )
-        ensures { WritesSome (F.doings folders.old) (F.doings folders.new) waits.old.items waits.new.items }
-    {
-        match write_waiting(self.alloc, folders, waits) {
-            Ok(()) => {
-                self.told.written();
-                self.care.note_gone(folders, now, log);
-            }
-            Err(fault) => self.told.cannot_write(fault, now, log.err),
-        }
-    }
-
     /// Tells a release, at a moment.
     pub(crate) fn tell_release<E: Write>(
         &mut self,
@@ -63,20 +42,6 @@ impl Journal {
     ) {
         let number = release.number.get();
         self.told.tell(LogEvent::Released { number }, now, log.err);
-    }
-
-    /// Tells what these steps released, at a moment.
-    pub(crate) fn tell_releases<E: Write>(
-        &mut self,
-        steps: &[TakenStep],
-        now: u64,
-        log: &mut Log<'_, E>,
-    ) {
-        for step in steps {
-            if let Some(release) = &step.answer.release {
-                self.tell_release(release, now, log);
-            }
-        }
     }
 
     /// Tells how the file of a range was moved. It is asked for no longer; one that could not be moved is asked for anew later.

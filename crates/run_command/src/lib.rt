@@ -1,18 +1,22 @@
 //! The command `run`: a station that stays up, and works with the folders of its plant.
 #![tactic(auto)]
 
-mod asking;
-mod closing;
+mod backlog;
+mod calls;
 mod deeds;
 mod departures;
 mod desk;
 mod journal;
 mod look;
 mod plant;
+mod range_asks;
 mod reading;
+mod release_files;
+mod running;
 mod status;
+mod steps;
 mod strays;
-mod turns;
+mod texts;
 mod unseen;
 
-pub use turns::{Terms, run_station};
+pub use running::{Terms, run_station};

@@ -1,4 +1,4 @@
-//! A look at the folders: what waits is written, and what lies among the offers is found.
+//! A look at what lies among the offers: when it is time for one, and what becomes of what it found.
 
 ghost use Rattle.std.specs.Prelude.{◌≡◌, ◌&&◌, is_some, not};
 ghost use Rattle.looks.specs.Looking.{is_due};

@@ -1,7 +1,6 @@
 //! What is known at a plant of what lies in its folders.
 
 ghost use Rattle.std.specs.Prelude.{◌≡◌};
-ghost use Rattle.folders.specs.Doings.{WritesSome};
 ghost use Rattle.offers.specs.Book.{IsFresh, still_for};
 ghost use Rattle.looks.specs.Strays.{none_known};
 ghost use Rattle.run_command.specs.Minding.{WasRead};
@@ -11,7 +10,6 @@ use crate::journal::Journal;
 use crate::reading::read;
 use crate::unseen::Unseen;
 use code_table::CodeTable;
-use driver::Log;
 use folders::{FolderFault, Folders, NamedFile, Wish};
 use log_terms::Loudness;
 use looks::{Looking, Strays};
@@ -20,7 +18,6 @@ use plant_care::Care;
 use plant_log::Told;
 use plant_status::{Keeper, StationId};
 use std::alloc::Global;
-use std::io::Write;
 
 /// What is known of what lies among the offers, and what is told and noted at a plant.
 #[derive(Drop)]
@@ -103,20 +100,6 @@ impl Papers {
 }
 
 impl Plant {
-    /// Writes the files that wait, at a moment, and notes which numbers went out.
-    pub(crate) fn write<F: Folders, E: Write>(
-        &mut self,
-        folders: &mut F,
-        now: u64,
-        log: &mut Log<'_, E>,
-    )
-        ensures writes { WritesSome (F.doings folders.old) (F.doings folders.new) self.old.waits.items self.new.waits.items }
-        ensures rest { self.new ≡ record self.old { waits = self.new.waits; papers = record self.old.papers { journal = self.new.papers.journal } } }
-    {
-        let journal = &mut self.papers.journal;
-        journal.write(folders, &mut self.waits, now, log);
-    }
-
     /// What a file, as it was found, asks for, or why it is no offer.
     pub(crate) fn read<F: Folders>(
         &self,

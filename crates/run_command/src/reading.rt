@@ -6,10 +6,10 @@ ghost use Rattle.folders.specs.Doings.{saw_file};
 ghost use Rattle.run_command.specs.Minding.{WasRead};
 ghost use Rattle.run_command.specs.Working.{BecameTape, HasRead, IfRead, IsTapeOrFault, IsWishOfText, LaySo, Looks};
 
+use crate::texts::{MAX_TEXT, tape_of_text};
 use code_table::CodeTable;
 use folders::{FolderFault, Folders, OfferKind, Wish, name_of};
 use offers::{FoundOffer, OfferFault};
-use plant_files::{MAX_TEXT, tape_of_text};
 use std::alloc::Global;
 use tape_frames::{Entry, MAX_FRAMES, Tape, TapeFault};
 use text_tape::PunchError;

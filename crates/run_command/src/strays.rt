@@ -7,8 +7,8 @@ ghost use Rattle.looks.specs.Strays.{ripe_at};
 ghost use Rattle.run_command.specs.Straying.{TellsMoved, TellsStray};
 ghost use Rattle.run_command.specs.Working.{Looked};
 
-use crate::asking::ask_for_stray;
 use crate::plant::Papers;
+use crate::range_asks::ask_for_stray;
 use crate::status::note_stray;
 use driver::Log;
 use folders::{FolderFault, Folders, Leaving, Place};

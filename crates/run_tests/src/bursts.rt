@@ -181,6 +181,7 @@ fn given_up_leaves_the_window(rt: HostRuntime) {
 fn hears(alloc: Global) -> Option<bool> {
     let mut station = station_of(alloc, &RUN)?;
     let mut wire = Flooded {
+        alloc,
         moment: 0,
         left: 4_000,
         lost: Some(7),

@@ -17,20 +17,22 @@ const PREPARE: &[u8] = &[0x54, 0x4e, 2, 1, 0, 7, 2, 1, 0, 0, 0, 12, 0, 0, 0, 1, 
 /// A wire on which that datagram comes, and a second later again, until it fails after so many.
 #[derive(Drop)]
 struct Repeating {
+    alloc: Global,
     moment: u64,
     left: u32,
 }
 
 impl Wire for Repeating {
-    fn receive(&mut self, buffer: &mut [u8]) -> Arrival {
+    fn receive(&mut self) -> Arrival {
         let Some(left) = self.left.checked_sub(1) else {
             return Arrival::Failed;
         };
         self.left = left;
         self.moment = self.moment.saturating_add(1000);
-        let length = PREPARE.len().min(buffer.len());
-        buffer[..length].copy_from_slice(&PREPARE[..length]);
-        Arrival::Datagram { length }
+        match Vec::from_slice(self.alloc, PREPARE) {
+            Ok(bytes) => Arrival::Datagram(bytes),
+            Err(_) => Arrival::Failed,
+        }
     }
 
     fn send(&mut self, _to: Member, _bytes: &[u8]) -> bool {
@@ -47,6 +49,7 @@ fn told(alloc: Global, count: u32) -> Option<Vec<u8>> {
     let rows = rows_with(alloc, Version::One, None)?;
     let mut station = station_over(alloc, 1, 3, rows)?;
     let mut wire = Repeating {
+        alloc,
         moment: 0,
         left: count,
     };

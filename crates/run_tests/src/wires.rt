@@ -19,7 +19,7 @@ pub struct Ticking {
 }
 
 impl Wire for Ticking {
-    fn receive(&mut self, _buffer: &mut [u8]) -> Arrival {
+    fn receive(&mut self) -> Arrival {
         if self.moment < self.until {
             Arrival::Nothing
         } else {
@@ -40,6 +40,7 @@ impl Wire for Ticking {
 /// A wire on which datagrams come without an end that are no packets. Some found no place, as it tells once.
 #[derive(Drop)]
 pub struct Flooded {
+    pub alloc: Global,
     pub moment: u64,
     pub left: u32,
     pub lost: Option<u64>,
@@ -51,13 +52,14 @@ impl Wire for Flooded {
     }
 
     /// It fails after so many, so that each run ends.
-    fn receive(&mut self, buffer: &mut [u8]) -> Arrival {
+    fn receive(&mut self) -> Arrival {
         let Some(left) = self.left.checked_sub(1) else {
             return Arrival::Failed;
         };
         self.left = left;
-        Arrival::Datagram {
-            length: buffer.len().min(3),
+        match vec![in self.alloc; 0u8; 3] {
+            Ok(bytes) => Arrival::Datagram(bytes),
+            Err(_) => Arrival::Failed,
         }
     }
 
@@ -187,13 +189,11 @@ impl Wire for Threesome {
         self.coming.len() > 0
     }
 
-    fn receive(&mut self, buffer: &mut [u8]) -> Arrival {
-        let Some(bytes) = self.coming.pop_front() else {
-            return Arrival::Nothing;
-        };
-        let length = bytes.len().min(buffer.len());
-        buffer[..length].copy_from_slice(&bytes[..length]);
-        Arrival::Datagram { length }
+    fn receive(&mut self) -> Arrival {
+        match self.coming.pop_front() {
+            Some(bytes) => Arrival::Datagram(bytes),
+            None => Arrival::Nothing,
+        }
     }
 
     fn send(&mut self, to: Member, bytes: &[u8]) -> bool {

@@ -1,6 +1,8 @@
-pub mod Saved
-pub mod Memory
 pub mod Blaming
-pub mod Calls
 pub mod Called
+pub mod Calls
+pub mod Grouped
+pub mod Groups
 pub mod Identity
+pub mod Memory
+pub mod Saved

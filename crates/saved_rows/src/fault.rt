@@ -19,7 +19,7 @@ pub enum RowsFault {
 }
 
 /// Counts a refusal for this fault.
-pub fn refuse(refusals: &mut u64, fault: RowsFault) -> RowsFault
+pub(crate) fn refuse(refusals: &mut u64, fault: RowsFault) -> RowsFault
     ensures fault { result ≡ fault }
     ensures cause { Rises refusals.old refusals.new }
     ensures counts { refusals.old ≤ refusals.new }

@@ -48,11 +48,11 @@ fn packet_of(alloc: Global, len: usize) -> Option<Vec<u8>> {
     Some(packet)
 }
 
-/// How many bytes come within so many receives.
-fn comes<N: Wire>(wire: &mut N, receives: u8, buffer: &mut [u8]) -> Option<usize> {
+/// What comes within so many receives.
+fn comes<N: Wire>(wire: &mut N, receives: u8) -> Option<Vec<u8>> {
     for _ in 0..receives {
-        if let Arrival::Datagram { length } = wire.receive(buffer) {
-            return Some(length);
+        if let Arrival::Datagram(bytes) = wire.receive() {
+            return Some(bytes);
         }
     }
     None
@@ -63,26 +63,13 @@ fn passes(rt: &HostRuntime, key: u8, first: u16, len: usize) -> Option<bool> {
     let mut sender = wire_of(rt, 1, key, first)?;
     let mut receiver = wire_of(rt, 2, 7, first)?;
     let packet = packet_of(rt.alloc(), len)?;
-    let mut buffer = vec![in rt.alloc(); 0u8; 12_314].ok()?;
     if !sender.send(Member::new(2)?, &packet) {
         return None;
     }
-    match comes(&mut receiver, 3, &mut buffer) {
-        Some(length) => Some(length == len && buffer.starts_with(packet.as_slice())),
+    match comes(&mut receiver, 3) {
+        Some(bytes) => Some(bytes.as_slice() == packet.as_slice()),
         None => Some(false),
     }
-}
-
-/// What is received of a packet of 100 bytes where the buffer has room for fewer, and how many are told then as lost.
-fn without_room(rt: &HostRuntime, first: u16) -> Option<(Arrival, Option<u64>)> {
-    let mut sender = wire_of(rt, 1, 7, first)?;
-    let mut receiver = wire_of(rt, 2, 7, first)?;
-    let packet = packet_of(rt.alloc(), 100)?;
-    if !sender.send(Member::new(2)?, &packet) {
-        return None;
-    }
-    let arrival = receiver.receive(&mut [0u8; 99]);
-    Some((arrival, receiver.lost(0)))
 }
 
 /// How many datagrams with another key a station counts, where it is sent a packet of three.
@@ -91,7 +78,7 @@ fn other_keys(rt: &HostRuntime, first: u16) -> Option<u64> {
     let mut receiver = wire_of(rt, 2, 7, first)?;
     let packet = packet_of(rt.alloc(), 3000)?;
     let _ = sender.send(Member::new(2)?, &packet);
-    let _ = comes(&mut receiver, 2, &mut [0u8; 64]);
+    let _ = comes(&mut receiver, 2);
     match receiver.strangers(0) {
         Some(told) if told.reason == Reason::OtherKey => Some(told.count),
         _ => None,
@@ -112,7 +99,7 @@ fn against(rt: &HostRuntime, first: u16, member: u8, bytes: &[u8]) -> Option<Rea
     let mut station = UdpWire::bind(rt, rt, &own, all).ok()?;
     let from = socket_at(rt, first.checked_add(u16::from(member))?)?;
     let _ = from.send_to(bytes, ("127.0.0.1", own.port)).ok()?;
-    let _ = comes(&mut station, 1, &mut [0u8; 64]);
+    let _ = comes(&mut station, 1);
     Some(station.strangers(0)?.reason)
 }
 
@@ -122,7 +109,7 @@ fn against_own(rt: &HostRuntime, first: u16) -> Option<Reason> {
     let own = *all.first()?;
     let mut station = UdpWire::bind(rt, rt, &own, all).ok()?;
     let _ = station.send(own.member, b"to itself");
-    let _ = comes(&mut station, 1, &mut [0u8; 64]);
+    let _ = comes(&mut station, 1);
     Some(station.strangers(0)?.reason)
 }
 
@@ -144,11 +131,6 @@ fn short_and_long(rt: HostRuntime) {
     assert!(rt; passes(&rt, 7, 47_120, 1192) == Some(true));
     assert!(rt; passes(&rt, 7, 47_130, 12_313) == Some(true));
     assert!(rt; passes(&rt, 7, 47_140, 12_314) == None);
-}
-
-#[test]
-fn no_room_in_the_buffer(rt: HostRuntime) {
-    assert!(rt; without_room(&rt, 47_250) == Some((Arrival::Nothing, Some(1))));
 }
 
 #[test]

@@ -16,7 +16,7 @@ use Rattle.seals.specs.declared.opening.KeyPlace.TheVariants as places
 use Rattle.circuit_keys.specs.declared.key_file.SharedKeys.{SharedKeys}
 use Rattle.sealed_door.specs.declared.door.SealedDoor.{SealedDoor}
 use Rattle.sealed_door.specs.Admitting.{BringsSealed}
-use Rattle.exchange.specs.Events.{Event, asked, took, stored, aside}
+use Rattle.driver.specs.Events.{Event, asked, took, stored, aside}
 use Rattle.days.specs.Happening.{Happened, Came}
 use Rattle.process_days.specs.Telling.{Order, AllTaken, CallTakes, CameWith, IsInTurn, LogsAgree, TakesSuch, day_with, log_of}
 use Rattle.process_days.proofs.GoingOn.{log_here, log_elsewhere}

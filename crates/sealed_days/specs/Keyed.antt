@@ -15,7 +15,7 @@ use Rattle.circuit_keys.specs.Circuit.{circuit_text}
 use Rattle.circuit_keys.specs.declared.key_file.SharedKeys.{SharedKeys}
 use Rattle.sealed_door.specs.declared.door.SealedDoor.{SealedDoor}
 use Rattle.sealed_door.specs.Admitting.{BringsSealed}
-use Rattle.exchange.specs.Events.{Event, asked, took, stored, aside}
+use Rattle.driver.specs.Events.{Event, asked, took, stored, aside}
 use Rattle.days.specs.Happening.{Happened, WasHandedOut, Came}
 use Rattle.days.specs.Handing.{Plants, Member}
 use Rattle.days.specs.Days.{Day, IsDayAgreed, OfferedFirst}

@@ -14,7 +14,7 @@ use pace::Incoming;
 use seals::{Keys, Label, MOST_DATAGRAM, Piece, SealFault, open};
 use std::alloc::{AllocError, Global};
 use std::net::SocketAddr;
-use wire::{Address, Brought, Door, Reason, Socket, address_of, comes_from, has_mark, place_of};
+use wire::{Address, Brought, Door, Reason, Socket, comes_from, has_mark, place_of};
 
 /// Whose station it is, the keys of the circuit, where its stations listen, in order of members from 1, and the packets of which some
 /// parts are there.
@@ -153,7 +153,7 @@ impl Door for SealedDoor {
         ensures alike { BringsAlike (BringsSealed self.old) (BringsSealed self.new) }
         ensures keeps { KeepsDoor self.old self.new }
     {
-        let Some(address) = address_of(&self.stations, to) else {
+        let Some(address) = self.stations.get(usize::from(to.get()) - 1) else {
             return false;
         };
         let Some(label) = Label::new(&self.keys.first, self.own, to, bytes) else {

@@ -6,7 +6,7 @@ use Rattle.std.proofs.KnownBytes.{Appends-nil, Appends-trans}
 use Rattle.std.proofs.lemmas.Grind.{flat_map-append}
 use Rattle.streams.specs.Fronts.{AppendsFront}
 use Rattle.streams.proofs.Fronts.{front_of_all, front_more}
-use Rattle.exchange.specs.Events.{Event}
+use Rattle.driver.specs.Events.{Event}
 use Rattle.driver.specs.Fates.{Fates}
 use Rattle.serve_command.specs.Serving.{writing, prints}
 

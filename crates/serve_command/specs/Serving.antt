@@ -14,7 +14,7 @@ use Rattle.wire.specs.Passing.{Trace}
 use Rattle.command_ends.specs.ReleaseText.{release_text}
 use Rattle.command_ends.specs.declared.end.End.{End}
 use Rattle.command_ends.specs.declared.end.End.TheVariants.{Done}
-use Rattle.exchange.specs.Events.{Event, asked, took, stored, aside}
+use Rattle.driver.specs.Events.{Event, asked, took, stored, aside}
 use Rattle.driver.specs.Driving.{Fate, Post, known, post, Drove, AtClock, Then, IsTurn}
 use Rattle.serve_command.specs.declared.serve_loop.Machine.{Machine}
 use Rattle.serve_command.specs.declared.serve_loop.ServeTask.{ServeTask}

@@ -1,16 +1,14 @@
 //! The command `serve`: what a station is asked, and its turns.
 
 ghost use Rattle.std.specs.Prelude.{◌≡◌};
-ghost use Rattle.exchange.specs.Events.{ended};
+ghost use Rattle.driver.specs.Events.{ended};
 ghost use Rattle.driver.specs.Driving.{DroveUpTo, IsTurn};
 ghost use Rattle.serve_command.specs.Serving.{ServesBy, IsOffer, IsWithdrawal, IsSearch, IsLaterAsking, IsAsking, AreTurns, IsRun};
 
 use crate::printer::Printer;
 use command_ends::{End, Fault};
-use driver::{Call, Driver, Log, Outlet};
-use exchange::Intake;
-use row_groups::Settles;
-use saved_rows::Rows;
+use driver::{Call, Driver, Log, NewerLayouts, Outlet};
+use saved_rows::{Rows, Settles};
 use station::{Station, StepRefusal};
 use std::alloc::Global;
 use std::io::Write;
@@ -39,11 +37,11 @@ impl<R: Settles, N: Wire + Drop> Machine<R, N> {
     }
 }
 
-/// One turn: its moment in milliseconds, and the room for what comes in it.
+/// One turn: its moment in milliseconds, and when newer layouts were told last.
 #[derive(Drop)]
 pub struct ServeTurn<'a> {
     pub at: u64,
-    pub intake: &'a mut Intake,
+    pub newer: &'a mut NewerLayouts,
 }
 
 /// How what was done up to this result ends. A fault is told.
@@ -70,13 +68,13 @@ pub fn serve_turn<R: Settles, N: Wire + Drop, W: Write, E: Write>(
 ) -> End
     ensures { ServesBy (IsTurn turn.entry.at) result R.Rows R.Settles.is_settled N.passed W.contents machine.old machine.new out.old out.new }
 {
-    let ServeTurn { at, intake } = turn;
+    let ServeTurn { at, newer } = turn;
     let printer = Printer {
         alloc: machine.alloc,
         out,
     };
     let mut log = Log { err, quiet: false };
-    let mut driver = Driver::new(&mut machine.station, &mut machine.wire, printer, intake);
+    let mut driver = Driver::new(&mut machine.station, &mut machine.wire, printer, newer);
     let done = driver.turn_at(at, &mut log);
     end_after(done, log.err)
 }
@@ -207,20 +205,13 @@ pub fn serve_run<R: Settles, N: Wire + Drop, W: Write, E: Write>(
     if machine.station.stopped() {
         return Fault::of_step(StepRefusal::Stopped).tell(err);
     }
-    let Ok(mut intake) = Intake::new(machine.alloc) else {
-        return Fault::OutOfMemory.tell(err);
-    };
+    let mut newer = NewerLayouts::new();
     let printer = Printer {
         alloc: machine.alloc,
         out,
     };
     let mut log = Log { err, quiet: false };
-    let mut driver = Driver::new(
-        &mut machine.station,
-        &mut machine.wire,
-        printer,
-        &mut intake,
-    );
+    let mut driver = Driver::new(&mut machine.station, &mut machine.wire, printer, &mut newer);
     match ask_and_turn(&mut driver, task, &mut log) {
         Ok(()) => End::Done,
         Err(fault) => fault.tell(log.err),

@@ -3,9 +3,8 @@
 use crate::plant::{OFFER, Plant, RELEASE, Run};
 use ballots::Member;
 use command_ends::End;
-use exchange::Intake;
+use driver::NewerLayouts;
 use saved_rows::MemoryRows;
-use std::alloc::Global;
 use wire::{Address, UdpWire};
 
 /// A socket at a free port of this machine, and the address of a member there.
@@ -53,9 +52,9 @@ fn three_posts<'a>(rt: &'a HostRuntime) -> Option<Vec<Post<'a>>> {
 }
 
 /// Whether each took a turn that ended well.
-fn take_a_turn<'a>(posts: &mut [Post<'a>], intake: &mut Intake) -> bool {
+fn take_a_turn<'a>(posts: &mut [Post<'a>], newer: &mut NewerLayouts) -> bool {
     for post in posts.iter_mut() {
-        if post.turn(intake) != End::Done {
+        if post.turn(newer) != End::Done {
             return false;
         }
     }
@@ -69,17 +68,17 @@ fn all_have_printed<'a>(posts: &[Post<'a>], out: &str) -> bool {
 }
 
 /// Whether each turn ended well, up to the one after which all have printed this, or 300.
-fn all_come_to<'a>(alloc: Global, posts: &mut [Post<'a>], out: &str) -> Option<bool> {
-    let mut intake = Intake::new(alloc).ok()?;
+fn all_come_to<'a>(posts: &mut [Post<'a>], out: &str) -> bool {
+    let mut newer = NewerLayouts::new();
     for _ in 0..300 {
-        if !take_a_turn(posts, &mut intake) {
-            return Some(false);
+        if !take_a_turn(posts, &mut newer) {
+            return false;
         }
         if all_have_printed(posts, out) {
             break;
         }
     }
-    Some(true)
+    true
 }
 
 /// The offer of the story, and no turn.
@@ -94,16 +93,16 @@ fn offers<'a>(posts: &mut [Post<'a>]) -> bool {
 }
 
 /// Whether these agree on what the first offers, and none has a fault.
-fn come_to_agree<'a>(alloc: Global, posts: &mut [Post<'a>]) -> bool {
+fn come_to_agree<'a>(posts: &mut [Post<'a>]) -> bool {
     offers(posts)
-        && all_come_to(alloc, posts, RELEASE) == Some(true)
+        && all_come_to(posts, RELEASE)
         && posts.iter().all(|post| post.has_printed(RELEASE, ""))
 }
 
 /// Whether three stations agree.
 fn agree(rt: &HostRuntime) -> Option<bool> {
     let mut posts = three_posts(rt)?;
-    Some(come_to_agree(rt.alloc(), &mut posts))
+    Some(come_to_agree(&mut posts))
 }
 
 #[test]

@@ -4,9 +4,9 @@ use crate::wires::{Manner, Scripted};
 use ballots::Number;
 use command_ends::{End, Fault};
 use driver::{
-    Call, Chance, Declined, Denied, Desk, Driver, HeardDatagram, Log, Sink, TakenStep, Tasks, Todo,
+    Call, Chance, Declined, Denied, Desk, Driver, HeardDatagram, Log, NewerLayouts, Sink,
+    TakenStep, Tasks, Todo,
 };
-use exchange::Intake;
 use folders::{FileRequest, OfferKind};
 use pace::Deeds;
 use station::StepRefusal;
@@ -137,12 +137,12 @@ impl Desk for Counting {
 
 /// How many releases and refusals a desk counts whose member is alone, where the run comes to its end.
 fn counts(alloc: Global) -> Option<(usize, usize)> {
-    let mut intake = Intake::new(alloc).ok()?;
+    let mut newer = NewerLayouts::new();
     let rows = rows_with(alloc, Version::Two, None)?;
     let mut station = station_over(alloc, 1, 1, rows)?;
     let mut wire = Scripted::new(alloc, Manner::Passing);
     let mut told = Vec::new(alloc);
-    let mut driver = Driver::new(&mut station, &mut wire, Counting::new(2), &mut intake);
+    let mut driver = Driver::new(&mut station, &mut wire, Counting::new(2), &mut newer);
     if driver.run(alloc, &mut told, false) != End::Done {
         return None;
     }

@@ -10,9 +10,9 @@ use ballots::{Member, Number};
 use catch_up::Errand;
 use command_ends::{End, Fault};
 use driver::{
-    Call, Chance, Declined, Denied, Desk, Driver, HeardDatagram, Log, Sink, TakenStep, Tasks, Todo,
+    Call, Chance, Declined, Denied, Desk, Driver, HeardDatagram, Log, NewerLayouts, Sink,
+    TakenStep, Tasks, Todo,
 };
-use exchange::Intake;
 use folders::FileRequest;
 use node_core::Note;
 use pace::Deeds;
@@ -158,7 +158,7 @@ type Counts = (usize, usize, usize, usize, usize);
 fn run_all(alloc: Global) -> Option<(Counts, Vec<u8>)> {
     let rows = rows_with_vote(alloc, Version::Two)?;
     let mut station = station_over(alloc, 1, 3, rows)?;
-    let mut intake = Intake::new(alloc).ok()?;
+    let mut newer = NewerLayouts::new();
     let mut wire = Scripted::new(alloc, Manner::Passing);
     if !wire.bring_all(COMING) {
         return None;
@@ -173,7 +173,7 @@ fn run_all(alloc: Global) -> Option<(Counts, Vec<u8>)> {
         looks: 0,
     };
     let mut told = Vec::new(alloc);
-    let mut driver = Driver::new(&mut station, &mut wire, desk, &mut intake);
+    let mut driver = Driver::new(&mut station, &mut wire, desk, &mut newer);
     if driver.run(alloc, &mut told, false) != End::Done {
         return None;
     }

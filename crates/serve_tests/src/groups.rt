@@ -4,10 +4,8 @@ use crate::driven::Counting;
 use crate::wires::{Manner, Scripted};
 use ballots::Member;
 use command_ends::End;
-use driver::Driver;
-use exchange::Intake;
-use row_groups::Grouped;
-use saved_rows::{Balky, MemoryRows};
+use driver::{Driver, NewerLayouts};
+use saved_rows::{Balky, Grouped, MemoryRows};
 use station::Station;
 use station_fixtures::{rows_with, station_over};
 use std::alloc::Global;
@@ -26,12 +24,12 @@ struct Keeping {
 
 impl Wire for Keeping {
     fn fetch(&mut self) -> bool {
-        self.script.next < self.script.coming.len()
+        self.script.coming.len() > 0
     }
 
-    fn receive(&mut self, buffer: &mut [u8]) -> Arrival {
-        let arrival = self.script.receive(buffer);
-        if matches!(arrival, Arrival::Datagram { .. }) {
+    fn receive(&mut self) -> Arrival {
+        let arrival = self.script.receive();
+        if matches!(arrival, Arrival::Datagram(_)) {
             let _ = writeln!(&mut self.script.log, "came");
         }
         arrival
@@ -118,9 +116,9 @@ fn run_on(
     wire: &mut Keeping,
     asks: usize,
 ) -> Option<Outcome> {
-    let mut intake = Intake::new(alloc).ok()?;
+    let mut newer = NewerLayouts::new();
     let mut told = Vec::new(alloc);
-    let mut driver = Driver::new(station, wire, Counting::new(asks), &mut intake);
+    let mut driver = Driver::new(station, wire, Counting::new(asks), &mut newer);
     let end = driver.run(alloc, &mut told, false);
     let desk = driver.sink();
     Some((end, desk.handed_out, desk.groups))

@@ -1,9 +1,9 @@
 //! A station at work, and the steps that it is driven by.
 
 use command_ends::End;
-use exchange::Intake;
+use driver::NewerLayouts;
 use fixtures::{Given, frames_of};
-use row_groups::Settles;
+use saved_rows::Settles;
 use serve_command::{Machine, ServeTask, ServeTurn, serve_run, serve_turn};
 use station_fixtures::station_over;
 use std::alloc::Global;
@@ -127,9 +127,9 @@ impl<R: Settles, N: Wire + Drop> Plant<R, N> {
     }
 
     /// How one more turn ends. What it prints comes after what was printed before.
-    pub fn turn(&mut self, intake: &mut Intake) -> End {
+    pub fn turn(&mut self, newer: &mut NewerLayouts) -> End {
         let at = self.machine.wire.now();
-        let turn = ServeTurn { at, intake };
+        let turn = ServeTurn { at, newer };
         serve_turn(&mut self.machine, turn, &mut self.out, &mut self.err)
     }
 }

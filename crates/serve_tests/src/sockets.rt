@@ -34,16 +34,15 @@ fn station_with<'a>(rt: &'a HostRuntime, port: u16) -> Option<Socket<'a>> {
     UdpWire::bind(rt, rt, &own, stations).ok()
 }
 
-/// Whether the station gets this length from a socket that sends it these bytes. A length of 0 stands for nothing.
-fn gets(station: &mut Socket<'_>, from: &UdpSocket, bytes: &[u8], length: usize) -> bool {
+/// Whether the station gets these bytes, or nothing, as it has to, from a socket that sends them to it.
+fn gets(station: &mut Socket<'_>, from: &UdpSocket, bytes: &[u8], is_taken: bool) -> bool {
     let Ok(port) = station.port() else {
         return false;
     };
     let sent = from.send_to(bytes, ("127.0.0.1", port)).is_ok();
-    let mut buffer = [0u8; 12_314];
-    match station.receive(&mut buffer) {
-        Arrival::Nothing => sent && length == 0,
-        Arrival::Datagram { length: came } => sent && came == length && buffer.starts_with(bytes),
+    match station.receive() {
+        Arrival::Nothing => sent && !is_taken,
+        Arrival::Datagram(came) => sent && is_taken && came.as_slice() == bytes,
         Arrival::Failed => false,
     }
 }
@@ -64,11 +63,12 @@ fn keeps_out(
     stranger: &UdpSocket,
     port: u16,
 ) -> bool {
-    let silent = station.receive(&mut [0u8; 8]) == Arrival::Nothing && tells(station, 0, 0, port);
-    let out = gets(station, stranger, b"a forged one", 0) && gets(station, stranger, b"another", 0);
-    let taken = gets(station, friend, b"hello", 5);
+    let silent = matches!(station.receive(), Arrival::Nothing) && tells(station, 0, 0, port);
+    let out = gets(station, stranger, b"a forged one", false)
+        && gets(station, stranger, b"another", false);
+    let taken = gets(station, friend, b"hello", true);
     let told = tells(station, 0, 2, port) && tells(station, 1_000, 0, port);
-    let again = gets(station, stranger, b"once more", 0);
+    let again = gets(station, stranger, b"once more", false);
     silent
         && out
         && taken
@@ -101,6 +101,19 @@ fn three_sockets(rt: HostRuntime) {
     assert!(rt; three_pass_on(&rt) == Some(true));
 }
 
+/// Whether a station takes in a datagram as long as the longest packet, whole.
+fn takes_the_longest(rt: &HostRuntime) -> Option<bool> {
+    let friend = any_socket(rt)?;
+    let mut station = station_with(rt, port_of(&friend)?)?;
+    let packet = vec![in rt.alloc(); 7u8; 12_313].ok()?;
+    Some(gets(&mut station, &friend, &packet, true))
+}
+
+#[test]
+fn the_longest_datagram(rt: HostRuntime) {
+    assert!(rt; takes_the_longest(&rt) == Some(true));
+}
+
 /// Whether a station keeps what its friend sends, as far as there are places for one of two members, gives the first of it first, and
 /// tells how many found none, once a second at most.
 fn keeps_a_share(rt: &HostRuntime) -> Option<bool> {
@@ -114,10 +127,12 @@ fn keeps_a_share(rt: &HostRuntime) -> Option<bool> {
         }
         is_waiting &= station.fetch();
     }
-    let mut buffer = [7u8; 12_314];
-    let first = station.receive(&mut buffer) == Arrival::Datagram { length: 2 };
+    let first = match station.receive() {
+        Arrival::Datagram(bytes) => bytes.as_slice() == b"\x00\x01".as_slice(),
+        Arrival::Nothing | Arrival::Failed => false,
+    };
     let told = station.lost(0) == Some(904) && station.lost(5) == None;
-    Some(is_waiting && first && buffer.starts_with(&[0, 1, 7]) && told)
+    Some(is_waiting && first && told)
 }
 
 #[test]

@@ -2,6 +2,7 @@
 
 use ballots::Member;
 use std::alloc::Global;
+use std::collections::VecDeque;
 use std::io::Write;
 use std::net::{IpAddr, Ipv4Addr, SocketAddr};
 use wire::{Arrival, Reason, Strangers, Wire};
@@ -27,8 +28,7 @@ pub struct Scripted {
     pub alloc: Global,
     pub manner: Manner,
     pub moment: u64,
-    pub coming: Vec<Vec<u8>>,
-    pub next: usize,
+    pub coming: VecDeque<Vec<u8>>,
     pub sent: usize,
     /// A line for each datagram that it was asked to send: the addressee, and the bytes in hex.
     pub log: Vec<u8>,
@@ -40,8 +40,7 @@ impl Scripted {
             alloc,
             manner,
             moment: 0,
-            coming: Vec::new(alloc),
-            next: 0,
+            coming: VecDeque::new(alloc),
             sent: 0,
             log: Vec::new(alloc),
         }
@@ -59,7 +58,7 @@ impl Scripted {
     /// Lets the datagram of these hexadecimal digits come after the others; whether there was memory for it.
     fn bring(&mut self, digits: &[u8]) -> bool {
         match hex::decode(self.alloc, digits) {
-            Ok(datagram) => self.coming.push(datagram).is_ok(),
+            Ok(datagram) => self.coming.push_back(datagram).is_ok(),
             Err(_) => false,
         }
     }
@@ -76,20 +75,14 @@ impl Scripted {
 }
 
 impl Wire for Scripted {
-    fn receive(&mut self, buffer: &mut [u8]) -> Arrival {
+    fn receive(&mut self) -> Arrival {
         if self.manner == Manner::Torn {
             return Arrival::Failed;
         }
-        let Some(bytes) = self.coming.get(self.next) else {
-            return Arrival::Nothing;
-        };
-        self.next = self.next.saturating_add(1);
-        let length = bytes.len();
-        if length > buffer.len() {
-            return Arrival::Failed;
+        match self.coming.pop_front() {
+            Some(bytes) => Arrival::Datagram(bytes),
+            None => Arrival::Nothing,
         }
-        buffer[..length].copy_from_slice(bytes);
-        Arrival::Datagram { length }
     }
 
     fn send(&mut self, to: Member, bytes: &[u8]) -> bool {

@@ -2,7 +2,7 @@
 use Rattle.std.proofs.Common.{◌≡◌, ◌≤◌, ℕ, inl, inr, refl, sym, ap, subst, ◌∙◌, List, [], ◌∷◌, Option, Some, None, Bool, true, false}
 use Rattle.std.specs.Prelude.{◌==◌, Result, Ok, Err, IsErr, IsErrAnd, not, is_some, if◌then◌else◌}
 use Rattle.std.proofs.lemmas.Bool.{le-leb}
-use Rattle.protocol.specs.Seats.{Seat, sits}
+use Rattle.protocol.specs.Seats.{Seat}
 use Rattle.protocol.specs.Lists.{or_else}
 use Rattle.protocol.specs.Packets.{Packet}
 use Rattle.protocol.specs.Entries.{Entry, Taped}
@@ -189,12 +189,11 @@ sought s marks n m now goes h same = record {
 
 -- a vote that is told again, where nothing refuses that
 pub recalled :
-    {R : Type 0} (s : Station R) (marks : List Mark) (c n m to k : ℕ)
-    → s.stopped ≡ false → c ≡ s.speaker.core.members → refusals.recall_refusal {D = PacketFault} {F = SetFault} c n to ≡ None → m ≡ n → k ≡ to
+    {R : Type 0} (s : Station R) (marks : List Mark) (n m to k : ℕ)
+    → s.stopped ≡ false → refusals.recall_refusal {D = PacketFault} {F = SetFault} s.speaker.core.members n to ≡ None → m ≡ n → k ≡ to
     → Asks s marks (refusals.Recalling n to) (Recalled m k)
-recalled s marks c n m to k goes members h same him = record {
-  unrefused = last_refusal (setup_of s) s.stopped marks (refusals.Recalling n to) goes
-      (subst (λ (x : ℕ). refusals.recall_refusal {D = PacketFault} {F = SetFault} x n to ≡ None) members h);
+recalled s marks n m to k goes h same him = record {
+  unrefused = last_refusal (setup_of s) s.stopped marks (refusals.Recalling n to) goes h;
   event = λ i. Some (Recalled (sym same i) (sym him i));
 }
 
@@ -208,17 +207,14 @@ came_due s marks n now goes h = record {
 
 -- bytes of a packet that nothing refuses
 pub received :
-    {R : Type 0} (s : Station R) (marks : List Mark) (bytes : List ℕ) (now k c m : ℕ) (p q : Packet)
-    → s.stopped ≡ false → packet_at s.speaker.wire bytes ≡ Ok p → k ≡ s.speaker.core.circuit → c ≡ s.speaker.core.members → m ≡ s.speaker.core.me
-    → refusals.packet_refusal {D = PacketFault} {F = SetFault} (sits k m c) p ≡ None → q ≡ p → Asks s marks (refusals.Receiving bytes now) (Arrived q now)
-received s marks bytes now k c m p q goes read circuit members me h same =
-    let here : refusals.packet_refusal {D = PacketFault} {F = SetFault} (seat_of s.speaker.core) p ≡ None =
-    sym (λ i. refusals.packet_refusal {D = PacketFault} {F = SetFault} (sits (circuit i) (me i) (members i)) p) ∙ h in
-    record {
-      unrefused = last_refusal (setup_of s) s.stopped marks (refusals.Receiving bytes now) goes
-          (ap (λ (r : Result Packet PacketFault). refusals.reading_refusal {D = PacketFault} {F = SetFault} (seat_of s.speaker.core) r) read ∙ here);
-      event = ap (λ (r : Result Packet PacketFault). refusals.arrival r now) read ∙ (λ i. Some (Arrived (sym same i) now));
-    }
+    {R : Type 0} (s : Station R) (marks : List Mark) (bytes : List ℕ) (now : ℕ) (p : Packet)
+    → s.stopped ≡ false → packet_at s.speaker.wire bytes ≡ Ok p → refusals.packet_refusal {D = PacketFault} {F = SetFault} (seat_of s.speaker.core) p ≡ None
+    → Asks s marks (refusals.Receiving bytes now) (Arrived p now)
+received s marks bytes now p goes read h = record {
+  unrefused = last_refusal (setup_of s) s.stopped marks (refusals.Receiving bytes now) goes
+      (ap (λ (r : Result Packet PacketFault). refusals.reading_refusal {D = PacketFault} {F = SetFault} (seat_of s.speaker.core) r) read ∙ h);
+  event = ap (λ (r : Result Packet PacketFault). refusals.arrival r now) read;
+}
 
 -- what is due of the station's core
 pub due_at :
@@ -320,13 +316,6 @@ refused_early x call s marks r goes h =
     ∙ known_refusal (refusals.call_refusal (setup_of s) marks call) (refusals.tape_refusal (setup_of s) call) r h in
     refused x call s marks r (subst (λ (o : Option Refusal). IsRefusal o r) (sym whole) h)
 
--- a recall that is refused
-pub recall_refused :
-    {R : Type 0} (x : Sight R) (s : Station R) (marks : List Mark) (c n to : ℕ) (r : StepRefusal)
-    → s.stopped ≡ false → c ≡ s.speaker.core.members → IsRefusal (refusals.recall_refusal c n to) r → Steps x (refusals.Recalling n to) s s marks (Err r)
-recall_refused x s marks c n to r goes members h =
-    refused_early x (refusals.Recalling n to) s marks r goes (subst (λ (k : ℕ). IsRefusal (refusals.recall_refusal k n to) r) members h)
-
 -- an offer that is refused for its number
 pub refused_number :
     (v : Version) (n : ℕ) (entry : Entry) (marks : List Mark) (r : StepRefusal)
@@ -346,26 +335,6 @@ idled x s marks now a goes none out release note number = inl (record {
   note = ap note_value note;
   number = number;
 })
-
--- bytes that are not read
-pub unread :
-    {R : Type 0} (x : Sight R) (s : Station R) (marks : List Mark) (bytes : List ℕ) (now : ℕ) (fault : PacketFault)
-    → s.stopped ≡ false → packet_at s.speaker.wire bytes ≡ Err fault → Steps x (refusals.Receiving bytes now) s s marks (Err (BadDatagram fault))
-unread x s marks bytes now fault goes read =
-    refused_early x (refusals.Receiving bytes now) s marks (BadDatagram fault) goes
-    (ap (λ (r : Result Packet PacketFault). refusals.reading_refusal {D = PacketFault} {F = SetFault} (seat_of s.speaker.core) r) read)
-
--- a packet that is not let in
-pub turned_away :
-    {R : Type 0} (x : Sight R) (s : Station R) (marks : List Mark) (bytes : List ℕ) (now k c m : ℕ) (p : Packet) (r : StepRefusal)
-    → s.stopped ≡ false → packet_at s.speaker.wire bytes ≡ Ok p → k ≡ s.speaker.core.circuit → c ≡ s.speaker.core.members → m ≡ s.speaker.core.me
-    → IsRefusal (refusals.packet_refusal {D = PacketFault} {F = SetFault} (sits k m c) p) r → Steps x (refusals.Receiving bytes now) s s marks (Err r)
-turned_away x s marks bytes now k c m p r goes read circuit members me h =
-    let here : refusals.packet_refusal {D = PacketFault} {F = SetFault} (sits k m c) p ≡ refusals.packet_refusal (seat_of s.speaker.core) p =
-    λ i. refusals.packet_refusal {D = PacketFault} {F = SetFault} (sits (circuit i) (me i) (members i)) p in
-    let whole : refusals.packet_refusal {D = PacketFault} {F = SetFault} (seat_of s.speaker.core) p ≡ refusals.reading_refusal (seat_of s.speaker.core) (packet_at s.speaker.wire bytes) =
-    sym (ap (λ (q : Result Packet PacketFault). refusals.reading_refusal {D = PacketFault} {F = SetFault} (seat_of s.speaker.core) q) read) in
-    refused_early x (refusals.Receiving bytes now) s marks r goes (subst (λ (o : Option Refusal). IsRefusal o r) (here ∙ whole) h)
 
 -- an offer whose tape has a fault here
 pub refused_faulty :

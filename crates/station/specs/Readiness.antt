@@ -26,7 +26,7 @@ use Rattle.node_core.specs.declared.turn.Turn.{Turn}
 use Rattle.node_core.specs.declared.turn.Note.TheVariants as notes
 use Rattle.station.specs.declared.answer.Answer.{Answer}
 use Rattle.station.specs.declared.answer.Release.{Release}
-use Rattle.station.specs.declared.setting.Checked.{Checked}
+use Rattle.station.specs.declared.save.Checked.{Checked}
 use Rattle.refusals.specs.declared.refusal.StepRefusal.{StepRefusal}
 use Rattle.refusals.specs.declared.refusal.StepRefusal.TheVariants.{Store, OutOfMemory}
 use Rattle.station.specs.Stations.{Sight}

@@ -42,6 +42,11 @@ Checks o (Err r) = IsRefusal o r
 abbrev pub ChecksPacket : {A : Type 0} → Seat → Packet → Result A StepRefusal → Type 0
 ChecksPacket s p r = Checks (refusals.packet_refusal s p) r
 
+-- the packet that was read in bytes is handed on where there is no refusal of it; else it is refused for the first one
+abbrev pub ChecksDatagram : Seat → Result Packet PacketFault → Result Packet StepRefusal → Type 0
+ChecksDatagram s read (Ok p) = (read ≡ Ok p) × (refusals.packet_refusal {D = PacketFault} {F = SetFault} s p ≡ None)
+ChecksDatagram s read (Err r) = IsRefusal (refusals.reading_refusal s read) r
+
 -- why a station that speaks this version refuses an entry for a number, before the entry is set
 abbrev pub offer_refusal : Version → ℕ → Entry → List Mark → Option Refusal
 offer_refusal v n entry marks = or_else (refusals.number_refusal n marks) (refusals.wire_refusal (fits v entry))

@@ -8,7 +8,7 @@ use Rattle.node_core.specs.Turns.{sent}
 use Rattle.node_core.specs.declared.turn.Turn.{Turn}
 use Rattle.refusals.specs.declared.refusal.StepRefusal.{StepRefusal}
 use Rattle.station.specs.declared.answer.Answer.{Answer}
-use Rattle.station.specs.declared.setting.Checked.{Checked}
+use Rattle.station.specs.declared.save.Checked.{Checked}
 use Rattle.station.specs.declared.station.Station.{Station}
 use Rattle.station.specs.Speaking.{TurnSpeaks}
 use Rattle.station.specs.Stations.{StaysMade, sight, with_rows}

@@ -2,17 +2,12 @@
 #![tactic(auto)]
 
 mod answer;
-mod checks;
-mod datagram;
 mod save;
-mod setting;
-mod settling;
 mod speaker;
 mod station;
 mod steps;
 mod upgrade;
 
-pub use answer::{Answer, Release};
-pub use datagram::Datagram;
+pub use answer::{Answer, Datagram, Release};
 pub use refusals::StepRefusal;
 pub use station::{BadMember, Membership, Station};

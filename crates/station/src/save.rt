@@ -1,25 +1,35 @@
-//! What a turn hands out is made ready, and then its row is saved.
+//! What a turn hands out is made ready, and then its row is saved; what was saved is stored before it goes further.
 
 ghost use Rattle.std.specs.Prelude.{◌≡◌, ◌≤◌, [], None, Some, IfOk, IfErr, OnOk, OnErr, IfSome, length, option_map};
 ghost use Rattle.std.specs.List.{AllZip};
+ghost use Rattle.code_table.specs.Tables.{mean};
+ghost use Rattle.line_check.specs.Sets.{Sets};
 ghost use Rattle.tape_frames.specs.Entries.{owned_entry, version_of};
 ghost use Rattle.saved_rows.specs.Saved.{HasPromise, RowFits, Rises};
 ghost use Rattle.station.specs.Speaking.{AllFit};
 ghost use Rattle.station.specs.Stations.{StaysMade, sight};
-ghost use Rattle.station.specs.Readiness.{Carries, IsReleased, IsNumbered, RowSaved, RowBalked, SaysTheSameAt, WasChecked};
+ghost use Rattle.station.specs.Readiness.{Carries, IsReleased, IsNumbered, RowSaved, RowBalked, SaysTheSameAt, WasChecked, slugs_of};
 ghost use Rattle.station.specs.Saving.{CanBeSaved, SavesTurn};
+ghost use Rattle.station.specs.Settling.{Settling};
 
-use crate::answer::{Answer, Release};
-use crate::datagram::Datagram;
-use crate::setting::Checked;
+use crate::answer::{Answer, Datagram, Release};
 use crate::station::Station;
+use ballots::laws::range_of_number;
 use ballots::{Number, Row};
+use line_check::{SetError, SetFault, Slug, set};
 use node_core::{Outgoing, Turn};
 use packets::encode_beside;
 use refusals::StepRefusal;
-use saved_rows::{Rows, RowsFault};
+use saved_rows::{Rows, RowsFault, Settles};
 use std::alloc::{AllocError, Global};
-use tape_frames::{Entry, Version};
+use tape_frames::{Entry, Tape, Version};
+
+/// A tape that was set before, and its slugs.
+#[derive(Drop)]
+pub(crate) struct Checked<'a> {
+    pub tape: &'a Tape,
+    pub slugs: Vec<Slug>,
+}
 
 /// The bytes of the first datagram that says the same as the packet at this place, where it was spelled already.
 fn spelled_alike<'a>(packets: &Outgoing<'_>, out: &'a [Datagram], place: usize) -> Option<&'a [u8]>
@@ -80,6 +90,17 @@ fn save_row<R: Rows>(rows: &mut R, number: Number, row: &Option<Row>) -> Result<
 }
 
 impl<R: Rows> Station<R> {
+    /// The slugs of a tape, or its first fault.
+    pub(crate) fn setting(&self, tape: &Tape) -> Result<Result<Vec<Slug>, SetFault>, AllocError>
+        ensures { IfOk result (λ given. Sets (mean self.now.table) self.now.widths tape.now (slugs_of given)) }
+    {
+        match set(self.alloc, &self.table, &self.widths, tape) {
+            Ok(slugs) => Ok(Ok(slugs)),
+            Err(SetError::Fault(fault)) => Ok(Err(fault)),
+            Err(SetError::OutOfMemory) => Err(AllocError),
+        }
+    }
+
     /// A released entry, set by the code table and the widths. A tape that was checked is not set again, and no memory is taken where there
     /// is no entry.
     fn release(
@@ -98,13 +119,12 @@ impl<R: Rows> Station<R> {
         };
         let set = match (&entry, checked) {
             (Entry::Void, _) => Ok(Vec::new(self.alloc)),
-            (Entry::Tape(tape), Some(checked)) if checked.tape.lend().same(tape.lend()) => {
+            (Entry::Tape(tape), Some(checked)) if checked.tape.same(tape.lend()) => {
                 Ok(checked.slugs)
             }
             (Entry::Tape(tape), _) => self.setting(tape)?,
         };
-        // A number is in its range.
-        let _range = number.get();
+        range_of_number(number);
         Ok(Some(Release { number, entry, set }))
     }
 
@@ -135,5 +155,26 @@ impl<R: Rows> Station<R> {
             release,
             note: turn.note,
         })
+    }
+}
+
+impl<R: Settles> Station<R> {
+    /// Stores all that the station saved since the last call. Nothing that a step of it handed out may go further before.
+    ///
+    /// - `Stopped`: the station has stopped, and nothing is done.
+    /// - `Store`: it can't be stored, and the station stops. What it saved is stored or is not, which the next start tells.
+    pub fn settle(&mut self) -> Result<(), StepRefusal>
+        ensures { Settling R.Rows R.Settles.is_settled self.old self.new result }
+    {
+        if self.stopped {
+            return Err(StepRefusal::Stopped);
+        }
+        match self.rows.settle() {
+            Ok(()) => Ok(()),
+            Err(fault) => {
+                self.stopped = true;
+                Err(StepRefusal::Store(fault))
+            }
+        }
     }
 }

@@ -1,20 +1,25 @@
-//! What a station remembers, in the version in which it speaks.
+//! What a station remembers, in the version in which it speaks, and which packets it takes in.
 
-ghost use Rattle.std.specs.Prelude.{◌≡◌, List, [], IfOk, IfErr};
+ghost use Rattle.std.specs.Prelude.{◌≡◌, ◌≤◌, List, [], OnOk, IfOk, IfErr, false};
 ghost use Rattle.protocol.specs.Versions.{fits};
 ghost use Rattle.protocol.specs.Marks.{Mark};
+ghost use Rattle.protocol.specs.Refusals.{names_stranger, is_of_stranger};
 ghost use Rattle.protocol.specs.Fitting.{BodyFits, EventFits};
 ghost use Rattle.saved_rows.specs.Saved.{RowFits};
 ghost use Rattle.tape_frames.specs.Entries.{version_of, lent_entry};
+ghost use Rattle.packets.specs.Bodies.{said};
 ghost use Rattle.packets.specs.Reading.{packet_at};
-ghost use Rattle.node_core.specs.Calls.{MayCome, TookTurn, RefusesEvent, MayWantMemory};
-ghost use Rattle.node_core.specs.Standing.{StandsFor, OfItsMarks, IsSameSeat};
+ghost use Rattle.node_core.specs.Calls.{IsForMember, MayCome, TookTurn, RefusesEvent, MayWantMemory};
+ghost use Rattle.node_core.specs.Standing.{StandsFor, OfItsMarks, IsSameSeat, seat_of};
 ghost use Rattle.node_core.specs.Turns.{event_value};
+ghost use Rattle.station.specs.Refusing.{ChecksDatagram, ChecksPacket};
 ghost use Rattle.station.specs.Speaking.{Forgets, IsOrderly, SpeaksFromNow, TurnSpeaks, is_lower};
 
 use ballots::Row;
+use node_core::laws::member_of_core;
 use node_core::{CoreRefusal, Event, NodeCore, Turn};
-use packets::{PacketFault, PacketRef, decode};
+use packets::{BodyRef, PacketRef, decode};
+use refusals::StepRefusal;
 use std::marker::Model;
 use tape_frames::{EntryRef, Version};
 
@@ -48,6 +53,45 @@ fn is_lower(version: Version, other: Version) -> bool
     }
 }
 
+/// Whether the owner of a ballot in the body is above the member count.
+fn names_stranger(members: u8, body: &BodyRef<'_>) -> bool
+    ensures { result ≡ names_stranger members (said body.now) }
+{
+    match body {
+        BodyRef::Promise { report: Some(vote) } => vote.ballot().owner().get() > members,
+        BodyRef::Nack { promised } => promised.owner().get() > members,
+        _ => false,
+    }
+}
+
+/// Whether the sender, or the owner of any ballot in the packet, is above the member count.
+fn is_of_stranger(members: u8, packet: &PacketRef<'_>) -> bool
+    ensures test { result ≡ is_of_stranger members packet.now }
+    ensures sender { result ≡ false → packet.now.from ≤ members }
+{
+    packet.from().get() > members
+        || packet.ballot().owner().get() > members
+        || names_stranger(members, packet.body())
+}
+
+/// Refuses a packet of another circuit, for another member or of a stranger.
+fn check_packet(core: &NodeCore, packet: &PacketRef<'_>) -> Result<(), StepRefusal>
+    ensures checks { ChecksPacket (seat_of core.now) packet.now result }
+    // One that is let in may come to the core.
+    ensures let_in { OnOk result (IsForMember core.now.me core.now.members packet.now) }
+{
+    if packet.circuit() != core.circuit() {
+        return Err(StepRefusal::WrongCircuit);
+    }
+    if packet.to().get() != core.me().get() {
+        return Err(StepRefusal::NotForMe);
+    }
+    if is_of_stranger(core.members(), packet) {
+        return Err(StepRefusal::Stranger);
+    }
+    Ok(())
+}
+
 impl Speaker {
     /// A core that took nothing in, in this version.
     #[tactic(auto, using(crate::proofs::Remembering::nothing_speaks))]
@@ -73,12 +117,21 @@ impl Speaker {
         entry.fits(self.wire)
     }
 
-    /// The packet that the bytes spell: at version 1 in version 1 alone, at version 2 in either. What is answered fits.
-    pub fn read<'a>(&self, bytes: &'a [u8]) -> Result<PacketRef<'a>, PacketFault>
-        ensures exact { result ≡ packet_at self.now.wire bytes.now }
+    /// The packet that the bytes spell: at version 1 in version 1 alone, at version 2 in either. What is answered fits, and may come to the core.
+    ///
+    /// Refused, in this order: `BadDatagram`, `WrongCircuit`, `NotForMe`, `Stranger`.
+    pub fn read<'a>(&self, bytes: &'a [u8]) -> Result<PacketRef<'a>, StepRefusal>
+        ensures checks { ChecksDatagram (seat_of self.now.core) (packet_at self.now.wire bytes.now) result }
         ensures fits { IfOk result (λ p. BodyFits self.now.wire p.body) }
+        ensures let_in { IfOk result (IsForMember self.now.core.me self.now.core.members) }
     {
-        decode(bytes, self.wire)
+        match decode(bytes, self.wire) {
+            Ok(packet) => {
+                check_packet(&self.core, &packet)?;
+                Ok(packet)
+            }
+            Err(fault) => Err(StepRefusal::BadDatagram(fault)),
+        }
     }
 
     /// Forgets all that was taken in, as at a start.
@@ -119,7 +172,7 @@ impl Speaker {
     {
         // A turn makes no entry up, where the core's member is one of its circuit.
         protocol_laws::laws::turns_fit();
-        let _me = self.core.me();
+        member_of_core(&self.core);
         let answer = self.core.handle(event, row);
         if matches!(answer, Err(CoreRefusal::OutOfMemory)) {
             self.core.clear();

@@ -6,7 +6,7 @@ ghost use Rattle.protocol.specs.Marks.{Mark};
 ghost use Rattle.protocol.specs.Proposals.{was_released, open_ballot};
 ghost use Rattle.protocol.specs.Limits.{most_members};
 ghost use Rattle.node_core.specs.Standing.{StandsFor, OfItsMarks};
-ghost use Rattle.station.specs.Stations.{IsFixed, FollowsRows, with_rows};
+ghost use Rattle.station.specs.Stations.{IsFixed, with_rows};
 ghost use Rattle.station.specs.contracts.station.Station.{the_row};
 
 use crate::speaker::Speaker;
@@ -100,14 +100,6 @@ impl<R: Rows> Station<R> {
         self.follow_rows();
         self.speaker.clear();
         self.stopped = false;
-    }
-
-    /// Speaks the version of its rows from now on, as each step does before all else. Where another left the rows at a
-    /// lower version, it forgets what it took in.
-    pub(crate) fn follow_rows(&mut self)
-        ensures { FollowsRows R.Rows self.old self.new }
-    {
-        self.speaker.follow(self.rows.version());
     }
 
     /// Whether a step or an upgrade stopped it, and neither a restart nor an upgrade that was Ok came since.

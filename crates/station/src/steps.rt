@@ -3,7 +3,6 @@
 ghost use Rattle.std.specs.Prelude.{◌≡◌, ◌≤◌, true, false, IfOk, OnOk, IfErr, length};
 ghost use Rattle.protocol.specs.Entries.{Void, Taped};
 ghost use Rattle.protocol.specs.Versions.{fits};
-ghost use Rattle.protocol.specs.Turn.{number_of};
 ghost use Rattle.protocol.specs.Refusals.{Offering, Seeking, Falling_due, Receiving, Recalling, number_refusal};
 ghost use Rattle.protocol.specs.Fitting.{EventFits};
 ghost use Rattle.protocol.specs.Limits.{most_sent};
@@ -13,16 +12,15 @@ ghost use Rattle.node_core.specs.Standing.{OfItsMarks};
 ghost use Rattle.node_core.specs.Calls.{MayCome};
 ghost use Rattle.node_core.specs.Turns.{event_value};
 ghost use Rattle.station.specs.Readiness.{WasChecked, IsNumbered};
-ghost use Rattle.station.specs.Refusing.{offer_refusal};
+ghost use Rattle.station.specs.Refusing.{ChecksRecall, offer_refusal};
 ghost use Rattle.station.specs.Checking.{ChecksAsked};
-ghost use Rattle.station.specs.Stations.{Halts, StaysMade, sight};
+ghost use Rattle.station.specs.Stations.{FollowsRows, Halts, StaysMade, sight};
 ghost use Rattle.station.specs.Steps.{Ends, IsFree, IsStep, OnStore, IfStore, IsBlamed, is_early, stopped_after};
 
 use crate::answer::Answer;
-use crate::checks::{check_packet, check_recall};
-use crate::setting::Checked;
+use crate::save::Checked;
 use crate::station::Station;
-use ballots::Number;
+use ballots::{Member, Number};
 use node_core::{CoreRefusal, Event};
 use refusals::StepRefusal;
 use saved_rows::Rows;
@@ -50,7 +48,7 @@ impl<R: Rows> Station<R> {
         match tape.copy() {
             Ok(tape) => {
                 let entry = Entry::Tape(tape);
-                self.take(number, Event::Offer { number, entry, now }, Some(checked))
+                self.take(Event::Offer { number, entry, now }, Some(checked))
             }
             Err(_) => Err(self.stop(StepRefusal::OutOfMemory)),
         }
@@ -69,7 +67,7 @@ impl<R: Rows> Station<R> {
         self.follow_rows();
         let number = self.check_offer(number, EntryRef::Void)?;
         let entry = Entry::Void;
-        self.take(number, Event::Offer { number, entry, now }, None)
+        self.take(Event::Offer { number, entry, now }, None)
     }
 
     /// Seeks the entry of a number, at a moment in milliseconds.
@@ -84,7 +82,7 @@ impl<R: Rows> Station<R> {
         }
         self.follow_rows();
         let number = self.check_number(number)?;
-        self.take(number, Event::Seek { number, now }, None)
+        self.take(Event::Seek { number, now }, None)
     }
 
     /// Sees to the least number that is due at a moment in milliseconds. Where none is due, the note is
@@ -100,7 +98,7 @@ impl<R: Rows> Station<R> {
         self.follow_rows();
         match self.speaker.core().next_due(now) {
             None => Ok(Answer::idle(self.alloc)),
-            Some(number) => self.take(number, Event::Due { number, now }, None),
+            Some(number) => self.take(Event::Due { number, now }, None),
         }
     }
 
@@ -116,13 +114,8 @@ impl<R: Rows> Station<R> {
             return Err(StepRefusal::Stopped);
         }
         self.follow_rows();
-        let packet = match self.speaker.read(bytes) {
-            Ok(packet) => packet,
-            Err(fault) => return Err(StepRefusal::BadDatagram(fault)),
-        };
-        check_packet(self.speaker.core(), &packet)?;
-        let number = packet.number();
-        self.take(number, Event::Arrived { packet, now }, None)
+        let packet = self.speaker.read(bytes)?;
+        self.take(Event::Arrived { packet, now }, None)
     }
 
     /// Tells the vote of a number's row again to a member: to another in a datagram, and to the station itself by hearing it, which
@@ -136,8 +129,8 @@ impl<R: Rows> Station<R> {
             return Err(StepRefusal::Stopped);
         }
         self.follow_rows();
-        let (number, to) = check_recall(self.speaker.core(), number, to)?;
-        self.take(number, Event::Recall { number, to }, None)
+        let (number, to) = self.check_recall(number, to)?;
+        self.take(Event::Recall { number, to }, None)
     }
 
     /// The number, where it is one that can be asked for.
@@ -169,18 +162,33 @@ impl<R: Rows> Station<R> {
         Ok(number)
     }
 
+    /// The number and the member to which its vote is to be told again. Refused where there is no such number, and then where the circuit has
+    /// no such member.
+    fn check_recall(&self, number: u32, to: u8) -> Result<(Number, Member), StepRefusal>
+        ensures number { IfOk result (λ asked. asked.0 ≡ number) }
+        ensures to { IfOk result (λ asked. asked.1 ≡ to) }
+        ensures checks { ChecksRecall self.now.speaker.core.members number to result }
+    {
+        let Some(number) = Number::new(number) else {
+            return Err(StepRefusal::BadNumber);
+        };
+        let members = self.speaker.core().members();
+        match Member::new(to) {
+            Some(to) if to.get() <= members => Ok((number, to)),
+            _ => Err(StepRefusal::NoSuchMember),
+        }
+    }
+
     /// Takes the turn of an event at its number's saved row, and saves the row before anything is handed out.
     /// A tape that was checked is not set again.
     #[tactic(auto, using(crate::proofs::Refused::spent_stays, crate::proofs::Refused::spent_none, crate::proofs::Refused::not_released, crate::proofs::Refused::not_open, crate::proofs::Refused::not_failed))]
     fn take(
         &mut self,
-        number: Number,
         event: Event<'_>,
         checked: Option<Checked<'_>>,
     ) -> Result<Answer, StepRefusal>
         requires goes { self.old.stopped ≡ false }
         requires wire { self.old.speaker.wire ≡ R.version self.old.rows }
-        requires number { number_of (event_value event) ≡ number }
         requires arrived { MayCome self.old.speaker.core.me self.old.speaker.core.members event }
         requires fits { EventFits self.old.speaker.wire (event_value event) }
         requires checked { WasChecked self.old.table self.old.widths checked }
@@ -197,6 +205,7 @@ impl<R: Rows> Station<R> {
         ensures wire { self.new.speaker.wire ≡ self.old.speaker.wire }
         ensures stops { self.new.stopped ≡ stopped_after self.old.stopped result }
     {
+        let number = event.number();
         let row = match self.rows.get(number) {
             Ok(row) => row,
             Err(fault) => return Err(self.stop(StepRefusal::Store(fault))),
@@ -212,6 +221,14 @@ impl<R: Rows> Station<R> {
             Err(CoreRefusal::Failed) => Err(self.stop(StepRefusal::OutOfMemory)),
             Err(CoreRefusal::OutOfMemory) => Err(self.stop(StepRefusal::OutOfMemory)),
         }
+    }
+
+    /// Speaks the version of its rows from now on, as each step does before all else. Where another left the rows at a
+    /// lower version, it forgets what it took in.
+    pub(crate) fn follow_rows(&mut self)
+        ensures { FollowsRows R.Rows self.old self.new }
+    {
+        self.speaker.follow(self.rows.version());
     }
 
     /// It forgets what it took in, and takes no step until a restart, or an upgrade that is Ok. Handed on is the refusal that stops it.

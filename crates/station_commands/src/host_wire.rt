@@ -40,8 +40,8 @@ impl<'a> Wire for HostWire<'a> {
         self.wire.fetch()
     }
 
-    fn receive(&mut self, buffer: &mut [u8]) -> Arrival {
-        self.wire.receive(buffer)
+    fn receive(&mut self) -> Arrival {
+        self.wire.receive()
     }
 
     fn send(&mut self, to: Member, bytes: &[u8]) -> bool {

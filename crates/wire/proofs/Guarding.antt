@@ -42,14 +42,14 @@ module _ {C D S : Type 0} (came : S → SocketAddr → List ℕ → Type 0) (bri
   sends_on u v to bytes keeps = stays_passes (let_in came brings u) (let_in came brings v) u.waiting v.waiting (sent to bytes ∷ []) keeps (λ clean. tt)
 
   -- what a receive answers came
-  pub receives : (u v : GuardedWire C D S) (a : Arrival) (buffer : List ℕ) → (IsClean came brings u → ComesAs (let_in came brings u) a buffer) → Keeps came brings u v
-      → Passes (passed_of came brings u) (passed_of came brings v) (came_by a buffer)
-  receives u v a buffer comes keeps =
-      stays_passes (let_in came brings u) (let_in came brings v) u.waiting v.waiting (came_by a buffer) keeps (λ clean. came_so (let_in came brings u) a buffer (comes clean))
+  pub receives : (u v : GuardedWire C D S) (a : Arrival) → (IsClean came brings u → ComesAs (let_in came brings u) a) → Keeps came brings u v
+      → Passes (passed_of came brings u) (passed_of came brings v) (came_by a)
+  receives u v a comes keeps =
+      stays_passes (let_in came brings u) (let_in came brings v) u.waiting v.waiting (came_by a) keeps (λ clean. came_so (let_in came brings u) a (comes clean))
 
-  pub comes_later : (u v : GuardedWire C D S) (a : Arrival) (buffer : List ℕ) → Keeps came brings u v → (IsClean came brings v → ComesAs (let_in came brings v) a buffer)
-      → IsClean came brings u → ComesAs (let_in came brings u) a buffer
-  comes_later u v a buffer keeps comes = comes_then (let_in came brings u) (let_in came brings v) u.waiting v.waiting a buffer keeps comes
+  pub comes_later : (u v : GuardedWire C D S) (a : Arrival) → Keeps came brings u v → (IsClean came brings v → ComesAs (let_in came brings v) a)
+      → IsClean came brings u → ComesAs (let_in came brings u) a
+  comes_later u v a keeps comes = comes_then (let_in came brings u) (let_in came brings v) u.waiting v.waiting a keeps comes
 
 -- what waits is another list of the same
 pub waits_so : (Is : Incoming → Type 0) (u v w : WaitingValue) → w ≡ v → Stays Is Is u v → Stays Is Is u w

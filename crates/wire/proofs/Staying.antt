@@ -1,5 +1,5 @@
 -- What waits stays such as was let in.
-use Rattle.std.proofs.Common.{◌≡◌, ℕ, ◌+◌, ◌-◌, inl, inr, Bool, true, false, List, [], length, drop, take, get_or, set, replicate, sym, ap, subst, arith}
+use Rattle.std.proofs.Common.{◌≡◌, ℕ, ◌+◌, ◌-◌, inl, inr, Bool, true, false, List, [], length, drop, get_or, set, replicate, sym, ap, subst, arith}
 use Rattle.std.specs.Prelude.{Option, Result, Ok, Err, IfOk, Some, None, MatchOption}
 use Rattle.std.specs.List.{All}
 use Rattle.std.specs.declared.net.socket_addr.SocketAddr.{SocketAddr}
@@ -98,16 +98,16 @@ pub are_alike : (A B : Incoming → Type 0) (bytes : List ℕ) → Alike A B →
 are_alike A B bytes alike is = (is.0, (alike is.0).0 is.1, is.2)
 
 -- what comes after a step
-pub comes_then : (A B : Incoming → Type 0) (w v : WaitingValue) (a : Arrival) (buffer : List ℕ) → Stays A B w v → (AllWait B v → ComesAs B a buffer) → AllWait A w → ComesAs A a buffer
-comes_then A B w v arrivals.Nothing buffer stays comes all = tt
-comes_then A B w v (arrivals.Datagram length) buffer stays comes all = are_alike A B (take length buffer) stays.alike (comes (stays.wait all))
-comes_then A B w v arrivals.Failed buffer stays comes all = tt
+pub comes_then : (A B : Incoming → Type 0) (w v : WaitingValue) (a : Arrival) → Stays A B w v → (AllWait B v → ComesAs B a) → AllWait A w → ComesAs A a
+comes_then A B w v arrivals.Nothing stays comes all = tt
+comes_then A B w v (arrivals.Datagram bytes) stays comes all = are_alike A B bytes.items stays.alike (comes (stays.wait all))
+comes_then A B w v arrivals.Failed stays comes all = tt
 
 -- of what comes, each datagram is such
-pub came_so : (Is : Incoming → Type 0) (a : Arrival) (buffer : List ℕ) → ComesAs Is a buffer → AllCame (AreOf Is) (came_by a buffer)
-came_so Is arrivals.Nothing buffer comes = tt
-came_so Is (arrivals.Datagram length) buffer comes = (comes, tt)
-came_so Is arrivals.Failed buffer comes = tt
+pub came_so : (Is : Incoming → Type 0) (a : Arrival) → ComesAs Is a → AllCame (AreOf Is) (came_by a)
+came_so Is arrivals.Nothing comes = tt
+came_so Is (arrivals.Datagram bytes) comes = (comes, tt)
+came_so Is arrivals.Failed comes = tt
 
 -- what is told of a step
 pub stays_passes : (A B : Incoming → Type 0) (w v : WaitingValue) (more : List Passed) → Stays A B w v → (AllWait A w → AllCame (AreOf A) more)

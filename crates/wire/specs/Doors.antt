@@ -1,5 +1,5 @@
 -- What comes in by a door.
-use Rattle.std.specs.Prelude.{◌≡◌, ◌↔◌, ℕ, Bool, List, [], take}
+use Rattle.std.specs.Prelude.{◌≡◌, ◌↔◌, ℕ, Bool, List, []}
 use Rattle.std.specs.List.{All}
 use Rattle.pace.specs.declared.share.Incoming.{Incoming}
 use Rattle.std.specs.declared.net.socket_addr.SocketAddr.{SocketAddr}
@@ -38,11 +38,11 @@ AllWait Is waiting = (place : ℕ) → All Is (share_at place waiting).datagrams
 abbrev pub NoneWaits : WaitingValue → Type 0
 NoneWaits waiting = (place : ℕ) → (share_at place waiting).datagrams ≡ []
 
--- what stands at the front of the buffer is such a packet, whole
-abbrev pub ComesAs : (Incoming → Type 0) → Arrival → List ℕ → Type 0
-ComesAs Is arrivals.Nothing buffer = Unit {0}
-ComesAs Is (arrivals.Datagram length) buffer = AreOf Is (take length buffer)
-ComesAs Is arrivals.Failed buffer = Unit {0}
+-- what arrives is such a packet, whole
+abbrev pub ComesAs : (Incoming → Type 0) → Arrival → Type 0
+ComesAs Is arrivals.Nothing = Unit {0}
+ComesAs Is (arrivals.Datagram bytes) = AreOf Is bytes.items
+ComesAs Is arrivals.Failed = Unit {0}
 
 -- what is let in stays the same
 abbrev pub Alike : (Incoming → Type 0) → (Incoming → Type 0) → Type 0

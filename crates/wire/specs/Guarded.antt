@@ -1,8 +1,8 @@
 -- What a wire behind a door lets in, and what of it waits.
-use Rattle.std.specs.Prelude.{◌≡◌, ◌≤◌, ◌<◌, ℕ, List, [], length, MatchOption, None, Option}
+use Rattle.std.specs.Prelude.{◌≡◌, ◌≤◌, ◌<◌, ℕ, List, [], MatchOption, None, Option, length}
 use Rattle.std.specs.declared.net.socket_addr.SocketAddr.{SocketAddr}
 use Rattle.pace.specs.declared.share.Incoming.{Incoming}
-use Rattle.wire.specs.Arrival.{Fits, came_by}
+use Rattle.wire.specs.Arrival.{came_by}
 use Rattle.wire.specs.Doors.{AllWait, AreOf, ComesAs, LetIn, NoneWaits, Stays}
 use Rattle.wire.specs.Passing.{Passed, Passes, Trace, guarded}
 use Rattle.wire.specs.Strangers.{TellsFirst, later}
@@ -26,11 +26,12 @@ Keeps came brings old new = Stays (let_in came brings old) (let_in came brings n
 abbrev pub passed_of : {C D S : Type 0} → (S → SocketAddr → List ℕ → Type 0) → (D → SocketAddr → List ℕ → Incoming → Type 0) → GuardedWire C D S → Trace
 passed_of came brings w = guarded (AreOf (let_in came brings w)) (IsClean came brings w)
 
--- a wire behind this door over which nothing has passed: no moment was told, and nothing waits
+-- a wire behind this door over which nothing has passed: no moment was told, nothing waits, and the room for what comes has this many bytes
 pub record IsFreshBehind {C D S : Type 0} (behind : D) (w : GuardedWire C D S) : Type 0 where
   pub door : w.door ≡ behind
   pub moment : w.moment ≡ 0
   pub waits : NoneWaits w.waiting
+  pub room : length w.room.items ≡ 12314
 
 module _ {C D S : Type 0} (came : S → SocketAddr → List ℕ → Type 0) (brings : D → SocketAddr → List ℕ → Incoming → Type 0) where
   -- a call leaves a wire that lets in the same, and this has passed over it
@@ -38,11 +39,10 @@ module _ {C D S : Type 0} (came : S → SocketAddr → List ℕ → Type 0) (bri
     pub keeps : Keeps came brings old new
     pub passes : Passes (passed_of came brings old) (passed_of came brings new) more
 
-  -- a receive gives a packet that was let in, whole and no longer than the buffer, or none
-  pub record Receives (old new : GuardedWire C D S) (a : Arrival) (buffer : List ℕ) : Type 0 where
-    pub fits : Fits a (length buffer)
-    pub comes : IsClean came brings old → ComesAs (let_in came brings old) a buffer
-    pub leaves : Leaves old new (came_by a buffer)
+  -- a receive gives a packet that was let in, whole, or none
+  pub record Receives (old new : GuardedWire C D S) (a : Arrival) : Type 0 where
+    pub comes : IsClean came brings old → ComesAs (let_in came brings old) a
+    pub leaves : Leaves old new (came_by a)
 
   -- strangers are told, and nothing has passed over the wire
   pub record TellsStrangers (now : ℕ) (old new : GuardedWire C D S) (strangers : Option Strangers) : Type 0 where

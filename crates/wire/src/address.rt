@@ -1,11 +1,11 @@
 //! Where a station listens, and whether a datagram comes from there.
 
-ghost use Rattle.std.specs.Prelude.{◌≡◌, ◌↔◌, IsTrue, MatchOption, option_copied};
+ghost use Rattle.std.specs.Prelude.{◌↔◌, IsTrue, MatchOption};
 ghost use Rattle.std.specs.List.{All};
-ghost use Rattle.wire.specs.Addresses.{ComesFrom, IsAt, IsFirstAt, address_of};
+ghost use Rattle.wire.specs.Addresses.{ComesFrom, IsAt, IsFirstAt};
 
 use ballots::Member;
-use std::net::{IpAddr, Ipv4Addr, SocketAddr};
+use std::net::{IpAddr, SocketAddr};
 
 /// The address of a member's station.
 #[derive(Clone, Copy, PartialEq, Eq)]
@@ -39,13 +39,6 @@ pub fn place_of(stations: &[Address], sender: SocketAddr) -> Option<usize>
     None
 }
 
-/// The address of a member, of those of all members in order from 1.
-pub fn address_of(stations: &[Address], member: Member) -> Option<&Address>
-    ensures { option_copied result ≡ address_of stations.now member }
-{
-    stations.get(usize::from(member.get()) - 1)
-}
-
 /// Whether a datagram of this sender comes from where this member listens.
 pub fn comes_from(stations: &[Address], member: Member, sender: SocketAddr) -> bool
     ensures { IsTrue result ↔ ComesFrom stations.now member sender }
@@ -54,12 +47,4 @@ pub fn comes_from(stations: &[Address], member: Member, sender: SocketAddr) -> b
         Some(address) => is_at(address, sender),
         None => false,
     }
-}
-
-/// The socket address of a station.
-pub(crate) fn socket_address(address: &Address) -> SocketAddr
-    ensures { IsAt address.now result }
-{
-    let [a, b, c, d] = address.ip;
-    SocketAddr::new(IpAddr::V4(Ipv4Addr::new(a, b, c, d)), address.port)
 }

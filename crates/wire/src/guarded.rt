@@ -1,16 +1,16 @@
 //! A socket behind a door. Of what passes over a socket of the host nothing is known; what is said here is said of any socket, by what came
 //! to it and what it was given.
 
-ghost use Rattle.std.specs.Prelude.{◌≡◌, ◌≤◌, ◌/◌, ◌^◌, ◌-◌, [], ◌∷◌, length, min, IfOk, take, true};
+ghost use Rattle.std.specs.Prelude.{◌≡◌, ◌/◌, ◌^◌, ◌-◌, [], ◌∷◌, min, IfOk};
 ghost use Rattle.std.specs.Duration.{as_nanos};
 ghost use Rattle.wire.specs.Doors.{IsKept};
 ghost use Rattle.wire.specs.Guarded.{IsFreshBehind, Keeps, Leaves, Receives, TellsLost, TellsStrangers, passed_of};
 ghost use Rattle.wire.specs.Passing.{Passes, sent, told};
 
-use crate::address::{Address, socket_address};
+use crate::address::Address;
 use crate::buffer::ask_for_room;
 use crate::door::{Brought, Door};
-use crate::socket::Socket;
+use crate::socket::{Socket, socket_address};
 use crate::strangers::{PAUSE, Strangers, Untold};
 use crate::wire::{Arrival, Wire};
 use ballots::Member;
@@ -58,19 +58,6 @@ fn moment_of(elapsed: Duration) -> u64
 /// How many members these stations are.
 fn count_of(stations: &[Address]) -> u8 {
     u8::try_from(stations.len()).unwrap_or(u8::MAX)
-}
-
-/// Puts a datagram at the front of a buffer, where there is room for all of it.
-fn fill(bytes: &[u8], buffer: &mut [u8]) -> bool
-    ensures fits { result ≡ true → length bytes.now ≤ length buffer.new }
-    ensures bytes { result ≡ true → take (length bytes.now) buffer.new ≡ bytes.now }
-{
-    let length = bytes.len();
-    if buffer.len() < length {
-        return false;
-    }
-    buffer[..length].copy_from_slice(bytes);
-    true
 }
 
 impl<'a, C: Clock, D: Door> GuardedWire<'a, C, D, UdpSocket> {
@@ -171,20 +158,14 @@ impl<'a, C: Clock, D: Door, S: Socket> GuardedWire<'a, C, D, S> {
         !self.waiting.is_empty() || stands(self.take_one())
     }
 
-    /// Takes the datagram whose turn it is, of those that wait in memory. One for which the buffer has no room is lost.
-    fn take_next(&mut self, buffer: &mut [u8]) -> Arrival
-        ensures { Receives S.came D.brings self.old self.new result buffer.new }
+    /// Takes the datagram whose turn it is, of those that wait in memory.
+    fn take_next(&mut self) -> Arrival
+        ensures { Receives S.came D.brings self.old self.new result }
     {
-        let Some(datagram) = self.waiting.take() else {
-            return Arrival::Nothing;
-        };
-        if fill(&datagram.bytes, buffer) {
-            return Arrival::Datagram {
-                length: datagram.bytes.len(),
-            };
+        match self.waiting.take() {
+            Some(datagram) => Arrival::Datagram(datagram.bytes),
+            None => Arrival::Nothing,
         }
-        self.waiting.lose();
-        Arrival::Nothing
     }
 }
 
@@ -198,13 +179,13 @@ impl<'a, C: Clock, D: Door, S: Socket> Wire for GuardedWire<'a, C, D, S> {
         !self.waiting.is_empty()
     }
 
-    fn receive(&mut self, buffer: &mut [u8]) -> Arrival
-        ensures receives { Receives S.came D.brings self.old self.new result buffer.new }
+    fn receive(&mut self) -> Arrival
+        ensures receives { Receives S.came D.brings self.old self.new result }
     {
         if !self.await_one() {
             return Arrival::Failed;
         }
-        self.take_next(buffer)
+        self.take_next()
     }
 
     /// What came meanwhile is taken from the socket, so that what the others send at once does not fill it.

@@ -12,7 +12,7 @@ mod strangers;
 mod udp;
 mod wire;
 
-pub use address::{Address, address_of, comes_from, place_of};
+pub use address::{Address, comes_from, place_of};
 pub use door::{Brought, Door};
 pub use guarded::GuardedWire;
 pub use plain::{PlainDoor, has_mark};

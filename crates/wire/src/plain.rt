@@ -1,9 +1,10 @@
 //! The door of a station without a key: the papers' datagrams, as they come.
 
-ghost use Rattle.std.specs.Prelude.{◌≡◌, IfOk, IfErr};
+ghost use Rattle.std.specs.Prelude.{◌≡◌, IfOk, IfErr, option_copied};
+ghost use Rattle.wire.specs.Addresses.{address_of};
 ghost use Rattle.wire.specs.Plain.{AdmitsPlain, brings_plain, IsAgainst, IsFrom, IsPacketOf, has_mark, names_another, plain_door, reason_against, SendsPlain, sends_plain};
 
-use crate::address::{Address, address_of, place_of};
+use crate::address::{Address, place_of};
 use crate::door::{Brought, Door};
 use crate::reason::Reason;
 use crate::socket::Socket;
@@ -58,6 +59,13 @@ fn packet_of(alloc: Global, sender: Member, bytes: &[u8]) -> Brought
         Ok(bytes) => Brought::Packet(Incoming { sender, bytes }),
         Err(_) => Brought::Lost,
     }
+}
+
+/// The address of a member, of those of all members in order from 1.
+fn address_of(stations: &[Address], member: Member) -> Option<&Address>
+    ensures { option_copied result ≡ address_of stations.now member }
+{
+    stations.get(usize::from(member.get()) - 1)
 }
 
 impl PlainDoor {

@@ -1,10 +1,11 @@
 //! A socket of datagrams, and that of the host.
 
 ghost use Rattle.std.specs.Prelude.{◌≤◌, IfOk, length, take};
+ghost use Rattle.wire.specs.Addresses.{IsAt};
 
-use crate::address::{Address, socket_address};
+use crate::address::Address;
 use std::io;
-use std::net::{SocketAddr, UdpSocket};
+use std::net::{IpAddr, Ipv4Addr, SocketAddr, UdpSocket};
 
 /// A socket of datagrams.
 pub trait Socket: Drop {
@@ -29,6 +30,14 @@ pub trait Socket: Drop {
 
     /// Has it wait for a datagram that does not lie there, as long as it does for one, or not at all.
     fn set_waits(&self, waits: bool) -> io::Result<()>;
+}
+
+/// The socket address of a station.
+pub(crate) fn socket_address(address: &Address) -> SocketAddr
+    ensures { IsAt address.now result }
+{
+    let [a, b, c, d] = address.ip;
+    SocketAddr::new(IpAddr::V4(Ipv4Addr::new(a, b, c, d)), address.port)
 }
 
 /// A socket of the host, of which nothing is known.

@@ -1,19 +1,19 @@
 //! What a station asks of the network.
 
-ghost use Rattle.std.specs.Prelude.{◌≤◌, [], ◌∷◌, length};
-ghost use Rattle.wire.specs.Arrival.{Fits, came_by};
+ghost use Rattle.std.specs.Prelude.{[], ◌∷◌};
+ghost use Rattle.wire.specs.Arrival.{came_by};
 ghost use Rattle.wire.specs.Passing.{Passes, Trace, sent, told, untold};
 
 use crate::strangers::Strangers;
 use ballots::Member;
 
 /// What came within the time limit of a receive.
-#[derive(Clone, Copy, PartialEq, Eq)]
+#[derive(Drop)]
 pub enum Arrival {
     /// Nothing came, or what did is none of a station.
     Nothing,
-    /// A datagram of so many bytes, at the front of the buffer.
-    Datagram { length: usize },
+    /// A datagram of these bytes. It has waited in memory and is handed out, not copied; a wire over a socket hands out 12,314 at most.
+    Datagram(Vec<u8>),
     /// The network failed, otherwise than by the time limit.
     Failed,
 }
@@ -32,9 +32,8 @@ pub trait Wire {
     }
 
     /// Takes one datagram at most: one that waits in memory, or else one that comes within the time limit.
-    fn receive(&mut self, buffer: &mut [u8]) -> Arrival
-        ensures fits { Fits result (length buffer.new) }
-        ensures passes { Passes (passed self.old) (passed self.new) (came_by result buffer.new) };
+    fn receive(&mut self) -> Arrival
+        ensures passes { Passes (passed self.old) (passed self.new) (came_by result) };
 
     /// Sends a datagram to a member, and answers whether the network took it. It may be lost all the same.
     fn send(&mut self, to: Member, bytes: &[u8]) -> bool

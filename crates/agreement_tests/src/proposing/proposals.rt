@@ -6,7 +6,7 @@ ghost use Rattle.std.specs.Prelude.{◌≡◌, ◌≤◌, IfSome};
 use crate::rows::Agreed::{Flood, Ligature, Longest, OneFrame, Packed, Void};
 use crate::rows::{Agreed, At, Voted, ballot, is_entry, lent_vote, member_of, owned, parts};
 use ballots::{Ballot, Member, VoteRef};
-use mail::Seat;
+use packets::Seat;
 use proposer::{BeginRefusal, Beginning, Counted, DueAnswer, Proposal};
 use std::alloc::Global;
 use tape_frames::Entry;

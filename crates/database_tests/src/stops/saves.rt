@@ -4,8 +4,7 @@ ghost use Rattle.saved_rows.specs.Saved.{HasPromise};
 
 use crate::rows::samples::{Sample, is_row, row_of};
 use ballots::{Number, Row};
-use row_groups::{Grouped, SavesAll, Settles};
-use saved_rows::Rows;
+use saved_rows::{Grouped, Rows, SavesAll, Settles};
 use std::alloc::Global;
 use tape_frames::Version;
 

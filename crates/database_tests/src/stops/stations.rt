@@ -5,8 +5,7 @@ use crate::rows::samples::is_entry;
 use ballots::Member;
 use command_ends::End;
 use line_check::Setting;
-use row_groups::{Grouped, SavesAll, Settles};
-use saved_rows::Rows;
+use saved_rows::{Grouped, Rows, SavesAll, Settles};
 use serve_command::{Machine, ServeTask, serve_run};
 use station::{Answer, Membership, Station, StepRefusal};
 use std::alloc::Global;
@@ -108,7 +107,7 @@ struct Still {
 }
 
 impl Wire for Still {
-    fn receive(&mut self, _buffer: &mut [u8]) -> Arrival {
+    fn receive(&mut self) -> Arrival {
         Arrival::Nothing
     }
 

@@ -4,7 +4,7 @@ use Rattle.std.proofs.lemmas.Option.{slice_get-get_or}
 use Rattle.std.proofs.lemmas.Result.{err_from_is_err_and}
 use Rattle.sqlite.specs.State.{HasCleanDisk}
 use Rattle.sqlite.specs.Held.{state}
-use Rattle.row_columns.specs.Layouts.{layout_of}
+use Rattle.acceptor_store.specs.Layouts.{layout_of}
 use Rattle.acceptor_store.proofs.GroupLemmas.{one_staged, all_staged}
 use Rattle.row_table.proofs.AddingLemmas.{kept_then, survives_both}
 use Rattle.acceptor_store.proofs.group.put_each.Goals as goal

@@ -1,6 +1,6 @@
 use Rattle.std.proofs.Common.{◌≡◌}
 use Rattle.sqlite.specs.Held.{state}
-use Rattle.row_columns.specs.Layouts.{layout_of}
+use Rattle.acceptor_store.specs.Layouts.{layout_of}
 use Rattle.acceptor_store.proofs.GroupLemmas.{Staged}
 use Rattle.acceptor_store.proofs.group.put_each.Given as goal
 

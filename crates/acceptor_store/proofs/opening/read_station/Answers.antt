@@ -1,5 +1,5 @@
 use Rattle.std.proofs.Common.{rules, ◌≡◌, inr, refl, Some, None, ◌∙◌}
-use Rattle.row_columns.specs.StationRow.{station_in}
+use Rattle.acceptor_store.specs.StationRow.{station_in}
 use Rattle.acceptor_store.proofs.IdentityLemmas.{same_station}
 use Rattle.acceptor_store.proofs.opening.read_station.Goals as goal
 

@@ -1,6 +1,6 @@
 use Rattle.std.proofs.Common.{rules}
 use Rattle.sqlite.specs.Held.{state}
-use Rattle.row_columns.specs.Layouts.{layout_of}
+use Rattle.acceptor_store.specs.Layouts.{layout_of}
 use Rattle.acceptor_store.proofs.OpeningLemmas.{refuses_station}
 use Rattle.acceptor_store.proofs.opening.take_station.Goals as goal
 

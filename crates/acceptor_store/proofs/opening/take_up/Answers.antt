@@ -4,10 +4,10 @@ use Rattle.sqlite.specs.Effect.{Database}
 use Rattle.sqlite.specs.Held.{state}
 use Rattle.sqlite.specs.State.{HasCleanDisk, IsUnchanged}
 use Rattle.row_table.specs.Tables.{Layout, layout_tree, layout_schema}
-use Rattle.row_columns.specs.Columns.{AreSound}
-use Rattle.row_columns.specs.Layouts.{layout_of}
+use Rattle.acceptor_store.specs.Columns.{AreSound}
+use Rattle.acceptor_store.specs.Layouts.{layout_of}
 use Rattle.acceptor_store.specs.Sqlite.{RefusesRows, RefusesToOpen}
-use Rattle.row_columns.specs.StationRow.{IsStationOf}
+use Rattle.acceptor_store.specs.StationRow.{IsStationOf}
 use Rattle.acceptor_store.proofs.OpeningLemmas.{refuses_to_open}
 use Rattle.acceptor_store.proofs.opening.take_up.Goals as goal
 

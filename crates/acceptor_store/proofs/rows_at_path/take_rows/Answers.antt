@@ -1,6 +1,6 @@
 use Rattle.std.proofs.Common.{rules, ◌≡◌, true, false, refl}
 use Rattle.sqlite.specs.Held.{state}
-use Rattle.row_columns.specs.FoundTables.{has_none}
+use Rattle.acceptor_store.specs.FoundTables.{has_none}
 use Rattle.acceptor_store.proofs.rows_at_path.take_rows.Goals as goal
 
 pub returns-then-has_none : goal.returns-then-has_none

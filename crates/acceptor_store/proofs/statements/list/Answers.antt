@@ -2,8 +2,8 @@ use Rattle.std.proofs.Common.{rules, ◌≡◌, ℕ, true, Some, None, IsTrue, s
 use Rattle.std.specs.List.{AllByRecursion, filter_map}
 use Rattle.row_table.specs.Tables.{layout_tree}
 use Rattle.row_table.specs.Rising.{rise_from, AreListed}
-use Rattle.row_columns.specs.Columns.{damage_in, item_in, saved_in}
-use Rattle.row_columns.specs.Layouts.{layout_of}
+use Rattle.acceptor_store.specs.Columns.{damage_in, item_in, saved_in}
+use Rattle.acceptor_store.specs.Layouts.{layout_of}
 use Rattle.protocol.specs.Rows.{Row}
 use Rattle.saved_rows.specs.Saved.{HasPromise, IsListOf}
 use Rattle.acceptor_store.proofs.ListLemmas.{lists, no_damage}

@@ -3,9 +3,9 @@ use Rattle.std.specs.Prelude.{option_to_list}
 use Rattle.sqlite_value.specs.Order.{Row as Columns}
 use Rattle.row_table.specs.Tables.{layout_tree}
 use Rattle.row_table.specs.Rows.{columns_at}
-use Rattle.row_columns.specs.Layouts.{layout_of}
+use Rattle.acceptor_store.specs.Layouts.{layout_of}
 use Rattle.protocol.specs.Rows.{blank}
-use Rattle.row_columns.specs.Columns.{row_in, row_or_blank}
+use Rattle.acceptor_store.specs.Columns.{row_in, row_or_blank}
 use Rattle.acceptor_store.proofs.statements.read.Goals as goal
 
 popped : (o : Option Columns) (rest : List Columns) (c : Columns) → option_to_list o ≡ rest ++ c ∷ [] → o ≡ Some c

@@ -7,8 +7,8 @@ use Rattle.row_table.specs.Tables.Layout.{First}
 use Rattle.row_table.specs.Rows.{WasKept}
 use Rattle.row_table.specs.Entries.{with_entries}
 use Rattle.saved_rows.specs.Saved.{IsListOf}
-use Rattle.row_columns.specs.Columns.{saved_in}
-use Rattle.row_columns.specs.RowsAsEntries.{MovesMap, HoldsMap}
+use Rattle.acceptor_store.specs.Columns.{saved_in}
+use Rattle.acceptor_store.specs.RowsAsEntries.{MovesMap, HoldsMap}
 use Rattle.acceptor_store.specs.Sqlite.{Stands, WentOver}
 use Rattle.acceptor_store.proofs.StandLemmas.{IsSettled, stands_kept, leaves_now, holds_all}
 use Rattle.acceptor_store.proofs.UpgradeLemmas.{ok_after, err_after, over_since, kept_since, left_since}

@@ -4,8 +4,8 @@ use Rattle.std.specs.Prelude.{IfSome}
 use Rattle.protocol.specs.Entries.{Taped}
 use Rattle.saved_rows.specs.declared.memory.MemoryRows.{MemoryRows}
 use Rattle.saved_rows.specs.Memory.{saved}
-use Rattle.row_groups.specs.Groups.{with_all}
-use Rattle.row_groups.specs.declared.grouped.Grouped.{Grouped}
+use Rattle.saved_rows.specs.Groups.{with_all}
+use Rattle.saved_rows.specs.declared.grouped.Grouped.{Grouped}
 use Rattle.days.proofs.Playing.{day_of_two}
 use Rattle.days.proofs.examples.release_of_two.Goals as goal
 

@@ -1,8 +1,8 @@
 -- The offer, then the withdrawal, and then the search.
 use Rattle.std.proofs.Common.{rules, ◌≡◌, sym, ◌∙◌}
 use Rattle.command_ends.specs.Ends.{end_of}
-use Rattle.exchange.specs.Events.{ended}
-use Rattle.exchange.proofs.Stretches.{ends_badly}
+use Rattle.driver.specs.Events.{ended}
+use Rattle.driver.proofs.Stretches.{ends_badly}
 use Rattle.driver.specs.Driving.{known, fate_of, post_of}
 use Rattle.driver.proofs.Driven.{answered, and_then, hands_then, of_form}
 use Rattle.serve_command.specs.Serving.{IsOffer, IsLaterAsking, IsAsking}

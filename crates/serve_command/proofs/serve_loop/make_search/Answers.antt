@@ -1,7 +1,7 @@
 -- A search is one step, at the moment of the clock.
 use Rattle.std.proofs.Common.{ℕ, Option, [], refl, sym, subst}
 use Rattle.command_ends.specs.declared.end.End.TheVariants as ends
-use Rattle.exchange.specs.Events.{ended}
+use Rattle.driver.specs.Events.{ended}
 use Rattle.wire.proofs.Passing.{Passes-nil}
 use Rattle.driver.specs.Driving.{known, fate_of, post_of}
 use Rattle.driver.proofs.Driven.{nothing, of_form}

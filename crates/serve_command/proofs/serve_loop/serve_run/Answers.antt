@@ -1,5 +1,5 @@
 -- What was asked and the turns, over the output behind the printer.
-use Rattle.std.proofs.Common.{rules, ◌≡◌, ◌∙◌, false, inl, refl}
+use Rattle.std.proofs.Common.{rules, ◌≡◌, ◌∙◌, false, refl}
 use Rattle.command_ends.specs.declared.end.End.TheVariants as ends
 use Rattle.driver.specs.Driving.{known, post, post_of}
 use Rattle.driver.proofs.Driven.{answered, came_from, drove_kept, left_so, seen_from, stays, untouched}
@@ -16,21 +16,12 @@ returns-then-stopped g c = record {
   goes_on = λ done. absurd (c.tell.ensures.fails done);
 }
 
-pub returns-in_default : goal.returns-in_default
-returns-in_default g c = record {
-  done =
-      untouched (known g.R.Rows g.R.Settles.is_settled g.N.Wire.passed (prints g.W.Write.contents)) _ (printing_fates g.W.Write.contents) c.args.machine.now.station c.args.machine.now.wire c.args.out.now
-      ends.Memory c.tell-in_default.result (IsRun c.args.task) c.tell-in_default.ensures.end c.tell-in_default.ensures.fails (inl refl);
-  was_kept = λ kept. kept;
-  goes_on = λ done. absurd (c.tell-in_default.ensures.fails done);
-}
-
-pub returns-in-Ok-ask_and_turn : goal.returns-in-Ok-ask_and_turn
-returns-in-Ok-ask_and_turn g c =
+pub returns-in-Ok : goal.returns-in-Ok
+returns-in-Ok g c =
     let k = known g.R.Rows g.R.Settles.is_settled g.N.Wire.passed (prints g.W.Write.contents) in
     let last = c.ask_and_turn.new.driver in
     let form = IsRun c.args.task in
-    let drove = c.in-Ok-ask_and_turn.ensures in
+    let drove = c.in-Ok.ensures in
     let was = post c.args.machine.now.station c.args.machine.now.wire c.args.out.now in
     let there = post last.station.now last.wire.now last.sink.out.now in
     let station : last.station.ghost_name ≡ _ = drove.hands.0 in
@@ -48,8 +39,8 @@ returns-in-Ok-ask_and_turn g c =
       goes_on = λ done. search rules;
     }
 
-pub returns : goal.returns
-returns g c =
+pub returns-in-Err : goal.returns-in-Err
+returns-in-Err g c =
     let k = known g.R.Rows g.R.Settles.is_settled g.N.Wire.passed (prints g.W.Write.contents) in
     let last = c.ask_and_turn.new.driver in
     let form = IsRun c.args.task in

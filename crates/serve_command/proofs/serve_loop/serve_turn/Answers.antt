@@ -2,8 +2,8 @@
 use Rattle.std.proofs.Common.{rules, ◌≡◌, ◌∙◌, sym, false, Result, Ok, Err, OnOk}
 use Rattle.command_ends.specs.declared.end.End.TheVariants as ends
 use Rattle.command_ends.specs.declared.fault.Fault.{Fault}
-use Rattle.exchange.specs.Events.{ended}
-use Rattle.exchange.proofs.Stretches.{ends_badly}
+use Rattle.driver.specs.Events.{ended}
+use Rattle.driver.proofs.Stretches.{ends_badly}
 use Rattle.driver.specs.Driving.{known, post, post_of, IsTurn}
 use Rattle.driver.proofs.Driven.{answered, came_from, drove_kept, left_so, seen_from}
 use Rattle.serve_command.specs.Serving.{prints}

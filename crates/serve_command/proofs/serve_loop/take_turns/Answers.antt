@@ -2,9 +2,9 @@
 use Rattle.std.proofs.Common.{rules, ◌≡◌, ◌+◌, ◌∙◌, refl, sym}
 use Rattle.command_ends.specs.Ends.{end_of}
 use Rattle.command_ends.specs.declared.end.End.TheVariants.{Done}
-use Rattle.exchange.specs.Events.{ended}
+use Rattle.driver.specs.Events.{ended}
 use Rattle.wire.proofs.Passing.{Passes-nil}
-use Rattle.exchange.proofs.Stretches.{ends_badly}
+use Rattle.driver.proofs.Stretches.{ends_badly}
 use Rattle.driver.specs.Driving.{known, fate_of, post_of, IsTurn, AtClock, Then}
 use Rattle.driver.proofs.Driven.{nothing, and_then, hands_then, of_form, answered}
 use Rattle.serve_command.specs.Serving.{AreTurns, none, one_more}

@@ -2,8 +2,8 @@ use Rattle.std.proofs.Common.{rules, ◌≡◌, ◌⊎◌, ◌++◌, ◌∷◌, 
 use Rattle.std.specs.Prelude.{IsSome}
 use Rattle.sqlite_value.specs.Order.{column}
 use Rattle.row_table.specs.declared.layout.Layout.{Layout}
-use Rattle.row_columns.specs.Layouts.{layout_of}
-use Rattle.row_columns.specs.Columns.{row_in, damage_of}
+use Rattle.acceptor_store.specs.Layouts.{layout_of}
+use Rattle.acceptor_store.specs.Columns.{row_in, damage_of}
 use Rattle.saved_rows.specs.declared.fault.RowsFault.{RowsFault}
 use Rattle.acceptor_store.specs.Sqlite.{IsRefusal}
 use Rattle.acceptor_store.specs.Reading.{HasSeen}

@@ -1,17 +1,17 @@
-use Rattle.std.proofs.Common.{rules, ◌≡◌, ◌<◌, ℕ, IsTrue, false, ap, sym, ◌∙◌, refl}
+use Rattle.std.proofs.Common.{rules, ◌≡◌, ◌<◌, ℕ, IsTrue, ap, sym, ◌∙◌, refl}
 use Rattle.sqlite.specs.Held.{state}
 use Rattle.sqlite.specs.State.{HasCleanDisk}
 use Rattle.protocol.specs.Versions.{Version, One, Two}
 use Rattle.tape_frames.specs.Entries.{version_of}
 use Rattle.row_table.specs.Tables.{Layout}
-use Rattle.row_columns.specs.Columns.{saved_in, version_in}
-use Rattle.row_columns.specs.Layouts.{layout_of, layout_now, made_in}
-use Rattle.acceptor_store.proofs.StandLemmas.{still, none_saved}
+use Rattle.acceptor_store.specs.Columns.{saved_in, version_in}
+use Rattle.acceptor_store.specs.Layouts.{layout_of, made_in}
+use Rattle.acceptor_store.proofs.StandLemmas.{none_saved}
 use Rattle.acceptor_store.proofs.RestLemmas.{made_rests}
 use Rattle.acceptor_store.proofs.sqlite_rows.SqliteRows.create.Goals as goal
 
 -- tables that are made for a version keep rows of it
-made_version : (v : Version) → version_in (layout_now (made_in v) false) ≡ v
+made_version : (v : Version) → version_in (made_in v) ≡ v
 made_version One = refl
 made_version Two = refl
 
@@ -19,7 +19,7 @@ pub returns-clause-made : goal.returns-clause-made
 returns-clause-made g c =
     let i = c.args.identity in
     let new = state g.S.Store c.make_tables.new.conn in
-    let laid : layout_now (layout_of c.made_in.result) false ≡ made_in (version_of c.args.version) = still (layout_of c.made_in.result) ∙ c.made_in.ensures in
+    let laid : layout_of c.made_in-layout.result ≡ made_in (version_of c.args.version) = c.made_in-layout.ensures in
     let empty = λ (alone : IsTrue c.is_empty-alone.result). sym c.schema-2.ensures.value ∙ c.is_empty-alone.ensures.empty alone in
     let blank = λ (clean : HasCleanDisk new) (alone : IsTrue c.is_empty-alone.result) (n : ℕ).
     ap (λ (l : Layout). saved_in l new.now.trees n) laid
@@ -34,9 +34,9 @@ returns-clause-made g c =
       ours = λ e. (c.is_empty-alone.ensures.full (c.schema-2.ensures.value ∙ e), tt);
       blank = λ kept. blank kept.0 kept.1.0;
       identity = refl;
-      layout = c.made_in.ensures;
+      layout = c.made_in-layout.ensures;
       fresh = refl;
-      version = ap (λ (l : Layout). version_in (layout_now l false)) c.made_in.ensures ∙ made_version (version_of c.args.version);
+      version = ap version_in c.made_in-layout.ensures ∙ made_version (version_of c.args.version);
       unstopped = refl;
       clean = c.make_tables.ensures.ends.clean;
       crash = λ kept. c.in_default.ensures.lasting kept.0 (empty kept.1.0);

@@ -1,21 +1,24 @@
-use Rattle.std.proofs.Common.{rules, ◌≡◌, false, IsTrue}
+use Rattle.std.proofs.Common.{rules, ◌≡◌, false, IsTrue, inl, refl}
 use Rattle.sqlite.specs.Held.{state}
 use Rattle.row_table.specs.Tables.{layout_schema}
-use Rattle.row_columns.specs.Layouts.{layout_of}
+use Rattle.acceptor_store.specs.Layouts.{layout_of}
 use Rattle.acceptor_store.proofs.StandLemmas.{IsSettled, taken_stands}
 use Rattle.acceptor_store.proofs.RestLemmas.{rests}
 use Rattle.acceptor_store.proofs.sqlite_rows.SqliteRows.open.Goals as goal
 
 pub invariant_of-result : goal.invariant_of-result
-invariant_of-result g c running ours =
-    let old = c.args.conn in
-    let new = c.take_up.new.conn in
-    let layout = layout_of c.in-Ok-take_up.taken.0 in
-    let tables : (state g.S.Store old).now.schema ≡ layout_schema layout = search rules in
-    let free : IsTrue c.is_autocommit.result = search rules in
-    let alone : old.in_transaction ≡ false = search rules in
-    taken_stands g.S.Store old new layout c.in-Ok-take_up.taken.1 tables c.schema.ensures.live (λ clean. c.in-Ok-take_up.ensures.holds clean layout tables)
-    (λ clean. c.in-Ok-take_up.ensures.serves clean layout tables alone (c.is_autocommit.ensures.settled free)) (λ clean. c.in-Ok-take_up.ensures.unchanged clean layout tables)
+invariant_of-result g c = (
+  inl refl,
+  λ running ours.
+      let old = c.args.conn in
+      let new = c.take_up.new.conn in
+      let layout = layout_of c.in-Ok-take_up.taken.0 in
+      let tables : (state g.S.Store old).now.schema ≡ layout_schema layout = search rules in
+      let free : IsTrue c.is_autocommit.result = search rules in
+      let alone : old.in_transaction ≡ false = search rules in
+      taken_stands g.S.Store old new layout c.in-Ok-take_up.taken.1 tables c.schema.ensures.live (λ clean. c.in-Ok-take_up.ensures.holds clean layout tables)
+      (λ clean. c.in-Ok-take_up.ensures.serves clean layout tables alone (c.is_autocommit.ensures.settled free)) (λ clean. c.in-Ok-take_up.ensures.unchanged clean layout tables),
+)
 
 pub returns-in-Ok-take_up-clause-taken : goal.returns-in-Ok-take_up-clause-taken
 returns-in-Ok-take_up-clause-taken g c = record {

@@ -1,10 +1,7 @@
-use Rattle.std.proofs.Common.{rules, ◌≡◌, false, true≢false, IsTrue, sym, ◌∙◌, subst}
+use Rattle.std.proofs.Common.{rules, ◌≡◌, false, true≢false, IsTrue, sym, ◌∙◌}
 use Rattle.sqlite.specs.Held.{state}
-use Rattle.row_table.specs.Tables.{Layout}
-use Rattle.row_columns.specs.Layouts.{layout_of, layout_now}
-use Rattle.row_columns.specs.Columns.{saved_in}
+use Rattle.acceptor_store.specs.Layouts.{layout_of}
 use Rattle.acceptor_store.specs.Sqlite.{Stands}
-use Rattle.acceptor_store.specs.Reading.{SeesAll, SeesFront}
 use Rattle.acceptor_store.proofs.StandLemmas.{same_rows, was_clean}
 use Rattle.acceptor_store.proofs.sqlite_rows.SqliteRows.visit.Goals as goal
 
@@ -25,11 +22,8 @@ returns-in-Err-clause-reads g c = record {
             λ stopped. absurd (true≢false (sym stopped ∙ still)),
             λ kept.
                 let running : c.self.inside.stopped ≡ false = search rules in
-                let layout = layout_now (layout_of c.self.inside.was) c.self.inside.upgraded in
-                let stood : Stands g.S.Store layout c.self.inside.conn c.self.inside.identity = c.self.invariant running kept.1 in
-                let is : layout_of c.layout_now-layout.result ≡ layout = c.layout_now-layout.ensures in
-                let stands : Stands g.S.Store (layout_of c.layout_now-layout.result) c.self.inside.conn c.self.inside.identity =
-                subst (λ (l : Layout). Stands g.S.Store l c.self.inside.conn c.self.inside.identity) (sym is) stood in
+                let layout = layout_of c.self.inside.layout in
+                let stands : Stands g.S.Store layout c.self.inside.conn c.self.inside.identity = c.self.invariant.1 running kept.1 in
                 let old = state g.S.Store c.self.inside.conn in
                 let new = state g.S.Store c.show_all.new.conn in
                 c.in-Err.ensures.refusal stands.serves kept.0 (λ opened. (stands.holds (was_clean old new c.show_all.ensures.serving.clean kept.0) opened).holds.sound),
@@ -41,11 +35,8 @@ returns-in-Err-clause-reads g c = record {
   };
   same = rw (← c.self.view_is) (λ kept opened.
       let running : c.self.inside.stopped ≡ false = search rules in
-      let layout = layout_now (layout_of c.self.inside.was) c.self.inside.upgraded in
-      let stood : Stands g.S.Store layout c.self.inside.conn c.self.inside.identity = c.self.invariant running kept.1 in
-      let is : layout_of c.layout_now-layout.result ≡ layout = c.layout_now-layout.ensures in
-      let stands : Stands g.S.Store (layout_of c.layout_now-layout.result) c.self.inside.conn c.self.inside.identity =
-      subst (λ (l : Layout). Stands g.S.Store l c.self.inside.conn c.self.inside.identity) (sym is) stood in
+      let layout = layout_of c.self.inside.layout in
+      let stands : Stands g.S.Store layout c.self.inside.conn c.self.inside.identity = c.self.invariant.1 running kept.1 in
       let old = state g.S.Store c.self.inside.conn in
       let new = state g.S.Store c.show_all.new.conn in
       same_rows layout old new (c.show_all.ensures.serving.same stands.serves kept.0 opened).same);
@@ -56,38 +47,29 @@ returns-in-Err-clause-reads g c = record {
 pub returns-in-Ok-clause-rows : goal.returns-in-Ok-clause-rows
 returns-in-Ok-clause-rows g c = rw (← c.self.view_is) (λ kept.
     let running : c.self.inside.stopped ≡ false = search rules in
-    let layout = layout_now (layout_of c.self.inside.was) c.self.inside.upgraded in
-    let stood : Stands g.S.Store layout c.self.inside.conn c.self.inside.identity = c.self.invariant running kept.1 in
-    let is : layout_of c.layout_now-layout.result ≡ layout = c.layout_now-layout.ensures in
-    let stands : Stands g.S.Store (layout_of c.layout_now-layout.result) c.self.inside.conn c.self.inside.identity =
-    subst (λ (l : Layout). Stands g.S.Store l c.self.inside.conn c.self.inside.identity) (sym is) stood in
+    let layout = layout_of c.self.inside.layout in
+    let stands : Stands g.S.Store layout c.self.inside.conn c.self.inside.identity = c.self.invariant.1 running kept.1 in
     let old = state g.S.Store c.self.inside.conn in
     let new = state g.S.Store c.show_all.new.conn in
     let sound = λ (opened : IsTrue old.is_open). (stands.holds (was_clean old new c.show_all.ensures.serving.clean kept.0) opened).holds.sound in
-    λ sure. subst (λ (l : Layout). SeesAll g.V.RowVisitor.saw c.args.visitor.now c.show_all.new.visitor (saved_in l old.now.trees)) is (c.in-Ok.ensures.seen stands.serves kept.0 sound sure))
+    λ sure. c.in-Ok.ensures.seen stands.serves kept.0 sound sure)
 
 pub returns-in-Ok-clause-front : goal.returns-in-Ok-clause-front
 returns-in-Ok-clause-front g c = rw (← c.self.view_is) (λ kept.
     let running : c.self.inside.stopped ≡ false = search rules in
-    let layout = layout_now (layout_of c.self.inside.was) c.self.inside.upgraded in
-    let stood : Stands g.S.Store layout c.self.inside.conn c.self.inside.identity = c.self.invariant running kept.1 in
-    let is : layout_of c.layout_now-layout.result ≡ layout = c.layout_now-layout.ensures in
-    let stands : Stands g.S.Store (layout_of c.layout_now-layout.result) c.self.inside.conn c.self.inside.identity =
-    subst (λ (l : Layout). Stands g.S.Store l c.self.inside.conn c.self.inside.identity) (sym is) stood in
+    let layout = layout_of c.self.inside.layout in
+    let stands : Stands g.S.Store layout c.self.inside.conn c.self.inside.identity = c.self.invariant.1 running kept.1 in
     let old = state g.S.Store c.self.inside.conn in
     let new = state g.S.Store c.show_all.new.conn in
     let sound = λ (opened : IsTrue old.is_open). (stands.holds (was_clean old new c.show_all.ensures.serving.clean kept.0) opened).holds.sound in
-    subst (λ (l : Layout). SeesFront g.V.RowVisitor.saw c.args.visitor.now c.show_all.new.visitor (saved_in l old.now.trees)) is (c.show_all.ensures.front stands.serves kept.0 sound))
+    c.show_all.ensures.front stands.serves kept.0 sound)
 
 pub returns-in-Err-clause-front : goal.returns-in-Err-clause-front
 returns-in-Err-clause-front g c = rw (← c.self.view_is) (λ kept.
     let running : c.self.inside.stopped ≡ false = search rules in
-    let layout = layout_now (layout_of c.self.inside.was) c.self.inside.upgraded in
-    let stood : Stands g.S.Store layout c.self.inside.conn c.self.inside.identity = c.self.invariant running kept.1 in
-    let is : layout_of c.layout_now-layout.result ≡ layout = c.layout_now-layout.ensures in
-    let stands : Stands g.S.Store (layout_of c.layout_now-layout.result) c.self.inside.conn c.self.inside.identity =
-    subst (λ (l : Layout). Stands g.S.Store l c.self.inside.conn c.self.inside.identity) (sym is) stood in
+    let layout = layout_of c.self.inside.layout in
+    let stands : Stands g.S.Store layout c.self.inside.conn c.self.inside.identity = c.self.invariant.1 running kept.1 in
     let old = state g.S.Store c.self.inside.conn in
     let new = state g.S.Store c.show_all.new.conn in
     let sound = λ (opened : IsTrue old.is_open). (stands.holds (was_clean old new c.show_all.ensures.serving.clean kept.0) opened).holds.sound in
-    subst (λ (l : Layout). SeesFront g.V.RowVisitor.saw c.args.visitor.now c.show_all.new.visitor (saved_in l old.now.trees)) is (c.show_all.ensures.front stands.serves kept.0 sound))
+    c.show_all.ensures.front stands.serves kept.0 sound)

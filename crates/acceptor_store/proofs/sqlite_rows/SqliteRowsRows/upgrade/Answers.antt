@@ -3,40 +3,34 @@ use Rattle.sqlite.specs.Held.{state}
 use Rattle.sqlite_trees.specs.Tree.{Trees}
 use Rattle.row_table.specs.Tables.{Layout}
 use Rattle.saved_rows.specs.Saved.{SameRows}
-use Rattle.row_columns.specs.Layouts.{layout_of, layout_now}
-use Rattle.acceptor_store.specs.Sqlite.{IsOfStation, Stands, WentOver}
-use Rattle.row_columns.specs.Columns.{saved_in}
-use Rattle.acceptor_store.proofs.StandLemmas.{once_over, same_rows}
+use Rattle.acceptor_store.specs.Layouts.{layout_of, upgraded_from}
+use Rattle.acceptor_store.specs.Sqlite.{IsOfStation, Stands, StemsFrom, WentOver}
+use Rattle.acceptor_store.specs.Columns.{saved_in}
+use Rattle.acceptor_store.proofs.StandLemmas.{same_rows, upgrade_stems}
 use Rattle.acceptor_store.proofs.sqlite_rows.SqliteRowsRows.upgrade.Goals as goal
 
 pub invariant_of-self-in-Ok : goal.invariant_of-self-in-Ok
-invariant_of-self-in-Ok g c running ours =
-    let layout = layout_now (layout_of c.self.inside.was) c.self.inside.upgraded in
-    let stood : Stands g.S.Store layout c.self.inside.conn c.self.inside.identity = c.self.invariant running ours in
-    let is : layout_of c.layout_now-layout.result ≡ layout = c.layout_now-layout.ensures in
-    let stands : Stands g.S.Store (layout_of c.layout_now-layout.result) c.self.inside.conn c.self.inside.identity =
-    subst (λ (l : Layout). Stands g.S.Store l c.self.inside.conn c.self.inside.identity) (sym is) stood in
-    let over = c.in-Ok.ensures.over c.self.inside.identity stands in
-    let after : Stands g.S.Store (layout_now (layout_of c.layout_now-layout.result) true) c.go_over.new.conn c.self.inside.identity =
-    record { serves = λ clean. (over clean).stands.serves clean; holds = λ clean. (over clean).stands.holds clean } in
-    subst (λ (l : Layout). Stands g.S.Store l c.go_over.new.conn c.self.inside.identity) (ap (λ l. layout_now l true) is ∙ once_over (layout_of c.self.inside.was) c.self.inside.upgraded) after
+invariant_of-self-in-Ok g c = (
+  subst (StemsFrom (layout_of c.self.inside.was)) (sym c.upgraded_from-self-inside.ensures) (upgrade_stems (layout_of c.self.inside.was) (layout_of c.self.inside.layout) c.self.invariant.0),
+  λ running ours.
+      let layout = layout_of c.self.inside.layout in
+      let stands : Stands g.S.Store layout c.self.inside.conn c.self.inside.identity = c.self.invariant.1 running ours in
+      let over = c.in-Ok.ensures.over c.self.inside.identity stands in
+      let after : Stands g.S.Store (upgraded_from layout) c.go_over.new.conn c.self.inside.identity =
+      record { serves = λ clean. (over clean).stands.serves clean; holds = λ clean. (over clean).stands.holds clean } in
+      subst (λ (l : Layout). Stands g.S.Store l c.go_over.new.conn c.self.inside.identity) (sym c.upgraded_from-self-inside.ensures) after,
+)
 
 pub returns-in-Ok-clause-same : goal.returns-in-Ok-clause-same
 returns-in-Ok-clause-same g c = rw (← c.self.view_is) (λ kept opened.
     let running : c.self.inside.stopped ≡ false = search rules in
-    let layout = layout_now (layout_of c.self.inside.was) c.self.inside.upgraded in
-    let stood : Stands g.S.Store layout c.self.inside.conn c.self.inside.identity = c.self.invariant running kept.1 in
-    let is : layout_of c.layout_now-layout.result ≡ layout = c.layout_now-layout.ensures in
-    let stands : Stands g.S.Store (layout_of c.layout_now-layout.result) c.self.inside.conn c.self.inside.identity =
-    subst (λ (l : Layout). Stands g.S.Store l c.self.inside.conn c.self.inside.identity) (sym is) stood in
+    let layout = layout_of c.self.inside.layout in
+    let stands : Stands g.S.Store layout c.self.inside.conn c.self.inside.identity = c.self.invariant.1 running kept.1 in
     let old = state g.S.Store c.self.inside.conn in
     let new = state g.S.Store c.go_over.new.conn in
     let went : WentOver g.S.Store layout c.self.inside.identity c.self.inside.conn c.go_over.new.conn =
-    subst (λ (l : Layout). WentOver g.S.Store l c.self.inside.identity c.self.inside.conn c.go_over.new.conn) is (c.in-Ok.ensures.over c.self.inside.identity stands kept.0) in
-    let leads : layout_now layout true ≡ layout_now (layout_of c.self.inside.was) true = once_over (layout_of c.self.inside.was) c.self.inside.upgraded in
-    let same : SameRows (saved_in layout old.now.trees) (saved_in (layout_now (layout_of c.self.inside.was) true) new.now.trees) =
-    subst (λ (l : Layout). SameRows (saved_in layout old.now.trees) (saved_in l new.now.trees)) leads went.same in
-    same)
+    c.in-Ok.ensures.over c.self.inside.identity stands kept.0 in
+    subst (λ (l : Layout). SameRows (saved_in layout old.now.trees) (saved_in l new.now.trees)) (sym c.upgraded_from-self-inside.ensures) went.same)
 
 pub returns-in-Ok-clause-call : goal.returns-in-Ok-clause-call
 returns-in-Ok-clause-call g c = record {
@@ -48,30 +42,22 @@ returns-in-Ok-clause-call g c = record {
       was_kept = search rules;
       was_open = rw (← c.self.view_is) (λ kept opened.
           let running : c.self.inside.stopped ≡ false = search rules in
-          let layout = layout_now (layout_of c.self.inside.was) c.self.inside.upgraded in
-          let stood : Stands g.S.Store layout c.self.inside.conn c.self.inside.identity = c.self.invariant running kept.1 in
-          let is : layout_of c.layout_now-layout.result ≡ layout = c.layout_now-layout.ensures in
-          let stands : Stands g.S.Store (layout_of c.layout_now-layout.result) c.self.inside.conn c.self.inside.identity =
-          subst (λ (l : Layout). Stands g.S.Store l c.self.inside.conn c.self.inside.identity) (sym is) stood in
+          let layout = layout_of c.self.inside.layout in
+          let stands : Stands g.S.Store layout c.self.inside.conn c.self.inside.identity = c.self.invariant.1 running kept.1 in
           let old = state g.S.Store c.self.inside.conn in
           let new = state g.S.Store c.go_over.new.conn in
           let went : WentOver g.S.Store layout c.self.inside.identity c.self.inside.conn c.go_over.new.conn =
-          subst (λ (l : Layout). WentOver g.S.Store l c.self.inside.identity c.self.inside.conn c.go_over.new.conn) is (c.in-Ok.ensures.over c.self.inside.identity stands kept.0) in
-          let leads : layout_now layout true ≡ layout_now (layout_of c.self.inside.was) true = once_over (layout_of c.self.inside.was) c.self.inside.upgraded in
+          c.in-Ok.ensures.over c.self.inside.identity stands kept.0 in
           went.was_open);
     };
     opened = (λ kept.
         let running : c.self.inside.stopped ≡ false = search rules in
-        let layout = layout_now (layout_of c.self.inside.was) c.self.inside.upgraded in
-        let stood : Stands g.S.Store layout c.self.inside.conn c.self.inside.identity = c.self.invariant running kept.1 in
-        let is : layout_of c.layout_now-layout.result ≡ layout = c.layout_now-layout.ensures in
-        let stands : Stands g.S.Store (layout_of c.layout_now-layout.result) c.self.inside.conn c.self.inside.identity =
-        subst (λ (l : Layout). Stands g.S.Store l c.self.inside.conn c.self.inside.identity) (sym is) stood in
+        let layout = layout_of c.self.inside.layout in
+        let stands : Stands g.S.Store layout c.self.inside.conn c.self.inside.identity = c.self.invariant.1 running kept.1 in
         let old = state g.S.Store c.self.inside.conn in
         let new = state g.S.Store c.go_over.new.conn in
         let went : WentOver g.S.Store layout c.self.inside.identity c.self.inside.conn c.go_over.new.conn =
-        subst (λ (l : Layout). WentOver g.S.Store l c.self.inside.identity c.self.inside.conn c.go_over.new.conn) is (c.in-Ok.ensures.over c.self.inside.identity stands kept.0) in
-        let leads : layout_now layout true ≡ layout_now (layout_of c.self.inside.was) true = once_over (layout_of c.self.inside.was) c.self.inside.upgraded in
+        c.in-Ok.ensures.over c.self.inside.identity stands kept.0 in
         went.is_open);
     blames = tt;
   };
@@ -83,44 +69,32 @@ returns-in-Ok-clause-call g c = record {
 pub returns-in-Ok-clause-crash_ok : goal.returns-in-Ok-clause-crash_ok
 returns-in-Ok-clause-crash_ok g c = rw (← c.self.view_is) (λ kept left may.
     let running : c.self.inside.stopped ≡ false = search rules in
-    let layout = layout_now (layout_of c.self.inside.was) c.self.inside.upgraded in
-    let stood : Stands g.S.Store layout c.self.inside.conn c.self.inside.identity = c.self.invariant running kept.1 in
-    let is : layout_of c.layout_now-layout.result ≡ layout = c.layout_now-layout.ensures in
-    let stands : Stands g.S.Store (layout_of c.layout_now-layout.result) c.self.inside.conn c.self.inside.identity =
-    subst (λ (l : Layout). Stands g.S.Store l c.self.inside.conn c.self.inside.identity) (sym is) stood in
+    let layout = layout_of c.self.inside.layout in
+    let stands : Stands g.S.Store layout c.self.inside.conn c.self.inside.identity = c.self.invariant.1 running kept.1 in
     let old = state g.S.Store c.self.inside.conn in
     let new = state g.S.Store c.go_over.new.conn in
     let went : WentOver g.S.Store layout c.self.inside.identity c.self.inside.conn c.go_over.new.conn =
-    subst (λ (l : Layout). WentOver g.S.Store l c.self.inside.identity c.self.inside.conn c.go_over.new.conn) is (c.in-Ok.ensures.over c.self.inside.identity stands kept.0) in
-    let leads : layout_now layout true ≡ layout_now (layout_of c.self.inside.was) true = once_over (layout_of c.self.inside.was) c.self.inside.upgraded in
-    let same : SameRows (saved_in layout old.now.trees) (saved_in (layout_now (layout_of c.self.inside.was) true) new.now.trees) =
-    subst (λ (l : Layout). SameRows (saved_in layout old.now.trees) (saved_in l new.now.trees)) leads went.same in
-    λ n. ap (λ m. m n) may.2 ∙ ap (λ (t : Trees). saved_in (layout_now (layout_of c.self.inside.was) true) t n) (went.crash may.0 may.1) ∙ same n)
+    c.in-Ok.ensures.over c.self.inside.identity stands kept.0 in
+    let is : layout_of c.upgraded_from-self-inside.result ≡ upgraded_from layout = c.upgraded_from-self-inside.ensures in
+    λ n. ap (λ m. m n) may.2 ∙ ap (λ (l : Layout). saved_in l may.0 n) is ∙ ap (λ (t : Trees). saved_in (upgraded_from layout) t n) (went.crash may.0 may.1) ∙ went.same n)
 
 pub returns-in-Ok-clause-crash_station : goal.returns-in-Ok-clause-crash_station
 returns-in-Ok-clause-crash_station g c = rw (← c.self.view_is) (λ kept db may.
     let running : c.self.inside.stopped ≡ false = search rules in
-    let layout = layout_now (layout_of c.self.inside.was) c.self.inside.upgraded in
-    let stood : Stands g.S.Store layout c.self.inside.conn c.self.inside.identity = c.self.invariant running kept.1 in
-    let is : layout_of c.layout_now-layout.result ≡ layout = c.layout_now-layout.ensures in
-    let stands : Stands g.S.Store (layout_of c.layout_now-layout.result) c.self.inside.conn c.self.inside.identity =
-    subst (λ (l : Layout). Stands g.S.Store l c.self.inside.conn c.self.inside.identity) (sym is) stood in
+    let layout = layout_of c.self.inside.layout in
+    let stands : Stands g.S.Store layout c.self.inside.conn c.self.inside.identity = c.self.invariant.1 running kept.1 in
     let old = state g.S.Store c.self.inside.conn in
     let new = state g.S.Store c.go_over.new.conn in
     let went : WentOver g.S.Store layout c.self.inside.identity c.self.inside.conn c.go_over.new.conn =
-    subst (λ (l : Layout). WentOver g.S.Store l c.self.inside.identity c.self.inside.conn c.go_over.new.conn) is (c.in-Ok.ensures.over c.self.inside.identity stands kept.0) in
-    let leads : layout_now layout true ≡ layout_now (layout_of c.self.inside.was) true = once_over (layout_of c.self.inside.was) c.self.inside.upgraded in
-    subst (λ (l : Layout). IsOfStation l c.self.inside.identity db) leads
-    (subst (IsOfStation (layout_now layout true) c.self.inside.identity) (sym (went.crash db may)) (went.stands.holds kept.0 went.is_open)))
+    c.in-Ok.ensures.over c.self.inside.identity stands kept.0 in
+    subst (λ (l : Layout). IsOfStation l c.self.inside.identity db) (sym c.upgraded_from-self-inside.ensures)
+    (subst (IsOfStation (upgraded_from layout) c.self.inside.identity) (sym (went.crash db may)) (went.stands.holds kept.0 went.is_open)))
 
 pub returns-in-Err-clause-same : goal.returns-in-Err-clause-same
 returns-in-Err-clause-same g c = rw (← c.self.view_is) (λ kept opened.
     let running : c.self.inside.stopped ≡ false = search rules in
-    let layout = layout_now (layout_of c.self.inside.was) c.self.inside.upgraded in
-    let stood : Stands g.S.Store layout c.self.inside.conn c.self.inside.identity = c.self.invariant running kept.1 in
-    let is : layout_of c.layout_now-layout.result ≡ layout = c.layout_now-layout.ensures in
-    let stands : Stands g.S.Store (layout_of c.layout_now-layout.result) c.self.inside.conn c.self.inside.identity =
-    subst (λ (l : Layout). Stands g.S.Store l c.self.inside.conn c.self.inside.identity) (sym is) stood in
+    let layout = layout_of c.self.inside.layout in
+    let stands : Stands g.S.Store layout c.self.inside.conn c.self.inside.identity = c.self.invariant.1 running kept.1 in
     let old = state g.S.Store c.self.inside.conn in
     let new = state g.S.Store c.go_over.new.conn in
     same_rows layout old new (c.in-Err.ensures.kept c.self.inside.identity stands kept.0 opened).same)
@@ -135,11 +109,8 @@ returns-in-Err-clause-call g c = record {
       was_kept = search rules;
       was_open = rw (← c.self.view_is) (λ kept opened.
           let running : c.self.inside.stopped ≡ false = search rules in
-          let layout = layout_now (layout_of c.self.inside.was) c.self.inside.upgraded in
-          let stood : Stands g.S.Store layout c.self.inside.conn c.self.inside.identity = c.self.invariant running kept.1 in
-          let is : layout_of c.layout_now-layout.result ≡ layout = c.layout_now-layout.ensures in
-          let stands : Stands g.S.Store (layout_of c.layout_now-layout.result) c.self.inside.conn c.self.inside.identity =
-          subst (λ (l : Layout). Stands g.S.Store l c.self.inside.conn c.self.inside.identity) (sym is) stood in
+          let layout = layout_of c.self.inside.layout in
+          let stands : Stands g.S.Store layout c.self.inside.conn c.self.inside.identity = c.self.invariant.1 running kept.1 in
           let old = state g.S.Store c.self.inside.conn in
           let new = state g.S.Store c.go_over.new.conn in
           (c.in-Err.ensures.kept c.self.inside.identity stands kept.0 opened).was_open);
@@ -150,11 +121,8 @@ returns-in-Err-clause-call g c = record {
           λ stopped. absurd (true≢false (sym stopped ∙ still)),
           λ kept.
               let running : c.self.inside.stopped ≡ false = search rules in
-              let layout = layout_now (layout_of c.self.inside.was) c.self.inside.upgraded in
-              let stood : Stands g.S.Store layout c.self.inside.conn c.self.inside.identity = c.self.invariant running kept.1 in
-              let is : layout_of c.layout_now-layout.result ≡ layout = c.layout_now-layout.ensures in
-              let stands : Stands g.S.Store (layout_of c.layout_now-layout.result) c.self.inside.conn c.self.inside.identity =
-              subst (λ (l : Layout). Stands g.S.Store l c.self.inside.conn c.self.inside.identity) (sym is) stood in
+              let layout = layout_of c.self.inside.layout in
+              let stands : Stands g.S.Store layout c.self.inside.conn c.self.inside.identity = c.self.invariant.1 running kept.1 in
               let old = state g.S.Store c.self.inside.conn in
               let new = state g.S.Store c.go_over.new.conn in
               c.in-Err.ensures.refusal c.self.inside.identity stands kept.0,

@@ -1,8 +1,8 @@
 -- The clock was asked, and then the station, in one step.
 use Rattle.std.proofs.Common.{◌≡◌, [], refl}
 use Rattle.protocol.specs.Refusals.{Call as StationCall}
-use Rattle.exchange.specs.Events.{ended}
-use Rattle.exchange.proofs.Stretches.{ends_badly}
+use Rattle.driver.specs.Events.{ended}
+use Rattle.driver.proofs.Stretches.{ends_badly}
 use Rattle.driver.specs.Calls.{call_of, IsAsked}
 use Rattle.driver.specs.Driving.{known, fate_of, post, post_of, AtClock, Anyhow}
 use Rattle.driver.proofs.Driven.{asked_passes, held, handed, was_asked, denied, clocked, of_form}

@@ -1,7 +1,7 @@
 -- What was asked for a file is one step.
 use Rattle.std.proofs.Common.{◌≡◌, inl, inr, refl}
 use Rattle.command_ends.specs.declared.end.End.TheVariants.{Done}
-use Rattle.exchange.specs.Events.{ended}
+use Rattle.driver.specs.Events.{ended}
 use Rattle.wire.proofs.Passing.{Passes-nil}
 use Rattle.driver.specs.Calls.{call_of}
 use Rattle.driver.specs.Driving.{known, fate_of, post_behind, sends_of}

@@ -1,7 +1,7 @@
 -- The desk did what it did, and then what is to be done for it was done.
 use Rattle.std.proofs.Common.{◌≡◌, List, [], inl, inr, refl}
 use Rattle.command_ends.specs.declared.end.End.TheVariants.{Done}
-use Rattle.exchange.specs.Events.{Event, ended}
+use Rattle.driver.specs.Events.{Event, ended}
 use Rattle.wire.proofs.Passing.{Passes-nil}
 use Rattle.driver.specs.Driving.{known, fate_of, post_with, post_behind, sends_of, Then}
 use Rattle.driver.specs.Todos.{IsDeed, IsTodoDone}

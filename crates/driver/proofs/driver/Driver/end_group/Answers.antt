@@ -1,5 +1,5 @@
 -- The group ends, or it goes on.
-use Rattle.exchange.specs.Events.{ended}
+use Rattle.driver.specs.Events.{ended}
 use Rattle.wire.proofs.Passing.{Passes-nil}
 use Rattle.command_ends.specs.declared.end.End.TheVariants.{Done}
 use Rattle.std.proofs.Common.{◌≡◌, ap, inl, inr, refl}

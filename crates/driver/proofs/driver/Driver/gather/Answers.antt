@@ -13,7 +13,7 @@ returns-in-Ok-Some g c =
     let mid = c.take_up.new.self in
     let q = sends_of c.args.group.now in
     let step = c.in-Ok-Some.step in
-    let took = c.in-Ok-Some.ensures in
+    let took = c.in-Ok-Some.ensures.took in
     let held = took_one k g.S.Sink.may g.met.S.Sink.fates (IsReceiving c.args.now) (IsTakingIn c.args.now) (post_behind old q) (post_behind mid q) (Ok c.in-Ok-Some.field-0) step (ap Ok c.in-Ok-Some.field-0-is) (took.up q) in
     record {
       hands = took.hands;
@@ -28,7 +28,7 @@ returns-in-Ok-None g c =
     let q = sends_of c.args.group.now in
     let old = post_behind c.args.self.now q in
     let new = post_behind c.take_up.new.self q in
-    let took = c.in-Ok-None.ensures in
+    let took = c.in-Ok-None.ensures.took in
     record {
       hands = took.hands;
       done =
@@ -39,7 +39,7 @@ returns-in-Ok-None g c =
 pub returns-in-Err : goal.returns-in-Err
 returns-in-Err g c =
     let q = sends_of c.args.group.now in
-    let took = c.in-Err.ensures in
+    let took = c.in-Err.ensures.took in
     record {
       hands = took.hands;
       done = of_form (known g.R.Rows g.R.Settles.is_settled g.N.Wire.passed (fate_of g.S.Sink)) (post_behind c.args.self.now q) (post_behind c.take_up.new.self q) (end_of c.in-Err.fault) (IsTakingIn c.args.now) (IsTakingUp c.args.now) (λ log done form. inl form) (took.up q);

@@ -2,8 +2,8 @@
 use Rattle.std.proofs.Common.{rules, ◌≡◌, ap, sym, ◌∙◌}
 use Rattle.command_ends.specs.Ends.{end_of}
 use Rattle.command_ends.specs.declared.end.End.TheVariants.{Done}
-use Rattle.exchange.specs.Events.{ended}
-use Rattle.exchange.proofs.Stretches.{ends_badly}
+use Rattle.driver.specs.Events.{ended}
+use Rattle.driver.proofs.Stretches.{ends_badly}
 use Rattle.driver.specs.Driving.{known, fate_of, post_behind, sends, sends_of, IsStoring}
 use Rattle.driver.specs.Todos.{IsHailing}
 use Rattle.driver.proofs.Driven.{answered, hailed_behind, of_form}

@@ -2,7 +2,7 @@
 use Rattle.std.proofs.Common.{rules, ◌≡◌, List, inl, refl, subst}
 use Rattle.protocol.specs.Circuit.{Datagram}
 use Rattle.wire.specs.Passing.{Passes}
-use Rattle.exchange.specs.Events.{sending}
+use Rattle.driver.specs.Events.{sending}
 use Rattle.driver.specs.Driving.{known, fate_of}
 use Rattle.driver.proofs.Driven.{hands_on}
 use Rattle.driver.proofs.driver.Driver.hand_on.Goals as goal

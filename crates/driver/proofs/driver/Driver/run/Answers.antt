@@ -1,7 +1,7 @@
 -- At the end nothing waits to be sent, or nothing more is.
 use Rattle.std.proofs.Common.{◌≡◌, [], refl, ap}
 use Rattle.command_ends.specs.declared.end.End.TheVariants.{Done}
-use Rattle.exchange.proofs.Stretches.{ends_badly}
+use Rattle.driver.proofs.Stretches.{ends_badly}
 use Rattle.driver.specs.Driving.{known, fate_of, post_of, post_behind, sends, sends_of, Anyhow}
 use Rattle.driver.proofs.Driven.{answered, drove_kept, none_waits, waiting_from}
 use Rattle.driver.proofs.driver.Driver.run.Goals as goal

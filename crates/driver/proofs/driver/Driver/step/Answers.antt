@@ -1,8 +1,8 @@
 -- The clock was asked, the wire was looked at, the steps before were handed on where the next work can't share their save, and it was done.
 use Rattle.std.proofs.Common.{rules, ◌≡◌, List, [], sym, ◌∙◌, refl}
 use Rattle.command_ends.specs.Ends.{end_of}
-use Rattle.exchange.specs.Events.{Event, ended}
-use Rattle.exchange.proofs.Stretches.{ends_badly}
+use Rattle.driver.specs.Events.{Event, ended}
+use Rattle.driver.proofs.Stretches.{ends_badly}
 use Rattle.command_ends.specs.declared.end.End.TheVariants.{Done}
 use Rattle.driver.specs.Driving.{known, fate_of, post_with, post_behind, sends_of, AtClock, Then, MayStore}
 use Rattle.driver.specs.Todos.{IsNextWork, IsWorkDone}

@@ -1,7 +1,7 @@
 -- What was told again is one step.
 use Rattle.std.proofs.Common.{rules, ◌≡◌, [], ◌∷◌, Ok, Err, ap, refl}
 use Rattle.protocol.specs.Refusals.{Call, Recalling}
-use Rattle.exchange.specs.Events.{took, ended}
+use Rattle.driver.specs.Events.{took, ended}
 use Rattle.wire.proofs.Passing.{Passes-nil}
 use Rattle.driver.specs.Driving.{known, fate_of, post_behind, sends_of}
 use Rattle.driver.specs.Todos.{IsTellingAgain}

@@ -1,6 +1,6 @@
 -- The clock was asked, and then the turn was taken.
 use Rattle.std.proofs.Common.{[]}
-use Rattle.exchange.specs.Events.{ended}
+use Rattle.driver.specs.Events.{ended}
 use Rattle.driver.specs.Driving.{known, fate_of, post_of, IsTurn}
 use Rattle.driver.proofs.Driven.{clocked}
 use Rattle.driver.proofs.driver.Driver.turn.Goals as goal

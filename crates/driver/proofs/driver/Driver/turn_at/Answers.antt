@@ -2,8 +2,8 @@
 use Rattle.std.proofs.Common.{rules, ◌≡◌, [], sym, ◌∙◌}
 use Rattle.command_ends.specs.Ends.{end_of}
 use Rattle.command_ends.specs.declared.end.End.TheVariants as ends
-use Rattle.exchange.specs.Events.{ended}
-use Rattle.exchange.proofs.Stretches.{ends_badly}
+use Rattle.driver.specs.Events.{ended}
+use Rattle.driver.proofs.Stretches.{ends_badly}
 use Rattle.driver.specs.Driving.{known, fate_of, post, post_of, IsTakingIn, IsSeeingToDue, IsTurn}
 use Rattle.driver.proofs.Driven.{answered, and_then, hands_then, no_result, of_form, quiet_behind}
 use Rattle.driver.proofs.driver.Driver.turn_at.Goals as goal

@@ -1,7 +1,7 @@
 -- A look leaves all but the desk as it was; the others are known.
 use Rattle.std.proofs.Common.{inl, inr, refl}
 use Rattle.command_ends.specs.declared.end.End.TheVariants.{Done}
-use Rattle.exchange.specs.Events.{ended}
+use Rattle.driver.specs.Events.{ended}
 use Rattle.wire.proofs.Passing.{Passes-nil}
 use Rattle.driver.specs.Driving.{known, fate_of, post_behind, sends_of, IsDueUp, IsTakingUp}
 use Rattle.driver.specs.Todos.{IsDeed, IsWorkDone}

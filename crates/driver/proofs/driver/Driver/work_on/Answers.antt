@@ -2,7 +2,7 @@
 use Rattle.std.proofs.Common.{rules, ◌≡◌, refl}
 use Rattle.command_ends.specs.Ends.{end_of}
 use Rattle.command_ends.specs.declared.end.End.TheVariants.{Done}
-use Rattle.exchange.specs.Events.{ended}
+use Rattle.driver.specs.Events.{ended}
 use Rattle.wire.proofs.Passing.{Passes-nil}
 use Rattle.driver.specs.Driving.{known, fate_of, post_behind, sends_of, AtClock, Anyhow}
 use Rattle.driver.specs.Todos.{IsNextWork}

@@ -1,7 +1,7 @@
 -- The works, and then what the last of them handed out.
 use Rattle.std.proofs.Common.{rules, ◌≡◌}
 use Rattle.command_ends.specs.Ends.{end_of}
-use Rattle.exchange.specs.Events.{ended}
+use Rattle.driver.specs.Events.{ended}
 use Rattle.driver.specs.Driving.{known, fate_of, post_behind, sends_of, AtClock, IsStoring, Anyhow}
 use Rattle.driver.proofs.Driven.{answered, clocked, hands_then, none_left_in, of_form, then_any}
 use Rattle.driver.proofs.driver.Driver.work_to_the_end.Goals as goal

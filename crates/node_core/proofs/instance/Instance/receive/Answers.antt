@@ -4,7 +4,7 @@ use Rattle.std.specs.Prelude.{MatchResult}
 use Rattle.std.proofs.lemmas.Result.{MatchResult-weaker, MatchResult-from_both}
 use Rattle.protocol.specs.Packets.{Body}
 use Rattle.protocol.specs.Turn.{packet_turn}
-use Rattle.messages.specs.Bodies.{said}
+use Rattle.packets.specs.Bodies.{said}
 use Rattle.node_core.specs.Standing.{Answers}
 use Rattle.node_core.specs.Turns.{Stirs}
 use Rattle.node_core.proofs.Accepting.{prepare_adds_none, none_told}

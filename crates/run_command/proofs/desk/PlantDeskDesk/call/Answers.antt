@@ -1,7 +1,7 @@
 -- What a file asks for that is known was read.
 use Rattle.std.proofs.Common.{rules, ◌≡◌, ℕ, Some, sym, subst}
 use Rattle.protocol.specs.Refusals.{Call}
-use Rattle.plant_files.specs.Asking.{call_of}
+use Rattle.run_command.specs.Calls.{call_of}
 use Rattle.offers.specs.Order.{rank, file_at}
 use Rattle.offers.specs.Stages.{wish_at}
 use Rattle.run_command.specs.Living.{texts_of}

@@ -1,6 +1,6 @@
 -- The step was noted, or there was no memory for its files; nothing was done with the folders.
 use Rattle.std.proofs.Common.{rules, ◌≡◌, ◌++◌, inl, refl}
-use Rattle.plant_files.specs.Filing.{files_of}
+use Rattle.run_command.specs.ReleaseFiles.{files_of}
 use Rattle.run_command.proofs.Lives.{noted, unnoted}
 use Rattle.run_command.proofs.desk.PlantDeskDesk.note.Goals as goal
 
@@ -12,7 +12,7 @@ returns-clause-noted g c =
     record {
       ok = λ call may. (
         (refl, refl),
-        noted it.plant.now.texts g.F.Folders.doings a it.folders.now it.plant.now.waits.items c.keep_files.new.waits.items it.plant.now.papers.book c.close.new.self.book behind c.close.ensures call may,
+        noted it.plant.now.texts g.F.Folders.doings a it.folders.now it.plant.now.waits.items c.keep_files.new.waits.items it.plant.now.papers.book c.note.new.self.book behind c.note.ensures call may,
       );
       err = tt;
       fault = tt;

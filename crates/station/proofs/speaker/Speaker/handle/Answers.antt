@@ -22,7 +22,7 @@ event_fits c = subst (λ (v : Version). EventFits v (event_value c.args.event)) 
 
 pub invariant_of-self-else-matches : goal.invariant_of-self-else-matches
 invariant_of-self-else-matches c =
-    let speaks = answered_speaks (version_of c.self.inside.wire) c.args.event c.self.inside.core c.handle-answer.new.self c.args.row.now c.turns_fit.ensures c.me-me.ensures.member c.self.invariant (row_fits c) (event_fits c)
+    let speaks = answered_speaks (version_of c.self.inside.wire) c.args.event c.self.inside.core c.handle-answer.new.self c.args.row.now c.turns_fit.ensures c.member_of_core.ensures c.self.invariant (row_fits c) (event_fits c)
     c.handle-answer.result c.handle-answer.ensures.ok c.handle-answer.ensures.refused in
     elim c.match-matches.branch [ in-Err-OutOfMemory w ↦ search rules | in_default w ↦ speaks (λ is. search rules) | in_default-2 w ↦ speaks (λ is. search rules) ]
 
@@ -51,7 +51,7 @@ returns-else-matches-clause-ok c =
 pub returns-else-matches-clause-fits : goal.returns-else-matches-clause-fits
 returns-else-matches-clause-fits c =
     subst (λ (s : Speaking). IfOk c.handle-answer.result (TurnSpeaks s.wire c.args.row.now)) c.self.view_is
-    (answered_fits (version_of c.self.inside.wire) c.args.event c.self.inside.core c.handle-answer.new.self c.args.row.now c.turns_fit.ensures c.me-me.ensures.member c.self.invariant (row_fits c) (event_fits c)
+    (answered_fits (version_of c.self.inside.wire) c.args.event c.self.inside.core c.handle-answer.new.self c.args.row.now c.turns_fit.ensures c.member_of_core.ensures c.self.invariant (row_fits c) (event_fits c)
     c.handle-answer.result c.handle-answer.ensures.ok)
 
 pub returns-then-matches-clause-orderly : goal.returns-then-matches-clause-orderly

@@ -1,9 +1,8 @@
 -- A vote that is told again.
-use Rattle.std.proofs.Common.{ap}
 use Rattle.protocol.specs.Turn.{Recalled}
 use Rattle.protocol.specs.Refusals.{Recalling}
 use Rattle.station.specs.Stations.{sight}
-use Rattle.station.proofs.Asking.{recalled, recall_refused}
+use Rattle.station.proofs.Asking.{recalled, refused_early}
 use Rattle.station.proofs.Calling.{from_found, stays, refused, steady, took}
 use Rattle.station.proofs.station.Station.recall.Goals as goal
 
@@ -16,8 +15,7 @@ returns-in_err-number g c =
     let call = Recalling c.args.number c.args.to in
     from_found g.R.Rows call c.args.self.now mid mid _ c.if-self.false c.follow_rows.ensures.same c.follow_rows.ensures.follows
     (λ goes. refused g.R.Rows call mid c.from_residual.result _ c.from_residual.ensures (steady _ _ c.in_err-number.ensures.checks)
-    (λ marks stands. recall_refused (sight g.R.Rows) mid marks c.core.result.now.members c.args.number c.args.to _ goes
-    (ap (λ k. k.members) c.core.ensures) c.in_err-number.ensures.checks))
+    (λ marks stands. refused_early (sight g.R.Rows) call mid marks _ goes c.in_err-number.ensures.checks))
 
 pub returns : goal.returns
 returns g c =
@@ -26,6 +24,6 @@ returns g c =
     let t = c.take.ensures in
     from_found g.R.Rows call c.args.self.now mid c.take.new.self c.take.result c.if-self.false c.follow_rows.ensures.same c.follow_rows.ensures.follows
     (λ goes. took g.R.Rows call mid (Recalled c.in_ok-number.number c.in_ok-number.to) c.take.new.self c.take.result
-    (λ marks stands. recalled mid marks c.core.result.now.members c.args.number c.in_ok-number.number c.args.to c.in_ok-number.to goes
-    (ap (λ k. k.members) c.core.ensures) c.in_ok-number.ensures.checks c.in_ok-number.ensures.number c.in_ok-number.ensures.to)
+    (λ marks stands. recalled mid marks c.args.number c.in_ok-number.number c.args.to c.in_ok-number.to goes
+    c.in_ok-number.ensures.checks c.in_ok-number.ensures.number c.in_ok-number.ensures.to)
     t.takes t.late t.rows.was_kept t.rows.made t.few t.numbered t.cause t.blames t.rows.version t.wire t.stops)

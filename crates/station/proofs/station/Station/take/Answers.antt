@@ -9,9 +9,9 @@ use Rattle.station.proofs.station.Station.take.Goals as goal
 pub returns-in-Ok-save-clause-takes : goal.returns-in-Ok-save-clause-takes
 returns-in-Ok-save-clause-takes g c = λ kept marks stands.
     let l = c.in-Ok-handle.ensures.ok marks stands in
-    handed_on (sight g.R.Rows) (event_value c.args.event) c.args.self.now marks c.get.new.self c.save.new.self.rows c.handle.new.self c.in-Ok-handle.turn c.in-Ok.row c.args.number
+    handed_on (sight g.R.Rows) (event_value c.args.event) c.args.self.now marks c.get.new.self c.save.new.self.rows c.handle.new.self c.in-Ok-handle.turn c.in-Ok.row c.number-number.result
     (record {
-      number = c.requires.number;
+      number = sym c.number-number.ensures;
       goes = c.requires.goes;
       read = search rules;
       is_open = search rules;
@@ -30,9 +30,9 @@ pub returns-in-Ok-handle-clause-takes : goal.returns-in-Ok-handle-clause-takes
 returns-in-Ok-handle-clause-takes g c = λ kept marks stands.
     let l = c.in-Ok-handle.ensures.ok marks stands in
     let here : g.R.Rows.kept c.save.new.self.rows = rw c.stop-in-Err-save.ensures.halts.stopped at kept in
-    stopped_at (sight g.R.Rows) (event_value c.args.event) c.args.self.now marks c.get.new.self c.save.new.self.rows c.handle.new.self c.in-Ok-handle.turn c.in-Ok.row c.args.number
+    stopped_at (sight g.R.Rows) (event_value c.args.event) c.args.self.now marks c.get.new.self c.save.new.self.rows c.handle.new.self c.in-Ok-handle.turn c.in-Ok.row c.number-number.result
     (record {
-      number = c.requires.number;
+      number = sym c.number-number.ensures;
       goes = c.requires.goes;
       read = search rules;
       is_open = search rules;
@@ -52,9 +52,9 @@ pub returns-clause-takes : goal.returns-clause-takes
 returns-clause-takes g c = λ kept marks stands.
     let x = sight g.R.Rows in
     let here : g.R.Rows.kept c.get.new.self = rw c.stop-in-Err-OutOfMemory.ensures.halts.stopped at kept in
-    wanted x c.args.event c.args.self.now c.stop-in-Err-OutOfMemory.new.self marks c.get.new.self c.handle.new.self c.in-Ok.row c.args.number c.stop-in-Err-OutOfMemory.result
+    wanted x c.args.event c.args.self.now c.stop-in-Err-OutOfMemory.new.self marks c.get.new.self c.handle.new.self c.in-Ok.row c.number-number.result c.stop-in-Err-OutOfMemory.result
     c.stop-in-Err-OutOfMemory.ensures.same c.handle.ensures.seat c.stop-in-Err-OutOfMemory.ensures.halts.fixed c.stop-in-Err-OutOfMemory.ensures.halts.stopped c.stop-in-Err-OutOfMemory.ensures.halts.stands
-    (search rules) c.requires.number (search rules) (c.in-Err-OutOfMemory.ensures.memory c.in-Err-OutOfMemory.field-0-is marks stands)
+    (search rules) (sym c.number-number.ensures) (search rules) (c.in-Err-OutOfMemory.ensures.memory c.in-Err-OutOfMemory.field-0-is marks stands)
 
 pub returns-in-Err-AlreadyReleased-clause-late : goal.returns-in-Err-AlreadyReleased-clause-late
 returns-in-Err-AlreadyReleased-clause-late g c =

@@ -1,4 +1,0 @@
-pub mod Events
-pub mod Driving
-pub mod Said
-pub mod Layouts

@@ -1,7 +1,0 @@
-use Rattle.std.proofs.Common.{◌≡◌, drop}
-use Rattle.row_columns.specs.Columns.{damage_in}
-use Rattle.row_columns.specs.Layouts.{layout_of}
-use Rattle.row_columns.proofs.columns.damage_in.Given as goal
-
-abbrev pub invariant-loop-row : goal.invariant-loop-row
-invariant-loop-row l = damage_in (layout_of l.layout) (drop l.row-index l.rows) ≡ damage_in (layout_of l.layout) l.rows
