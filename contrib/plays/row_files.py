@@ -3,6 +3,7 @@ import contextlib
 import fcntl
 import os
 import signal
+import subprocess
 import time
 
 import old_rows
@@ -33,6 +34,9 @@ TABLE = {
     'made': ({CREATE: MADE, FIRST: MADE, PLAIN: WITHOUT_LOG, ROWS: WITHOUT_LOG, UPGRADE: WITHOUT_LOG},) * 2
             + ({CREATE: MADE, FIRST: MADE, PLAIN: '', ROWS: SAVED, UPGRADE: 'layout 2\n'},),
 }
+
+# For how many seconds an opening of a file is held back at most: the system lets it go on after 45.
+LEASE = 30
 
 # The four bytes of a file's mark, and what their first says.
 MARK, AT_REST, IN_USE = slice(60, 64), 0xc0, 0xc1
@@ -225,6 +229,46 @@ def starts_at_once(at):
     found = {int(line.split()[0]) for line in listed.splitlines()[1:]}
     stage.wants(status == 0 and released <= found, f'{ROWS}: {status}, {sorted(released - found)} are lost')
     stage.wants(at.read('station1.db')[60] == AT_REST, 'it is not at rest')
+
+
+def ends_crossed(at, words, after):
+    """How a command ends that looks at a row file as it is, and finds its log as another process has left both after that: its status, and the
+    faults that it told. It is held back as it opens the log, by a lease on that."""
+    with open(at.path('station1.db-wal'), 'rb+', buffering=0) as log:
+        try:
+            fcntl.fcntl(log, fcntl.F_SETLEASE, fcntl.F_WRLCK)
+        except OSError as error:
+            raise stage.Skipped('the file system grants no lease') from error
+        start = at.start(words, stderr=subprocess.PIPE)
+        stage.within(lambda: fcntl.fcntl(log, fcntl.F_GETLEASE) != fcntl.F_WRLCK, f'{words} opens the log', LEASE)
+        at.write('station1.db', after[0])
+        log.truncate(0)
+        log.write(after[1])
+    return start.wait(stage.SECONDS), start.stderr.read().decode()
+
+
+def crossed_starts(at):
+    """Another process comes between a start's looks at the file and at its log: the start is told that another has the file, and never that the
+    log is not its own."""
+    at.ends(CREATE, 0, NEW)
+    at.ends(PLAIN, 0)
+    at_rest = pair_at(at)
+    killed_in_life(at, 12, 'flood.tape')
+    first = pair_at(at)
+    killed_in_life(at, 13, 'harvest.tape')
+    second = pair_at(at)
+    # The kernel tells the holder of a lease by this signal that it is asked for, which ends a process that did not say otherwise.
+    told_by = signal.signal(signal.SIGIO, signal.SIG_IGN)
+    try:
+        for before, after in ((at_rest, first), (first, second), ((None, b''), first), ((first[0], b''), second)):
+            for words in (PLAIN, ROWS, UPGRADE):
+                lay(at, *before)
+                ended = ends_crossed(at, words, after)
+                stage.wants(ended == (3, HELD), f'{words} ended with {ended}')
+                stage.wants(pair_at(at) == after, f'{words} was refused, and has changed something')
+                at.ends(ROWS, 0, saved(at, 12) if after is first else saved(at, 12, 13))
+    finally:
+        signal.signal(signal.SIGIO, told_by)
 
 
 def a_database_of_another_program(at):
@@ -420,7 +464,7 @@ def a_kill(at):
 
 
 PLAYS = [
-    each_file_beside_each_log, each_mark_beside_each_log, a_copy_without_its_log, starts_at_once, a_database_of_another_program,
+    each_file_beside_each_log, each_mark_beside_each_log, a_copy_without_its_log, starts_at_once, crossed_starts, a_database_of_another_program,
     other_files, a_link_to_rows, a_log_that_is_none, permission_refused, a_making_under_way, makings_at_once, killed_makings, a_file_of_two_names,
     a_kill,
 ]
