@@ -20,15 +20,16 @@ that a station under `run` has. Left out are the ways of a `match` or an `if` th
 does else. Operators, conversions and what a macro writes are no calls.
 
   what it gives                                    0.2.0          before             now
-  clauses                                          2,698           6,022           4,198
+  clauses                                          2,698           6,022           4,197
   repeated                                           791           1,626             262
   long                                                22              78               0
   functions                                          130             105               0
   types                                               16              76               0
-  functions, files and crates of the walk    127, 47, 20     181, 69, 27     130, 47, 16
+  functions, files and crates of the walk    143, 49, 21     178, 68, 27     130, 48, 16
 
-0.2.0 is 504be7e1, and before is c260e571, before contracts were said once. 0.2.0 had no groups of steps: its legs were `take_datagram`, `hand_on`,
-and then `prepare` and `put` of the folders of the host. The Accept is the first vote for a number that was not released, under `run`, in layout 2,
+0.2.0 is 504be7e1, and before is c260e571, before contracts were said once. 0.2.0 had no groups of steps: its legs were `take_datagram`
+of `serve_command`, which ended in `put_entry` too, `hand_on` of `run_command`, which ended in `galley` and `send`, and then `prepare` and `put`
+of the folders of the host, which ended in `fill` and `finish`. The Accept is the first vote for a number that was not released, under `run`, in layout 2,
 without a key.
 
 With --list the items behind each figure are printed as well. With --check it ends with 1 where a figure is above what it may be.
@@ -44,7 +45,7 @@ TOP = os.path.dirname(os.path.dirname(os.path.abspath(__file__)))
 
 # What the figures may be at most. They may go down, and never up.
 MOST_REPEATED, MOST_LONG, MOST_FUNCTIONS, MOST_TYPES = 262, 0, 0, 0
-MOST_CALLS, MOST_FILES, MOST_CRATES = 130, 47, 16
+MOST_CALLS, MOST_FILES, MOST_CRATES = 130, 48, 16
 MOST_CHARACTERS, MOST_PARAMETERS = 160, 4
 # names of types that may stand in more than one crate
 ALLOWED = set()
@@ -155,22 +156,23 @@ def began(text):
 
 
 def bound_in(body):
-    """The names that a body binds, in order: the pattern, the type that is told, and the value."""
+    """The names that a body binds, in order: from which place on, the pattern, the type that is told, and the value."""
     for match in BIND.finditer(body):
         begin = match.end()
         if match.group(1):
             sign = outside(body, begin, "=;")
             pattern, _, told = body[begin:sign].partition(":") if "::" not in body[begin:sign] else (body[begin:sign], "", "")
-            value = body[sign + 1 : outside(body, sign + 1, ";{")]
-            yield pattern.strip(), told, re.sub(r"\selse\s*$", "", value)
+            end = outside(body, sign + 1, ";{")
+            yield end, pattern.strip(), told, re.sub(r"\selse\s*$", "", body[sign + 1 : end])
         elif match.group(2):
-            pattern, _, value = body[begin : outside(body, begin, "{")].partition(" in ")
-            yield pattern.strip(), "", value
+            brace = outside(body, begin, "{")
+            pattern, _, value = body[begin:brace].partition(" in ")
+            yield brace, pattern.strip(), "", value
         else:
             brace = outside(body, begin, "{")
             value, end = body[begin:brace], behind(body, brace)
             for arm in re.finditer(r"^ *(\S[^\n]*?) =>", body[brace:end], re.MULTILINE):
-                yield arm.group(1).partition(" if ")[0], "", value
+                yield brace + arm.start(), arm.group(1).partition(" if ")[0], "", value
 
 
 # A file
@@ -443,14 +445,16 @@ class Calls:
             self.bind(function, pattern, self.value(function, value, known), known)
 
     def with_locals(self, function, known):
-        """What is known of parameters, and of the names that a body binds."""
-        known = dict(known)
-        for pattern, told, value in bound_in(function.body):
+        """What is known of parameters, and of the names that a body binds, from which place on: the last first."""
+        found = [(0, known)]
+        for place, pattern, told, value in sorted(bound_in(function.body), key=lambda bound: bound[0]):
+            known = dict(known)
             if told:
                 known[pattern] = self.types_in(told, function.source, function.bounds, function.owner)
             else:
                 self.bind_value(function, pattern, value, known)
-        return known
+            found.insert(0, (place, known))
+        return found
 
     def on_value(self, function, before, name, known, in_hand):
         keys = self.value(function, before[began(before) :], known)
@@ -462,7 +466,8 @@ class Calls:
             if not path:
                 yield from self.plain(function, name)
             elif path.startswith("."):
-                yield from self.on_value(function, function.body[: call.start()], name, known, in_hand)
+                there = next(names for place, names in known if place <= call.start())
+                yield from self.on_value(function, function.body[: call.start()], name, there, in_hand)
             else:
                 yield from self.by_path(function, path, name)
 
@@ -477,7 +482,7 @@ class Calls:
         """The functions that a function calls."""
         known = self.with_locals(function, self.parameters_of(function))
         named = self.types_in(function.answer + function.body, function.source, function.bounds, function.owner)
-        in_hand = named.union(*(keys for keys in known.values() if keys))
+        in_hand = named.union(*(keys for _, names in known for keys in names.values() if keys))
         words, found, count = words_of(function.body), set(), -1
         while count < len(in_hand):
             count = len(in_hand)

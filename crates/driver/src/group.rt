@@ -4,7 +4,7 @@ ghost use Rattle.std.specs.Prelude.{◌≡◌, [], ◌∷◌, Ok, OnOk};
 ghost use Rattle.driver.specs.Events.{stored};
 ghost use Rattle.wire.specs.Passing.{Passes};
 ghost use Rattle.driver.specs.Driving.{IsHeld, sends_of};
-ghost use Rattle.driver.specs.Grouping.{comes_late, ends_group, goes_alone, has_waited, is_full, is_worth, one_more, HasAdded};
+ghost use Rattle.driver.specs.Grouping.{comes_late, ends_group, goes_alone, has_waited, is_full, one_more, HasAdded};
 
 use crate::desk::Desk;
 use crate::log::Log;
@@ -35,13 +35,6 @@ pub(crate) struct Group {
     pub(crate) works: u8,
     /// When the first of them began, in milliseconds.
     pub(crate) since: u64,
-}
-
-/// Whether a step sends or releases something.
-fn is_worth(step: &TakenStep) -> bool
-    ensures { result ≡ is_worth step.now.answer }
-{
-    !step.answer.out.is_empty() || step.answer.release.is_some()
 }
 
 /// Whether a work shares no save with the steps before it: a look writes files, and a wait may take long.
@@ -114,7 +107,7 @@ impl Group {
         ensures holds { IsHeld S.Sink desk.old desk.new self.old self.new step.answer result }
     {
         desk.note(&step, log)?;
-        if !is_worth(&step) {
+        if step.answer.out.is_empty() && step.answer.release.is_none() {
             return Ok(());
         }
         match self.steps.push(step) {
