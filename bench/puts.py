@@ -32,7 +32,7 @@ import time
 
 HERE = os.path.dirname(os.path.abspath(__file__))
 CRATES = os.path.join(HERE, "..", "crates")
-BELOW = ("protocol", "tape_frames", "ballots", "row_table", "saved_rows", "acceptor_store")
+BELOW = ("protocol", "tape_frames", "ballots", "rows_table", "rows_saved", "acceptor_store")
 PARTS = ("src", "specs", "proofs", "out/rlib")
 SAVES, ROUNDS = 2000, 15
 
@@ -56,7 +56,7 @@ def build_ours(work):
     with open(f"{HERE}/../crates.txt") as crates:
         lines = [line for line in crates if line.split(":")[0] in BELOW]
     with open(f"{work}/crates.txt", "w") as crates:
-        crates.writelines([*lines, "puts: tape_frames ballots saved_rows acceptor_store sqlite anyhow\n"])
+        crates.writelines([*lines, "puts: tape_frames ballots rows_saved acceptor_store sqlite anyhow\n"])
     with tempfile.TemporaryDirectory(dir=work) as made:
         subprocess.run(["rt", "run", "--", f"{made}/rows.db", "1"], cwd=folder, check=True)
     return f"{folder}/out/puts"

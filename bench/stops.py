@@ -30,7 +30,7 @@ MODULES = {
     "stops": ("disks", "runs", "saves", "stations", "works"),
 }
 # The libraries that they name.
-NAMES = "ballots tape_frames saved_rows acceptor_store code_table widths station wire command_ends serve_command row_files row_life sqlite sqlite_disk fixtures"
+NAMES = "ballots tape_frames rows_saved acceptor_store code_table widths line_check station wire command_ends driver serve_command rows_files rows_life sqlite sqlite_disk fixtures"
 SECONDS = 7200
 
 

@@ -21,7 +21,7 @@ does else. Operators, conversions and what a macro writes are no calls.
 
   what it gives                                    0.2.0          before             now
   clauses                                          2,698           6,022           4,197
-  repeated                                           791           1,626             262
+  repeated                                           791           1,626             260
   long                                                22              78               0
   functions                                          130             105               0
   types                                               16              76               0
@@ -44,7 +44,7 @@ import sys
 TOP = os.path.dirname(os.path.dirname(os.path.abspath(__file__)))
 
 # What the figures may be at most. They may go down, and never up.
-MOST_REPEATED, MOST_LONG, MOST_FUNCTIONS, MOST_TYPES = 262, 0, 0, 0
+MOST_REPEATED, MOST_LONG, MOST_FUNCTIONS, MOST_TYPES = 260, 0, 0, 0
 MOST_CALLS, MOST_FILES, MOST_CRATES = 130, 48, 16
 MOST_CHARACTERS, MOST_PARAMETERS = 160, 4
 # names of types that may stand in more than one crate
@@ -54,17 +54,17 @@ ALLOWED = set()
 LEGS = [
     (
         "driver/take_datagram",
-        ["wire/receive", "packets/body_of", "acceptor/accept", "learner/hear", "line_check/check", "packets/put_body", "saved_rows/put"],
+        ["wire/receive", "packets/body_of", "acceptor/accept", "learner/hear", "line_check/check", "packets/put_body", "rows_saved/put"],
     ),
     ("driver/hold", ["line_check/galley"]),
-    ("driver/settle_group", ["row_table/stage_entry", "wire/send", "host_folders/put_all"]),
+    ("driver/settle_group", ["rows_table/stage_entry", "wire/send", "host_folders/put_all"]),
     ("host_folders/put_all", ["host_folders/fill", "host_folders/name_as"]),
 ]
 # what stands in place of a trait there
 IN_PLACE_OF = {
-    ("saved_rows", "Rows"): ("saved_rows", "Grouped"),
-    ("saved_rows", "Settles"): ("saved_rows", "Grouped"),
-    ("saved_rows", "SavesAll"): ("acceptor_store", "SqliteRows"),
+    ("rows_saved", "Rows"): ("rows_saved", "Grouped"),
+    ("rows_saved", "Settles"): ("rows_saved", "Grouped"),
+    ("rows_saved", "SavesAll"): ("acceptor_store", "SqliteRows"),
     ("wire", "Wire"): ("wire", "GuardedWire"),
     ("wire", "Door"): ("wire", "PlainDoor"),
     ("wire", "Socket"): ("wire", "UdpSocket"),
@@ -72,8 +72,8 @@ IN_PLACE_OF = {
     ("driver", "Sink"): ("run_command", "PlantDesk"),
     ("driver", "Desk"): ("run_command", "PlantDesk"),
 }
-# the ways that are not walked: other packets, other events, no tape, one that was set as it was offered, the first layout, and what is refused
-ASIDE = set("Prepare Promise Accepted Nack Offer Seek Due Recall Void checked One First Err Failed Nothing Refused Silent Again".split())
+# the ways that are not walked: other packets, other events, no tape, one that was set as it was offered, layout 1, and what is refused
+ASIDE = set("Prepare Promise Accepted Nack Offer Seek Due Recall Void checked One Err Failed Nothing Refused Silent Again".split())
 # and those behind a question: of a number that was released
 ASKED = {"released"}
 

@@ -9,13 +9,13 @@ use Rattle.sqlite.specs.Held.{state}
 use Rattle.sqlite.specs.Files.{over_files}
 use Rattle.sqlite_trees.specs.declared.store.Store.{Ghosts}
 use Rattle.sqlite_trees.specs.Tree.{Trees}
-use Rattle.row_table.specs.Tables.{Layout}
+use Rattle.rows_table.specs.declared.layout.Layout.{Layout}
 use Rattle.ballots.specs.contracts.row.Row as row_code
-use Rattle.saved_rows.specs.contracts.identity.Identity as identity
-use Rattle.saved_rows.specs.declared.identity.Identity.{Identity}
+use Rattle.rows_saved.specs.contracts.identity.Identity as identity
+use Rattle.rows_saved.specs.declared.identity.Identity.{Identity}
 use Rattle.protocol.specs.Rows.{Row}
 use Rattle.protocol.specs.Circuit.{State, with_at, restarts}
-use Rattle.saved_rows.specs.Saved.{Saved, with_row}
+use Rattle.rows_saved.specs.Saved.{Saved, with_row}
 use Rattle.acceptor_store.specs.Columns.{version_in, saved_in}
 use Rattle.acceptor_store.specs.Sqlite.{SqliteOf, IsOpen, IsOfStation, saved_of, LeavesStation}
 use Rattle.acceptor_store.specs.Acknowledged.{WasAcknowledged, SavesNothingUnder, reads, puts, upgrades, GoesOn, no_call, one_more, LeavesRowsAtRest, AcknowledgedSaveIsFound, CrashAtRestLosesNothing, CrashAtRestIsRestart}

@@ -5,7 +5,7 @@ use Rattle.std.proofs.lemmas.Bool.Decides.{Decides-ltb, Decides-eqb}
 use Rattle.std.proofs.lemmas.Bool.{le-leb, cases_Bool, and_parts}
 use Rattle.tape_frames.specs.Frames.{most_frames, IsTape, tape_fault}
 use Rattle.tape_frames.specs.Entries.{IsEntry, entry_frames}
-use Rattle.row_table.specs.Tables.Layout.{First}
+use Rattle.rows_table.specs.declared.layout.Layout.TheVariants as layouts
 use Rattle.protocol.specs.Ballots.{Ballot, IsBallot}
 use Rattle.protocol.specs.Entries.{Entry, Void, Taped}
 use Rattle.protocol.specs.Rows.{vote_for, may_stand}
@@ -46,7 +46,7 @@ few_frames : (tape : List ℕ) → Fits One (Taped tape) → nat_le (length tape
 few_frames tape fits = (and_parts (nat_le 1 (length tape)) (nat_le (length tape) most_frames_one) fits).1
 
 pub back_with : (p b : Ballot) (tape : List ℕ) → IsBallot p → IsBallot b → IsTape tape → Fits One (Taped tape) → may_stand (Some p) (Some (vote_for b (Taped tape))) ≡ true
-    → row_in First 0 (columns_with First (Some p) (Some (vote_for b (Taped tape)))) ≡ Some (row_of p (Some (vote_for b (Taped tape))))
+    → row_in layouts.One 0 (columns_with layouts.One (Some p) (Some (vote_for b (Taped tape)))) ≡ Some (row_of p (Some (vote_for b (Taped tape))))
 back_with p b tape promise ballot is_tape fits stands = rw (a_ballot p promise, a_ballot b ballot, few_frames tape fits, no_fault tape is_tape, stands) refl
 
 -- the frames of an entry that layout 1 has a row for are a tape, and it is the entry

@@ -1,8 +1,8 @@
 -- An entry comes back out of its length and its packed frames.
 use Rattle.std.proofs.Common.{◌≡◌, ◌<◌, ◌^◌, true, length, Some, refl, arith}
 use Rattle.tape_frames.specs.Entries.{entry_frames, IsEntry}
-use Rattle.row_table.specs.Tables.{Origin}
-use Rattle.row_table.specs.Tables.Layout.{Second}
+use Rattle.rows_table.specs.declared.layout.LayoutOrigin.{LayoutOrigin}
+use Rattle.rows_table.specs.declared.layout.Layout.TheVariants.{Two}
 use Rattle.protocol.specs.Ballots.{Ballot, IsBallot}
 use Rattle.protocol.specs.Entries.{Entry, Void, Taped}
 use Rattle.protocol.specs.Rows.{vote_for, may_stand}
@@ -14,6 +14,6 @@ few_frames Void is = omega arith
 few_frames (Taped tape) is = omega (arith, is.few)
 
 -- a row that has a vote comes back
-pub back_with : (origin : Origin) (p b : Ballot) (e : Entry) → EntriesComeBack → IsBallot p → IsBallot b → IsEntry e → may_stand (Some p) (Some (vote_for b e)) ≡ true
-    → row_in (Second origin) 0 (columns_with (Second origin) (Some p) (Some (vote_for b e))) ≡ Some (row_of p (Some (vote_for b e)))
+pub back_with : (origin : LayoutOrigin) (p b : Ballot) (e : Entry) → EntriesComeBack → IsBallot p → IsBallot b → IsEntry e → may_stand (Some p) (Some (vote_for b e)) ≡ true
+    → row_in (Two origin) 0 (columns_with (Two origin) (Some p) (Some (vote_for b e))) ≡ Some (row_of p (Some (vote_for b e)))
 back_with origin p b e back promise ballot is stands = rw (a_ballot p promise, a_ballot b ballot, ranged (length (entry_frames e)) (few_frames e is), back e is, stands) refl

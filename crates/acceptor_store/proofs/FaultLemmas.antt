@@ -2,8 +2,8 @@
 use Rattle.std.proofs.Common.{◌≡◌, Option, inr, refl, sym, subst, arith}
 use Rattle.sqlite_trees.specs.declared.store.Store.{Ghosts}
 use Rattle.sqlite.specs.Held.{Held, state}
-use Rattle.saved_rows.specs.declared.identity.Identity.{Identity}
-use Rattle.saved_rows.specs.declared.fault.RowsFault.TheVariants.{Store}
+use Rattle.rows_saved.specs.declared.identity.Identity.{Identity}
+use Rattle.rows_saved.specs.declared.fault.RowsFault.TheVariants.{Store}
 use Rattle.acceptor_store.specs.declared.faults.FileFault.{FileFault}
 use Rattle.acceptor_store.specs.declared.faults.FileFault.TheVariants.{Missing, InUse, Unmade, Made, Damaged, Unopened, DiskFull, DiskFailed, Rows}
 use Rattle.acceptor_store.specs.declared.rows_at_path.Wanted.{Wanted}

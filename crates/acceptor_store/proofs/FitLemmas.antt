@@ -8,14 +8,14 @@ use Rattle.sqlite_value.specs.declared.value.Value.TheVariants.{Null, Int, Real,
 use Rattle.sqlite_value.specs.Order.{Row as Columns, column}
 use Rattle.tape_frames.specs.Frames.{tape_fault}
 use Rattle.tape_frames.specs.declared.fault.TapeFault.{TapeFault}
-use Rattle.row_table.specs.Tables.{Layout}
-use Rattle.row_table.specs.Tables.Layout.{First, Second}
+use Rattle.rows_table.specs.declared.layout.Layout.{Layout}
+use Rattle.rows_table.specs.declared.layout.Layout.TheVariants as layouts
 use Rattle.protocol.specs.Ballots.{Ballot}
 use Rattle.protocol.specs.Entries.{Entry, Taped}
 use Rattle.protocol.specs.Rows.{Vote, Row, may_stand}
 use Rattle.protocol.specs.Versions.{One, Two}
 use Rattle.protocol.specs.Fitting.{Fits, VoteFits}
-use Rattle.saved_rows.specs.Saved.{HasPromise, RowFits, AreFitting}
+use Rattle.rows_saved.specs.Saved.{HasPromise, RowFits, AreFitting}
 use Rattle.acceptor_store.specs.Columns.{version_in, unless, stored_tape, tape_in, entry_in, entry_at, no_entry_at, vote_from, vote_at, ballot_from, whole_in, is_null, row_of, row_from, row_in, item_from, item_in}
 use Rattle.protocol.specs.Limits.{most_frames_one}
 
@@ -49,8 +49,8 @@ fits_two None = tt
 fits_two (Some e) = refl
 
 entry_fits : (layout : Layout) (at : ℕ) (c : Columns) → IfSome (entry_at layout at c) (Fits (version_in layout))
-entry_fits First at c = taped_fits (tape_in (column c at)) (tape_fits (column c at))
-entry_fits (Second origin) at c = fits_two (entry_in (column c at) (column c (at + 1)))
+entry_fits layouts.One at c = taped_fits (tape_in (column c at)) (tape_fits (column c at))
+entry_fits (layouts.Two origin) at c = fits_two (entry_in (column c at) (column c (at + 1)))
 
 module _ (layout : Layout) where
   from_fits : (b : Option Ballot) (e : Option Entry) → IfSome e (Fits (version_in layout)) → IfSome (vote_from b e) (VoteFits (version_in layout))

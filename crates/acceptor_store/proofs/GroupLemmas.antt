@@ -8,24 +8,25 @@ use Rattle.sqlite_trees.specs.View.{doubt}
 use Rattle.sqlite.specs.Effect.{Database}
 use Rattle.sqlite.specs.State.{State, HasCleanDisk, KeepsCommit, Survives}
 use Rattle.sqlite.specs.Held.{Held, state}
-use Rattle.row_table.specs.Tables.{Layout, layout_tree}
-use Rattle.row_table.specs.Rows.{AreRows, Serves, IsAtRest, WasKept}
-use Rattle.row_table.specs.Staging.{IsStaging}
+use Rattle.rows_table.specs.declared.layout.Layout.{Layout}
+use Rattle.rows_table.specs.Tables.{layout_tree}
+use Rattle.rows_table.specs.Rows.{AreRows, Serves, IsAtRest, WasKept}
+use Rattle.rows_table.specs.Staging.{IsStaging}
 use Rattle.sqlite.specs.declared.transaction.Transaction.{Transaction}
-use Rattle.row_table.specs.Tables.{Origin}
-use Rattle.row_table.specs.Tables.Layout.{Second}
-use Rattle.row_table.specs.Keeping.{WasOpenWhereRefused, RolledBackWhereRefused}
-use Rattle.row_table.proofs.AddingLemmas.{survives_both, kept_then}
+use Rattle.rows_table.specs.declared.layout.LayoutOrigin.{LayoutOrigin}
+use Rattle.rows_table.specs.declared.layout.Layout.TheVariants.{Two}
+use Rattle.rows_table.specs.Keeping.{WasOpenWhereRefused, RolledBackWhereRefused}
+use Rattle.rows_table.proofs.AddingLemmas.{survives_both, kept_then}
 use Rattle.protocol.specs.Rows.{Row}
-use Rattle.saved_rows.specs.Saved.{Saved, with_row}
-use Rattle.saved_rows.specs.declared.identity.Identity.{Identity}
-use Rattle.saved_rows.specs.declared.fault.RowsFault.{RowsFault}
-use Rattle.saved_rows.specs.Groups.{WithAll, WithSome, IsAllOrNone}
-use Rattle.saved_rows.proofs.GroupLemmas.{same_all}
+use Rattle.rows_saved.specs.Saved.{Saved, with_row}
+use Rattle.rows_saved.specs.declared.identity.Identity.{Identity}
+use Rattle.rows_saved.specs.declared.fault.RowsFault.{RowsFault}
+use Rattle.rows_saved.specs.Groups.{WithAll, WithSome, IsAllOrNone}
+use Rattle.rows_saved.proofs.GroupLemmas.{same_all}
 use Rattle.acceptor_store.specs.Columns.{saved_in}
 use Rattle.acceptor_store.proofs.SaveLemmas.{saves_row}
 use Rattle.acceptor_store.specs.Sqlite.{IsOfStation, Stands}
-use Rattle.acceptor_store.specs.Grouping.{PutsBack, PutsEach, StagesBack, StagesRows, StagesSecond, HasLayout, WereSaved, CommitsEach, CrashesWithAllOrNone, WasOpenWhereDone, PutsTogether, SavesTogether}
+use Rattle.acceptor_store.specs.Grouping.{PutsBack, PutsEach, StagesBack, StagesRows, StagesEntryBack, HasLayout, WereSaved, CommitsEach, CrashesWithAllOrNone, WasOpenWhereDone, PutsTogether, SavesTogether}
 use Rattle.acceptor_store.proofs.StandLemmas.{IsSettled, saved_station, was_clean}
 
 -- from a place on a list has what stands there and then the rest
@@ -85,9 +86,9 @@ on_ok f (Ok a) h = f h
 on_ok f (Err e) h = tt
 
 -- a row that is put into the table of entries is put into that of a database that came to it so
-pub second_at : {S A : Type 0} (g : Ghosts S) (origin : Origin) (number : ℕ) (row : Row) (r : Result A RowsFault) (old new : Transaction S)
-    → StagesRows g (StagesSecond number row) r old new → StagesRows g (StagesBack (Second origin) number row) r old new
-second_at g origin number row r old new it = record {
+pub entry_back : {S A : Type 0} (g : Ghosts S) (origin : LayoutOrigin) (number : ℕ) (row : Row) (r : Result A RowsFault) (old new : Transaction S)
+    → StagesRows g (StagesEntryBack number row) r old new → StagesRows g (StagesBack (Two origin) number row) r old new
+entry_back g origin number row r old new it = record {
   acts = record {
     same_reference = it.acts.same_reference;
     done = λ clean. on_ok (λ h. h origin) r (it.acts.done clean);

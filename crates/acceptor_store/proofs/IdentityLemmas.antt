@@ -9,14 +9,15 @@ use Rattle.sqlite_value.specs.declared.value.Value.TheVariants.{Null, Int, Real,
 use Rattle.sqlite_value.specs.Order.{Row as Columns, column}
 use Rattle.sqlite_trees.specs.Tree.{Trees}
 use Rattle.sqlite.proofs.Callers.{one_permutation}
-use Rattle.row_table.specs.Tables.{Layout, station_tree, layout_number}
-use Rattle.row_table.specs.Tables.Layout.{First, Second}
-use Rattle.row_table.specs.Tables.Origin.{Upgraded}
-use Rattle.row_table.specs.Rows.{whole}
-use Rattle.row_table.specs.Station.{station_columns, HoldsNone}
-use Rattle.row_table.specs.Entries.{HasLayoutOne, IsUpgraded}
-use Rattle.saved_rows.specs.declared.identity.Identity.{Identity}
-use Rattle.saved_rows.specs.Identity.{IsIdentity}
+use Rattle.rows_table.specs.declared.layout.Layout.{Layout}
+use Rattle.rows_table.specs.Tables.{station_tree, layout_number}
+use Rattle.rows_table.specs.declared.layout.Layout.TheVariants.{One, Two}
+use Rattle.rows_table.specs.declared.layout.LayoutOrigin.TheVariants.{Upgraded}
+use Rattle.rows_table.specs.Rows.{whole}
+use Rattle.rows_table.specs.Station.{station_columns, HoldsNone}
+use Rattle.rows_table.specs.Entries.{HasLayoutOne, IsUpgraded}
+use Rattle.rows_saved.specs.declared.identity.Identity.{Identity}
+use Rattle.rows_saved.specs.Identity.{IsIdentity}
 use Rattle.acceptor_store.specs.Columns.{whole_in, small}
 use Rattle.acceptor_store.specs.StationRow.{station_from, station_of, station_in, IsStationOf}
 use Rattle.acceptor_store.proofs.ColumnLemmas.{ranged}
@@ -32,8 +33,8 @@ same_station (x ∷ z ∷ xs) (y ∷ w ∷ ys) h = refl
 
 -- a layout has one of two numbers
 pub numbered : (layout : Layout) → (1 ≤ layout_number layout) × (layout_number layout ≤ 2)
-numbered First = (omega arith, omega arith)
-numbered (Second origin) = (omega arith, omega arith)
+numbered One = (omega arith, omega arith)
+numbered (Two origin) = (omega arith, omega arith)
 
 -- what was added is found
 pub added : (layout : Layout) (i : Identity) (trees : Trees) → IsIdentity i → i.circuit < 65536 → HoldsNone layout i.circuit i.member i.members trees → IsStationOf layout i trees
@@ -126,7 +127,7 @@ told_in (r ∷ s ∷ rs) n i e = absurd cc
 -- ---- a station in layout 1, and after its upgrade
 
 -- where a database holds a station in layout 1, the upgrade finds its row
-pub lies_in_one : (i : Identity) (db : Trees) → IsStationOf First i db → HasLayoutOne db
+pub lies_in_one : (i : Identity) (db : Trees) → IsStationOf One i db → HasLayoutOne db
 lies_in_one i db is =
     let row = one_row (db station_tree) (told_in (map station_columns (db station_tree)) 1 i is) in
     let all = told_by_row (station_columns row.0) 1 i row.2 in
@@ -161,7 +162,7 @@ goes_over (Some c) (Some m) (Some ms) i e = at (nat_le c 65535 && (nat_le 1 m &&
     at false f = absurd cc
 
 -- an upgraded database holds the station that it held, in layout 2
-pub upgraded_station : (i : Identity) (before db : Trees) (rows : List Columns) → IsStationOf First i before → IsUpgraded before rows db → IsStationOf (Second Upgraded) i db
+pub upgraded_station : (i : Identity) (before db : Trees) (rows : List Columns) → IsStationOf One i before → IsUpgraded before rows db → IsStationOf (Two Upgraded) i db
 upgraded_station i before db rows is up =
     let was = up.was in
     let c = whole_in (whole was.circuit) in

@@ -7,12 +7,12 @@ use Rattle.std.proofs.lemmas.Bool.{le-leb}
 use Rattle.sqlite_value.specs.declared.value.Value.{Value}
 use Rattle.sqlite_value.specs.declared.value.Value.TheVariants.{Null, Int, Real, Text, Blob}
 use Rattle.sqlite_value.specs.Order.{Row as Columns, column}
-use Rattle.row_table.specs.Tables.{Layout}
-use Rattle.row_table.specs.Tables.Layout.{First, Second}
-use Rattle.row_table.specs.Rows.{whole, columns_at}
-use Rattle.row_table.specs.Rising.{key_of, is_above, is_at, goes_on, rise_from, listed_columns, listed_at, IsInTable, AreListed}
+use Rattle.rows_table.specs.declared.layout.Layout.{Layout}
+use Rattle.rows_table.specs.declared.layout.Layout.TheVariants.{One, Two}
+use Rattle.rows_table.specs.Rows.{whole, columns_at}
+use Rattle.rows_table.specs.Rising.{key_of, is_above, is_at, goes_on, rise_from, listed_columns, listed_at, IsInTable, AreListed}
 use Rattle.protocol.specs.Rows.{Row, blank}
-use Rattle.saved_rows.specs.Saved.{HasPromise, saved_by, RiseFrom, IsListOf}
+use Rattle.rows_saved.specs.Saved.{HasPromise, saved_by, RiseFrom, IsListOf}
 use Rattle.acceptor_store.specs.Columns.{row_in, is_number, damage_of, first_of, damage_in, item_in, row_or_blank, whole_in, IsSound, AreSound}
 use Rattle.acceptor_store.proofs.ColumnLemmas.{ranged}
 
@@ -58,8 +58,8 @@ above_low (Some k) n low h = (Decides-ltb k n).0 h
 
 -- a line of a listing is the same row as the columns beside its number
 shifted : (layout : Layout) (r : Columns) → row_in layout 0 (listed_columns layout r) ≡ row_in layout 1 r
-shifted First r = refl
-shifted (Second origin) r = refl
+shifted One r = refl
+shifted (Two origin) r = refl
 
 module _ (layout : Layout) where
   -- a row of a listing that is no damage: its number, in range, and its row

@@ -7,16 +7,15 @@ use Rattle.std.proofs.lemmas.List.Elements.{filter_map-append}
 use Rattle.sqlite_value.specs.Order.{Row as Columns, column}
 use Rattle.sqlite_trees.specs.Tree.{Trees}
 use Rattle.sqlite.specs.State.{State}
-use Rattle.row_table.specs.Tables.{Layout, layout_tree}
-use Rattle.row_table.specs.Rows.{IsListing, AreRows}
-use Rattle.row_table.specs.Rising.{rise_from, AreListed}
-use Rattle.row_table.specs.Cursor.{ListsFirst}
+use Rattle.rows_table.specs.declared.layout.Layout.{Layout}
+use Rattle.rows_table.specs.Tables.{layout_tree}
+use Rattle.rows_table.specs.Rows.{IsListing, AreRows}
+use Rattle.rows_table.specs.Rising.{rise_from, AreListed}
+use Rattle.rows_table.specs.Cursor.{ListsFirst}
 use Rattle.protocol.specs.Ballots.{Ballot}
 use Rattle.protocol.specs.Rows.{Vote, Row, may_stand}
-use Rattle.saved_rows.specs.Saved.{HasPromise, IsListOf}
-use Rattle.saved_rows.specs.declared.fault.RowsFault.{RowsFault}
-use Rattle.row_table.specs.declared.layout.Layout.{Layout as Coded}
-use Rattle.acceptor_store.specs.Layouts.{layout_of}
+use Rattle.rows_saved.specs.Saved.{HasPromise, IsListOf}
+use Rattle.rows_saved.specs.declared.fault.RowsFault.{RowsFault}
 use Rattle.acceptor_store.specs.Columns.{whole_in, ballot_from, vote_at, row_in, row_of, row_from, first_of, damage_of, damage_in, item_from, item_in, saved_in, AreSound}
 use Rattle.acceptor_store.specs.Sqlite.{Lists, IsRefusal}
 use Rattle.acceptor_store.specs.declared.reading.RowReader.{RowReader}
@@ -167,40 +166,40 @@ module _ (rise : Rise) (listed : Listed) (layout : Layout) (s : State) (are : Is
 
 -- ---- what a reader leaves
 
-module _ {V : Type 0} (rise : Rise) (listed : Listed) (saw : V → V → List (ℕ × Row) → Type 0) (coded : Coded) (s : State) (old new : RowReader V) (fresh : old.fault ≡ None) (same_layout : old.layout ≡ coded) where
+module _ {V : Type 0} (rise : Rise) (listed : Listed) (saw : V → V → List (ℕ × Row) → Type 0) (layout : Layout) (s : State) (old new : RowReader V) (fresh : old.fault ≡ None) (same_layout : old.layout ≡ layout) where
   -- the one leads to the other by the rows of a listing
   abbrev pub Took : List Columns → Type 0
-  Took rows = (old.visitor.ghost_name ≡ new.visitor.ghost_name) × (new.layout ≡ old.layout) × (old.fault ≡ None → HasSeen saw (layout_of old.layout) new.fault old.visitor.now new.visitor.now rows)
+  Took rows = (old.visitor.ghost_name ≡ new.visitor.ghost_name) × (new.layout ≡ old.layout) × (old.fault ≡ None → HasSeen saw old.layout new.fault old.visitor.now new.visitor.now rows)
 
-  seen_of : (rows : List Columns) → Took rows → HasSeen saw (layout_of coded) new.fault old.visitor.now new.visitor.now rows
-  seen_of rows took = subst (λ (l : Coded). HasSeen saw (layout_of l) new.fault old.visitor.now new.visitor.now rows) same_layout (took.2 fresh)
+  seen_of : (rows : List Columns) → Took rows → HasSeen saw layout new.fault old.visitor.now new.visitor.now rows
+  seen_of rows took = subst (λ (l : Layout). HasSeen saw l new.fault old.visitor.now new.visitor.now rows) same_layout (took.2 fresh)
 
-  module _ (are : IsTrue s.is_open → AreRows (s.now.trees (layout_tree (layout_of coded)))) (sound : IsTrue s.is_open → AreSound (layout_of coded) (s.now.trees (layout_tree (layout_of coded))))
-      (first : (new ≡ old) ⊎ ((rows : List Columns) × ListsFirst (layout_of coded) s rows × Took rows)) where
-    pub front_read : SeesFront saw old.visitor.now new.visitor.now (saved_in (layout_of coded) s.now.trees)
+  module _ (are : IsTrue s.is_open → AreRows (s.now.trees (layout_tree layout))) (sound : IsTrue s.is_open → AreSound layout (s.now.trees (layout_tree layout)))
+      (first : (new ≡ old) ⊎ ((rows : List Columns) × ListsFirst layout s rows × Took rows)) where
+    pub front_read : SeesFront saw old.visitor.now new.visitor.now (saved_in layout s.now.trees)
     front_read = elim first [
       | inl same ↦ inl (ap (λ (r : RowReader V). r.visitor.now) same)
-      | inr h ↦ front_seen rise listed (layout_of coded) s are sound saw old.visitor.now new.visitor.now new.fault h.0 (seen_of h.0 h.2) h.1
+      | inr h ↦ front_seen rise listed layout s are sound saw old.visitor.now new.visitor.now new.fault h.0 (seen_of h.0 h.2) h.1
     ]
 
     pub refusal_read : (r : Result Bool RowsFault) → IfErr r (λ f. new.fault ≡ Some f) → IfErr r IsRefusal
     refusal_read (Ok all) h = tt
     refusal_read (Err f) h = elim first [
       | inl same ↦ absurd (let none : None ≡ Some f = sym (ap (λ (r : RowReader V). r.fault) same ∙ fresh) ∙ h in cc)
-      | inr h' ↦ refused rise listed (layout_of coded) s are sound saw old.visitor.now new.visitor.now new.fault h'.0 (seen_of h'.0 h'.2) h'.1 f h
+      | inr h' ↦ refused rise listed layout s are sound saw old.visitor.now new.visitor.now new.fault h'.0 (seen_of h'.0 h'.2) h'.1 f h
     ]
 
-  module _ (are : AreRows (s.now.trees (layout_tree (layout_of coded)))) (sound : AreSound (layout_of coded) (s.now.trees (layout_tree (layout_of coded)))) where
-    whole_read : new.fault ≡ None → Lists (layout_of coded) s.now.trees Took → SeesAll saw old.visitor.now new.visitor.now (saved_in (layout_of coded) s.now.trees)
+  module _ (are : AreRows (s.now.trees (layout_tree layout))) (sound : AreSound layout (s.now.trees (layout_tree layout))) where
+    whole_read : new.fault ≡ None → Lists layout s.now.trees Took → SeesAll saw old.visitor.now new.visitor.now (saved_in layout s.now.trees)
     whole_read none h =
         let seen = seen_of h.0 h.2 in
         let whole : h.0 ≡ seen.seen = seen.are ∙ ap (λ l. seen.seen ++ l) (seen.all none) ∙ append-nil seen.seen in (
-          filter_map (item_in (layout_of coded)) seen.seen,
-          subst (λ l. IsListOf (saved_in (layout_of coded) s.now.trees) (filter_map (item_in (layout_of coded)) l)) whole (is_map rise listed (layout_of coded) s.now.trees are sound h.0 h.1),
+          filter_map (item_in layout) seen.seen,
+          subst (λ l. IsListOf (saved_in layout s.now.trees) (filter_map (item_in layout) l)) whole (is_map rise listed layout s.now.trees are sound h.0 h.1),
           seen.saw_them,
         )
 
-    pub all_read : (all : Bool) → (IsTrue all → Lists (layout_of coded) s.now.trees Took) → (r : Result Bool RowsFault) → IfOk r (λ of_all. (new.fault ≡ None) × (of_all ≡ all))
-        → IfOk r (λ of_all. IsTrue of_all → SeesAll saw old.visitor.now new.visitor.now (saved_in (layout_of coded) s.now.trees))
+    pub all_read : (all : Bool) → (IsTrue all → Lists layout s.now.trees Took) → (r : Result Bool RowsFault) → IfOk r (λ of_all. (new.fault ≡ None) × (of_all ≡ all))
+        → IfOk r (λ of_all. IsTrue of_all → SeesAll saw old.visitor.now new.visitor.now (saved_in layout s.now.trees))
     all_read all lists (Ok of_all) h = λ sure. whole_read h.0 (lists (subst IsTrue h.1 sure))
     all_read all lists (Err f) h = tt

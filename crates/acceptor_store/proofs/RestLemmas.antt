@@ -3,10 +3,10 @@ use Rattle.std.proofs.Common.{◌≡◌, ◌<◌, sym, ap, subst, ◌∙◌}
 use Rattle.sqlite_trees.specs.declared.store.Store.{Ghosts}
 use Rattle.sqlite_trees.specs.Tree.{Trees}
 use Rattle.sqlite.specs.Held.{state}
-use Rattle.row_table.specs.Tables.{Layout}
-use Rattle.saved_rows.specs.Saved.{Saved}
-use Rattle.saved_rows.specs.Identity.{IsIdentity}
-use Rattle.saved_rows.specs.declared.identity.Identity.{Identity}
+use Rattle.rows_table.specs.declared.layout.Layout.{Layout}
+use Rattle.rows_saved.specs.Saved.{Saved}
+use Rattle.rows_saved.specs.Identity.{IsIdentity}
+use Rattle.rows_saved.specs.declared.identity.Identity.{Identity}
 use Rattle.acceptor_store.specs.Columns.{saved_in}
 use Rattle.acceptor_store.specs.Sqlite.{SqliteOf, HoldsNoRow, IsAtRest, IsKept, IsOfStation, IsOpen, LeavesNoRow, Stands}
 use Rattle.acceptor_store.proofs.StandLemmas.{IsSettled, leaves_now, made_holds, none_saved}

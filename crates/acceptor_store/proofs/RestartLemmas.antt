@@ -18,19 +18,21 @@ use Rattle.sqlite.specs.Files.{file_state, over_files, IsOpened}
 use Rattle.sqlite.specs.Start.{FindsIn}
 use Rattle.sqlite_schema.specs.declared.schema.Schema.{Schema}
 use Rattle.sqlite_schema.specs.contracts.schema.Schema as schema
-use Rattle.row_table.specs.Tables.{Layout, layout_schema}
-use Rattle.row_table.specs.Tables.Layout.{First, Second}
-use Rattle.row_table.specs.Station.{HoldsNone}
+use Rattle.rows_table.specs.declared.layout.Layout.{Layout}
+use Rattle.rows_table.specs.Tables.{layout_schema}
+use Rattle.rows_table.specs.declared.layout.Layout.TheVariants as layouts
+use Rattle.rows_table.specs.contracts.layout.Layout as layout_code
+use Rattle.rows_table.specs.Station.{HoldsNone}
 use Rattle.protocol.specs.Rows.{Row}
 use Rattle.ballots.specs.contracts.row.Row as row
-use Rattle.saved_rows.specs.contracts.identity.Identity as identity
-use Rattle.saved_rows.specs.Saved.{Saved, IsEither}
-use Rattle.saved_rows.specs.declared.identity.Identity.{Identity}
+use Rattle.rows_saved.specs.contracts.identity.Identity as identity
+use Rattle.rows_saved.specs.Saved.{Saved, IsEither}
+use Rattle.rows_saved.specs.declared.identity.Identity.{Identity}
 use Rattle.protocol.specs.Versions.{Version, One, Two}
 use Rattle.acceptor_store.specs.Layouts.{upgraded_from}
 use Rattle.acceptor_store.specs.Columns.{version_in, saved_in}
 use Rattle.acceptor_store.specs.StationRow.{IsStationOf}
-use Rattle.acceptor_store.specs.Sqlite.{SqliteOf, layout_code, rows_version, IsOurs, IsOfStation, saved_of}
+use Rattle.acceptor_store.specs.Sqlite.{SqliteOf, rows_version, IsOurs, IsOfStation, saved_of}
 use Rattle.acceptor_store.specs.Files.{IsTakenUp}
 use Rattle.acceptor_store.specs.Restarts.{GivesUp, AreOpenedFrom, AreTorn, OpensWhatIsLeft, PutOutlivesCrash, GroupOutlivesCrash, GroupIsFound, UpgradeOutlivesCrash, CreateOutlivesCrash}
 use Rattle.acceptor_store.proofs.IdentityLemmas.{added}
@@ -69,8 +71,8 @@ told_apart One Two h = inl (∥∥₁_elim h (λ x y. absurd (differ x)) (λ eit
 
 version_after : (before layout : Layout) → (layout ≡ before) ⊎ (layout ≡ upgraded_from before) → (version_in layout ≡ version_in before) ⊎ (version_in layout ≡ Two)
 version_after before layout (inl same) = inl (ap version_in same)
-version_after First layout (inr over) = inr (ap version_in over)
-version_after (Second origin) layout (inr over) = inr (ap version_in over)
+version_after layouts.One layout (inr over) = inr (ap version_in over)
+version_after (layouts.Two origin) layout (inr over) = inr (ap version_in over)
 
 module _ {D : Type 0} {g : Ghosts D} {E : Type 0} {h : Ghosts E} (conn : Held (FileStore D g)) (files : Files D) (left : Image) (gives : GivesUp g conn files) (clean : AreClean g files.log files.db) (may : outcomes g files.log files.db left) where
   -- an open found a database that the crash could leave
@@ -116,7 +118,7 @@ opens {h = h} s i files left again leaves gives clean may opened =
     let found = found_left s.conn files left gives clean may taken.was taken.opened taken.found in
     let trees = (file_state taken.was).now.trees in (
       ours,
-      ∥∥₁_elim found (Coded-set layout_code _ _) (λ db. now_layout left again taken s.layout (leaves _ db).tables),
+      ∥∥₁_elim found (Coded-set layout_code.the_row.coded _ _) (λ db. now_layout left again taken s.layout (leaves _ db).tables),
       ∥∥₁_elim found (Coded-set identity.the_row.coded _ _) (λ db. taken_station left again taken s.layout (leaves _ db).tables i (leaves _ db).holds.station),
       ∥∥₁_map found (λ db. (trees, db, same_rows (saved_of over_files again) (saved_in s.layout trees) (taken_rows left again taken s.layout (leaves _ db).tables))),
     )

@@ -9,15 +9,15 @@ use Rattle.std.specs.declared.cmp.Ordering.TheVariants.{Less, Equal, Greater}
 use Rattle.std.specs.Ordering.{match_ordering}
 use Rattle.sqlite_value.specs.Order.{Row as Columns, value_cmp}
 use Rattle.sqlite_trees.specs.Tree.{rowid, has_rowid, put_row}
-use Rattle.row_table.specs.Tables.Origin.{Upgraded}
-use Rattle.row_table.specs.Tables.{Layout}
-use Rattle.row_table.specs.Tables.Layout.{Second}
-use Rattle.row_table.specs.Rows.{whole, stored, found_at, shown_of, AreKeyed, AreRows, Saves}
-use Rattle.row_table.specs.Entries.{entry_row, with_entries}
-use Rattle.row_table.specs.declared.entry_table.EntryColumns.{EntryColumns}
-use Rattle.row_table.proofs.KeyLemmas.{find_new, find_other, once_put}
+use Rattle.rows_table.specs.declared.layout.LayoutOrigin.TheVariants.{Upgraded}
+use Rattle.rows_table.specs.declared.layout.Layout.{Layout}
+use Rattle.rows_table.specs.declared.layout.Layout.TheVariants.{Two}
+use Rattle.rows_table.specs.Rows.{whole, stored, found_at, shown_of, AreKeyed, AreRows, Saves}
+use Rattle.rows_table.specs.Entries.{entry_row, with_entries}
+use Rattle.rows_table.specs.declared.entry_table.EntryColumns.{EntryColumns}
+use Rattle.rows_table.proofs.KeyLemmas.{find_new, find_other, once_put}
 use Rattle.protocol.specs.Rows.{Row, blank}
-use Rattle.saved_rows.specs.Saved.{HasPromise, saved_by, RiseFrom}
+use Rattle.rows_saved.specs.Saved.{HasPromise, saved_by, RiseFrom}
 use Rattle.acceptor_store.specs.Columns.{columns_for, row_or_blank, saved_at, AreSound}
 use Rattle.acceptor_store.specs.RowsAsEntries.{IsEntryOf, AreEntriesOf, MovesMap}
 use Rattle.acceptor_store.proofs.SaveLemmas.{puts_row, puts_sound}
@@ -56,13 +56,13 @@ puts n columns rows are none = record {
       | inr other ↦ find_other n columns k other rows ∙ sym (ap (λ b. cond b (Some (stored n columns)) (found_at rows k)) other)
     ]
 
-abbrev second : Layout
-second = Second Upgraded
+abbrev upgraded : Layout
+upgraded = Two Upgraded
 
 -- a sound table, with no number above one
 record IsBelow (low : ℕ) (table : List Columns) : Type 0 where
   rows : AreRows table
-  sound : AreSound second table
+  sound : AreSound upgraded table
   free : (k : ℕ) → low < k → found_at table k ≡ None
 
 -- none of these numbers is so low
@@ -76,43 +76,43 @@ none_below low (p ∷ ps) rise k h = elim (cases_Bool (k == p.0)) [
 -- the table that has got these rows: sound, as it was up to the number, and above it as the rows are
 record HasGot (low : ℕ) (items : List (ℕ × Row)) (table new : List Columns) : Type 0 where
   rows : AreRows new
-  sound : AreSound second new
-  kept : (k : ℕ) → k ≤ low → saved_at second new k ≡ saved_at second table k
-  same : (k : ℕ) → low < k → saved_at second new k ≡ saved_by items k
+  sound : AreSound upgraded new
+  kept : (k : ℕ) → k ≤ low → saved_at upgraded new k ≡ saved_at upgraded table k
+  same : (k : ℕ) → low < k → saved_at upgraded new k ≡ saved_by items k
 
 -- one row more
 module _ (low : ℕ) (p : ℕ × Row) (e : EntryColumns) (is : IsEntryOf p e) (has : HasPromise p.1) (up : low < p.0) (table : List Columns) (below : IsBelow low table) where
-  saves : Saves p.0 (columns_for second p.1) table (put_row (entry_row e) table)
-  saves = subst (λ r. Saves p.0 (columns_for second p.1) table (put_row r table)) (sym is.columns) (puts p.0 (columns_for second p.1) table below.rows (below.free p.0 up))
+  saves : Saves p.0 (columns_for upgraded p.1) table (put_row (entry_row e) table)
+  saves = subst (λ r. Saves p.0 (columns_for upgraded p.1) table (put_row r table)) (sym is.columns) (puts p.0 (columns_for upgraded p.1) table below.rows (below.free p.0 up))
 
   still_below : IsBelow p.0 (put_row (entry_row e) table)
   still_below = record {
     rows = saves.rows;
-    sound = puts_sound second p.0 p.1 has is.back table (put_row (entry_row e) table) saves is.low is.high below.sound;
+    sound = puts_sound upgraded p.0 p.1 has is.back table (put_row (entry_row e) table) saves is.low is.high below.sound;
     free = λ k above. saves.saved k ∙ elim (cases_Bool (p.0 == k)) [
       | inl same ↦ absurd (let e : p.0 ≡ k = (Decides-eqb p.0 k).0 same in omega arith)
-      | inr other ↦ ap (λ b. cond b (Some (stored p.0 (columns_for second p.1))) (found_at table k)) other ∙ below.free k (omega arith)
+      | inr other ↦ ap (λ b. cond b (Some (stored p.0 (columns_for upgraded p.1))) (found_at table k)) other ∙ below.free k (omega arith)
     ];
   }
 
-  has_row : (k : ℕ) → saved_at second (put_row (entry_row e) table) k ≡ cond (k == p.0) p.1 (saved_at second table k)
-  has_row = puts_row second p.0 p.1 has is.back table (put_row (entry_row e) table) saves
+  has_row : (k : ℕ) → saved_at upgraded (put_row (entry_row e) table) k ≡ cond (k == p.0) p.1 (saved_at upgraded table k)
+  has_row = puts_row upgraded p.0 p.1 has is.back table (put_row (entry_row e) table) saves
 
 -- and then the others
 module _ (low : ℕ) (p : ℕ × Row) (ps : List (ℕ × Row)) (table mid new : List Columns) (up : low < p.0) (rise : RiseFrom p.0 ps) (below : IsBelow low table)
-    (row : (k : ℕ) → saved_at second mid k ≡ cond (k == p.0) p.1 (saved_at second table k)) (more : HasGot p.0 ps mid new) where
-  was_kept : (k : ℕ) → k ≤ low → saved_at second new k ≡ saved_at second table k
+    (row : (k : ℕ) → saved_at upgraded mid k ≡ cond (k == p.0) p.1 (saved_at upgraded table k)) (more : HasGot p.0 ps mid new) where
+  was_kept : (k : ℕ) → k ≤ low → saved_at upgraded new k ≡ saved_at upgraded table k
   was_kept k h = elim (eqb_tells k p.0) [
     | inl same ↦ absurd (let e = same.1 in omega arith)
     | inr other ↦ more.kept k (omega arith) ∙ row k ∙ rw other.0 refl
   ]
 
-  is_same : (k : ℕ) → low < k → saved_at second new k ≡ cond (k == p.0) p.1 (saved_by ps k)
+  is_same : (k : ℕ) → low < k → saved_at upgraded new k ≡ cond (k == p.0) p.1 (saved_by ps k)
   is_same k h = elim (eqb_tells k p.0) [
     | inl same ↦ more.kept k (let e = same.1 in omega arith) ∙ row k ∙ rw same.0 refl
     | inr other ↦ rw other.0 (elim (leb_tells k p.0) [
       | inl under ↦
-          let free : saved_at second table k ≡ blank = ap (λ o. row_or_blank second (option_map (shown_of second) o)) (below.free k h) in
+          let free : saved_at upgraded table k ≡ blank = ap (λ o. row_or_blank upgraded (option_map (shown_of upgraded) o)) (below.free k h) in
           more.kept k under.1 ∙ row k ∙ rw other.0 free ∙ sym (none_below p.0 ps rise k under.1)
       | inr above ↦ more.same k above.1
     ])
@@ -127,7 +127,7 @@ gets [] [] are has low rise table below = record {
   rows = below.rows;
   sound = below.sound;
   kept = λ k h. refl;
-  same = λ k h. ap (λ o. row_or_blank second (option_map (shown_of second) o)) (below.free k h);
+  same = λ k h. ap (λ o. row_or_blank upgraded (option_map (shown_of upgraded) o)) (below.free k h);
 }
 gets [] (e ∷ es) are has low rise table below = absurd are
 gets (p ∷ ps) [] are has low rise table below = absurd are
@@ -148,6 +148,6 @@ moves items entries are saved list =
       same = λ n. at n got (leb_tells n 0) ∙ list.same n;
     }
   where
-    at : (n : ℕ) → HasGot 0 items [] (with_entries entries []) → ((nat_le n 0 ≡ true) × (n ≤ 0)) ⊎ ((nat_le n 0 ≡ false) × (0 < n)) → saved_at second (with_entries entries []) n ≡ saved_by items n
+    at : (n : ℕ) → HasGot 0 items [] (with_entries entries []) → ((nat_le n 0 ≡ true) × (n ≤ 0)) ⊎ ((nat_le n 0 ≡ false) × (0 < n)) → saved_at upgraded (with_entries entries []) n ≡ saved_by items n
     at n got (inl none) = got.kept n none.1 ∙ sym (none_below 0 items list.rise n none.1)
     at n got (inr some) = got.same n some.1

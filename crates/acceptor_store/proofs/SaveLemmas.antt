@@ -3,23 +3,24 @@ use Rattle.std.proofs.Common.{◌≡◌, ◌≢◌, ◌≤◌, ◌==◌, ℕ, Bo
 use Rattle.std.proofs.lemmas.Bool.Decides.{Decides-eqb, same_from_decides}
 use Rattle.sqlite_value.specs.Order.{Row as Columns}
 use Rattle.sqlite_trees.specs.Tree.{Trees}
-use Rattle.row_table.specs.Tables.{Layout, station_tree, layout_tree}
-use Rattle.row_table.specs.Tables.Layout.{First, Second}
-use Rattle.row_table.specs.Tables.Origin.{Created, Upgraded}
-use Rattle.row_table.specs.Rows.{stored, found_at, columns_at, shown_of, Saves, SavesIn}
+use Rattle.rows_table.specs.declared.layout.Layout.{Layout}
+use Rattle.rows_table.specs.Tables.{station_tree, layout_tree}
+use Rattle.rows_table.specs.declared.layout.Layout.TheVariants.{One, Two}
+use Rattle.rows_table.specs.declared.layout.LayoutOrigin.TheVariants.{Created, Upgraded}
+use Rattle.rows_table.specs.Rows.{stored, found_at, columns_at, shown_of, Saves, SavesIn}
 use Rattle.protocol.specs.Ballots.{Ballot}
 use Rattle.protocol.specs.Rows.{Vote, Row, blank}
-use Rattle.saved_rows.specs.Saved.{WithRow}
+use Rattle.rows_saved.specs.Saved.{WithRow}
 use Rattle.acceptor_store.specs.Columns.{row_in, columns_with, columns_for, row_or_blank, saved_at, saved_in, ComesBack, IsSound, AreSound}
 
 flip : (a b : ℕ) → (a == b) ≡ (b == a)
 flip a b = same_from_decides {P = a ≡ b} (a == b) (b == a) (Decides-eqb a b) ((λ t. sym ((Decides-eqb b a).0 t)), (λ e. (Decides-eqb b a).1 (sym e)))
 
 shown_stored : (layout : Layout) (n : ℕ) (promised : Option Ballot) (vote : Option Vote) → IsSome promised → shown_of layout (stored n (columns_with layout promised vote)) ≡ columns_with layout promised vote
-shown_stored First n None vote has = absurd (true≢false (sym has))
-shown_stored First n (Some p) vote has = refl
-shown_stored (Second origin) n None vote has = absurd (true≢false (sym has))
-shown_stored (Second origin) n (Some p) vote has = refl
+shown_stored One n None vote has = absurd (true≢false (sym has))
+shown_stored One n (Some p) vote has = refl
+shown_stored (Two origin) n None vote has = absurd (true≢false (sym has))
+shown_stored (Two origin) n (Some p) vote has = refl
 
 module _ (layout : Layout) (n : ℕ) (row : Row) (has : IsSome row.promised) (back : ComesBack layout row) where
   shown : shown_of layout (stored n (columns_for layout row)) ≡ columns_for layout row
@@ -52,9 +53,9 @@ module _ (layout : Layout) (n : ℕ) (row : Row) (has : IsSome row.promised) (ba
 
 -- the station's table is another than that of the rows
 station_apart : (layout : Layout) → station_tree ≢ layout_tree layout
-station_apart First e = absurd (omega (arith, e))
-station_apart (Second Created) e = absurd (omega (arith, e))
-station_apart (Second Upgraded) e = absurd (omega (arith, e))
+station_apart One e = absurd (omega (arith, e))
+station_apart (Two Created) e = absurd (omega (arith, e))
+station_apart (Two Upgraded) e = absurd (omega (arith, e))
 
 -- a database that a row is saved in
 module _ (layout : Layout) (old new : Trees) (n : ℕ) (row : Row) (has : IsSome row.promised) (back : ComesBack layout row) (h : SavesIn layout n (columns_for layout row) old new) where

@@ -6,15 +6,16 @@ use Rattle.sqlite_trees.specs.View.{doubt}
 use Rattle.sqlite.specs.Effect.{Database}
 use Rattle.sqlite.specs.State.{State, HasCleanDisk, IsLive, IsUnchanged}
 use Rattle.sqlite.specs.Held.{Held, state}
-use Rattle.row_table.specs.Tables.{Layout, layout_tree, layout_schema}
-use Rattle.row_table.specs.Tables.Layout.{First, Second}
-use Rattle.row_table.specs.Tables.Origin.{Created, Upgraded}
-use Rattle.row_table.specs.Rows.{Serves, SavesIn, WasSaved, WasKept, columns_at}
-use Rattle.row_table.specs.Station.{HoldsNone, station_columns}
+use Rattle.rows_table.specs.declared.layout.Layout.{Layout}
+use Rattle.rows_table.specs.Tables.{layout_tree, layout_schema}
+use Rattle.rows_table.specs.declared.layout.Layout.TheVariants.{One, Two}
+use Rattle.rows_table.specs.declared.layout.LayoutOrigin.TheVariants.{Created, Upgraded}
+use Rattle.rows_table.specs.Rows.{Serves, SavesIn, WasSaved, WasKept, columns_at}
+use Rattle.rows_table.specs.Station.{HoldsNone, station_columns}
 use Rattle.protocol.specs.Rows.{Row, blank}
-use Rattle.saved_rows.specs.Saved.{SameRows, HasPromise}
-use Rattle.saved_rows.specs.declared.identity.Identity.{Identity}
-use Rattle.saved_rows.specs.Identity.{IsIdentity}
+use Rattle.rows_saved.specs.Saved.{SameRows, HasPromise}
+use Rattle.rows_saved.specs.declared.identity.Identity.{Identity}
+use Rattle.rows_saved.specs.Identity.{IsIdentity}
 use Rattle.sqlite_trees.specs.Objects.{catalog_tree}
 use Rattle.sqlite_catalog.specs.Listing.{Lists as ListsTables}
 use Rattle.acceptor_store.specs.StationRow.{station_in}
@@ -26,8 +27,8 @@ use Rattle.acceptor_store.proofs.IdentityLemmas.{added}
 
 -- an upgrade of an upgraded layout is that layout
 upgrades_once : (layout : Layout) → upgraded_from (upgraded_from layout) ≡ upgraded_from layout
-upgrades_once First = refl
-upgrades_once (Second origin) = refl
+upgrades_once One = refl
+upgrades_once (Two origin) = refl
 
 -- rows that are upgraded are in the layout that theirs is upgraded to
 pub upgrade_stems : (was layout : Layout) → StemsFrom was layout → StemsFrom was (upgraded_from layout)
@@ -36,9 +37,9 @@ upgrade_stems was layout (inr by) = inr (ap upgraded_from by ∙ upgrades_once w
 
 -- the list of tables is in another tree than the rows
 catalog_apart : (layout : Layout) → catalog_tree ≢ layout_tree layout
-catalog_apart First e = absurd (omega (arith, e))
-catalog_apart (Second Created) e = absurd (omega (arith, e))
-catalog_apart (Second Upgraded) e = absurd (omega (arith, e))
+catalog_apart One e = absurd (omega (arith, e))
+catalog_apart (Two Created) e = absurd (omega (arith, e))
+catalog_apart (Two Upgraded) e = absurd (omega (arith, e))
 
 -- the tables, the rows and the station that a database holds are its trees' alone
 pub same_holds : (layout : Layout) (i : Identity) (old new : Database) → new ≡ old → IsOfStation layout i old.trees → IsOfStation layout i new.trees

@@ -7,7 +7,7 @@ use Rattle.protocol.specs.Turn.{number_of}
 use Rattle.protocol.specs.Versions.{Version, Two}
 use Rattle.protocol.specs.Ballots.{IsMember}
 use Rattle.protocol.specs.Circuit.{Circuit, State, IsSameState, with_at, saved, offers_with, MayLeave, Torn_by_store, is_torn, at_save, restarts, upgrade_is_torn}
-use Rattle.saved_rows.specs.Saved.{Saved}
+use Rattle.rows_saved.specs.Saved.{Saved}
 use Rattle.acceptor_store.specs.Restarts.{AreTorn}
 use Rattle.acceptor_store.specs.Acknowledged.{RestartsWith}
 use Rattle.acceptor_store.specs.Steps.{CrashIsTwoSteps, GroupCrashIsARestart, UpgradeCrashIsTwoSteps}

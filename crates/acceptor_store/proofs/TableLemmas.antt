@@ -7,9 +7,10 @@ use Rattle.sqlite_schema.specs.declared.schema.Table.{Table}
 use Rattle.sqlite_schema.specs.declared.schema.Schema.{Schema}
 use Rattle.sqlite.specs.Compile.{table_defined_by}
 use Rattle.sqlite_catalog.specs.Listing.{IsTableRow, Lists, is_table_row, is_index_row, is_view_row}
-use Rattle.row_table.specs.Tables.{Layout, layout_schema}
-use Rattle.row_table.specs.Tables.Layout.{First, Second}
-use Rattle.row_table.specs.Tables.Origin.{Created, Upgraded}
+use Rattle.rows_table.specs.declared.layout.Layout.{Layout}
+use Rattle.rows_table.specs.Tables.{layout_schema}
+use Rattle.rows_table.specs.declared.layout.Layout.TheVariants.{One, Two}
+use Rattle.rows_table.specs.declared.layout.LayoutOrigin.TheVariants.{Created, Upgraded}
 
 -- what goes with each element, where one thing alone goes with an element
 same_all : {A B : Type 0} (R : A → B → Type 0) → ((a : A) (b c : B) → R a b → R a c → b ≡ c) → (xs : List A) (ys zs : List B) → AllZip R xs ys → AllZip R xs zs → ys ≡ zs
@@ -40,14 +41,14 @@ same_table row t u a b =
 
 -- a layout has no index and no view
 no_indexes : (layout : Layout) → (layout_schema layout).indexes ≡ []
-no_indexes First = refl
-no_indexes (Second Created) = refl
-no_indexes (Second Upgraded) = refl
+no_indexes One = refl
+no_indexes (Two Created) = refl
+no_indexes (Two Upgraded) = refl
 
 no_views : (layout : Layout) → (layout_schema layout).views ≡ []
-no_views First = refl
-no_views (Second Created) = refl
-no_views (Second Upgraded) = refl
+no_views One = refl
+no_views (Two Created) = refl
+no_views (Two Upgraded) = refl
 
 -- where it lists the tables of a layout, and no others, these are all that it lists
 pub same_schema : (layout : Layout) (objects : List Columns) (schema : Schema) → Lists objects (layout_schema layout) → Lists objects schema → schema ≡ layout_schema layout
@@ -81,12 +82,12 @@ three_two e = omega (arith, e)
 -- the tables tell the layout
 pub same_layout : (a b : Layout) → layout_schema a ≡ layout_schema b → a ≡ b
 unfolding width
-same_layout First First e = refl
-same_layout First (Second Created) e = absurd (six_seven (widths First (Second Created) e).0)
-same_layout First (Second Upgraded) e = absurd (two_three (widths First (Second Upgraded) e).1)
-same_layout (Second Created) First e = absurd (seven_six (widths (Second Created) First e).0)
-same_layout (Second Created) (Second Created) e = refl
-same_layout (Second Created) (Second Upgraded) e = absurd (two_three (widths (Second Created) (Second Upgraded) e).1)
-same_layout (Second Upgraded) First e = absurd (three_two (widths (Second Upgraded) First e).1)
-same_layout (Second Upgraded) (Second Created) e = absurd (three_two (widths (Second Upgraded) (Second Created) e).1)
-same_layout (Second Upgraded) (Second Upgraded) e = refl
+same_layout One One e = refl
+same_layout One (Two Created) e = absurd (six_seven (widths One (Two Created) e).0)
+same_layout One (Two Upgraded) e = absurd (two_three (widths One (Two Upgraded) e).1)
+same_layout (Two Created) One e = absurd (seven_six (widths (Two Created) One e).0)
+same_layout (Two Created) (Two Created) e = refl
+same_layout (Two Created) (Two Upgraded) e = absurd (two_three (widths (Two Created) (Two Upgraded) e).1)
+same_layout (Two Upgraded) One e = absurd (three_two (widths (Two Upgraded) One e).1)
+same_layout (Two Upgraded) (Two Created) e = absurd (three_two (widths (Two Upgraded) (Two Created) e).1)
+same_layout (Two Upgraded) (Two Upgraded) e = refl

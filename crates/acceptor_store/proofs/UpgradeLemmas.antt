@@ -7,13 +7,13 @@ use Rattle.sqlite_trees.specs.View.{doubt}
 use Rattle.sqlite.specs.Effect.{Database}
 use Rattle.sqlite.specs.State.{HasCleanDisk}
 use Rattle.sqlite.specs.Held.{Held, state}
-use Rattle.row_table.specs.Tables.{row_schema}
-use Rattle.row_table.specs.Tables.Layout.{First, Second}
-use Rattle.row_table.specs.Tables.Origin.{Upgraded}
-use Rattle.row_table.specs.Rows.{Serves, AreRows, WasKept}
-use Rattle.row_table.specs.Entries.{HasLayoutOne, IsUpgraded, WasUpgraded}
-use Rattle.saved_rows.specs.Saved.{SameRows}
-use Rattle.saved_rows.specs.declared.identity.Identity.{Identity}
+use Rattle.rows_table.specs.Tables.{row_schema}
+use Rattle.rows_table.specs.declared.layout.Layout.TheVariants.{One, Two}
+use Rattle.rows_table.specs.declared.layout.LayoutOrigin.TheVariants.{Upgraded}
+use Rattle.rows_table.specs.Rows.{Serves, AreRows, WasKept}
+use Rattle.rows_table.specs.Entries.{HasLayoutOne, IsUpgraded, WasUpgraded}
+use Rattle.rows_saved.specs.Saved.{SameRows}
+use Rattle.rows_saved.specs.declared.identity.Identity.{Identity}
 use Rattle.acceptor_store.specs.Columns.{saved_in, saved_at, AreSound}
 use Rattle.acceptor_store.specs.RowsAsEntries.{HoldsMap}
 use Rattle.acceptor_store.specs.Sqlite.{IsOfStation, HoldsAll, Stands, WentOver}
@@ -21,28 +21,28 @@ use Rattle.acceptor_store.proofs.IdentityLemmas.{lies_in_one, upgraded_station}
 use Rattle.acceptor_store.proofs.StandLemmas.{IsSettled, was_clean, leaves_now, holds_all}
 
 -- a database that was upgraded with entries that hold its map holds the station and the same map
-module _ (i : Identity) (before db : Trees) (rows : List Columns) (held : IsOfStation First i before) (map : HoldsMap (saved_in First before) rows) (up : IsUpgraded before rows db) where
-  pub moved_station : IsOfStation (Second Upgraded) i db
+module _ (i : Identity) (before db : Trees) (rows : List Columns) (held : IsOfStation One i before) (map : HoldsMap (saved_in One before) rows) (up : IsUpgraded before rows db) where
+  pub moved_station : IsOfStation (Two Upgraded) i db
   moved_station = record {
     tables = up.tables;
     holds = record {
-      sound = subst (AreSound (Second Upgraded)) (sym up.entries) map.sound;
+      sound = subst (AreSound (Two Upgraded)) (sym up.entries) map.sound;
       station = upgraded_station i before db rows held.holds.station up;
     };
   }
 
-  pub moved_map : SameRows (saved_in First before) (saved_in (Second Upgraded) db)
-  moved_map n = ap (λ table. saved_at (Second Upgraded) table n) up.entries ∙ map.same n
+  pub moved_map : SameRows (saved_in One before) (saved_in (Two Upgraded) db)
+  moved_map n = ap (λ table. saved_at (Two Upgraded) table n) up.entries ∙ map.same n
 
-  pub moved_all : HoldsAll First i (saved_in First before) db
-  moved_all = record { layout = Second Upgraded; either = inr refl; station = moved_station; same = moved_map }
+  pub moved_all : HoldsAll One i (saved_in One before) db
+  moved_all = record { layout = Two Upgraded; either = inr refl; station = moved_station; same = moved_map }
 
-module _ {S : Type 0} (g : Ghosts S) (old new : Held S) (falls : doubt (state g old).is_clean ≤ doubt (state g new).is_clean) (i : Identity) (stands : Stands g First old i)
+module _ {S : Type 0} (g : Ghosts S) (old new : Held S) (falls : doubt (state g old).is_clean ≤ doubt (state g new).is_clean) (i : Identity) (stands : Stands g One old i)
     (law_old : IsSettled (state g old)) (law_new : IsSettled (state g new)) (rows : List Columns) (opened : IsTrue (state g old).is_open) (clean : HasCleanDisk (state g new)) where
   early : HasCleanDisk (state g old)
   early = was_clean (state g old) (state g new) falls clean
 
-  held : IsOfStation First i (state g old).now.trees
+  held : IsOfStation One i (state g old).now.trees
   held = stands.holds early opened
 
   -- the tables and the station are as the upgrade asks
@@ -53,21 +53,21 @@ module _ {S : Type 0} (g : Ghosts S) (old new : Held S) (falls : doubt (state g 
   lies = lies_in_one i (state g old).now.trees held.holds.station
 
   -- after its Ok
-  pub went_over : HoldsMap (saved_in First (state g old).now.trees) rows → WasUpgraded (state g old).now.trees rows (state g new) → WentOver g First i old new
+  pub went_over : HoldsMap (saved_in One (state g old).now.trees) rows → WasUpgraded (state g old).now.trees rows (state g new) → WentOver g One i old new
   went_over map up =
       let entries = up.holds.entries in
-      let serves : Serves (Second Upgraded) (state g new) = λ _. (up.alone, λ _. record { schema = up.schema; rows = subst AreRows (sym entries) map.rows; settled = up.settled }) in
+      let serves : Serves (Two Upgraded) (state g new) = λ _. (up.alone, λ _. record { schema = up.schema; rows = subst AreRows (sym entries) map.rows; settled = up.settled }) in
       record {
         was_open = opened;
         is_open = up.is_open;
         stands = record { serves = serves; holds = λ _ _. moved_station i (state g old).now.trees (state g new).now.trees rows held map up.holds };
         same = moved_map i (state g old).now.trees (state g new).now.trees rows held map up.holds;
-        crash = leaves_now (Second Upgraded) (state g new) law_new serves clean up.is_open;
+        crash = leaves_now (Two Upgraded) (state g new) law_new serves clean up.is_open;
       }
 
   -- whatever comes of it
-  pub left_by : HoldsMap (saved_in First (state g old).now.trees) rows → (db : Trees) → (state g old).may_leave db ⊎ IsUpgraded (state g old).now.trees rows db → HoldsAll First i (saved_in First (state g old).now.trees) db
-  left_by map db (inl before) = holds_all First i (state g old).now.trees db held (leaves_now First (state g old) law_old stands.serves early opened db before)
+  pub left_by : HoldsMap (saved_in One (state g old).now.trees) rows → (db : Trees) → (state g old).may_leave db ⊎ IsUpgraded (state g old).now.trees rows db → HoldsAll One i (saved_in One (state g old).now.trees) db
+  left_by map db (inl before) = holds_all One i (state g old).now.trees db held (leaves_now One (state g old) law_old stands.serves early opened db before)
   left_by map db (inr up) = moved_all i (state g old).now.trees db rows held map up
 
 -- ---- after the rows were read
@@ -81,17 +81,17 @@ err_after (Ok a) P Q f p = tt
 err_after (Err e) P Q f p = f p
 
 module _ {S : Type 0} (g : Ghosts S) (i : Identity) (old mid new : Held S) where
-  pub over_since : WasKept (state g old) (state g mid) → WentOver g First i mid new → WentOver g First i old new
+  pub over_since : WasKept (state g old) (state g mid) → WentOver g One i mid new → WentOver g One i old new
   over_since kept over = record {
     was_open = kept.was_open;
     is_open = over.is_open;
     stands = over.stands;
-    same = λ n. over.same n ∙ ap (λ (d : Database). saved_in First d.trees n) kept.same;
+    same = λ n. over.same n ∙ ap (λ (d : Database). saved_in One d.trees n) kept.same;
     crash = over.crash;
   }
 
   pub kept_since : (IsTrue (state g mid).is_open → WasKept (state g old) (state g mid)) → WasKept (state g mid) (state g new) → WasKept (state g old) (state g new)
   kept_since kept now = let before = kept now.was_open in record { was_open = before.was_open; same = now.same ∙ before.same }
 
-  pub left_since : WasKept (state g old) (state g mid) → (db : Trees) → HoldsAll First i (saved_in First (state g mid).now.trees) db → HoldsAll First i (saved_in First (state g old).now.trees) db
-  left_since kept db all = subst (λ (d : Database). HoldsAll First i (saved_in First d.trees) db) kept.same all
+  pub left_since : WasKept (state g old) (state g mid) → (db : Trees) → HoldsAll One i (saved_in One (state g mid).now.trees) db → HoldsAll One i (saved_in One (state g old).now.trees) db
+  left_since kept db all = subst (λ (d : Database). HoldsAll One i (saved_in One d.trees) db) kept.same all

@@ -12,8 +12,8 @@ use Rattle.protocol.specs.Ballots.{IsMember}
 use Rattle.protocol.specs.Rows.{Row}
 use Rattle.protocol.specs.Versions.{Version}
 use Rattle.protocol.specs.Circuit.{Circuit, State, Restarts, Restarted, StepsTo}
-use Rattle.saved_rows.specs.Saved.{Saved, SameRows, WithRow, IsEither}
-use Rattle.saved_rows.specs.Groups.{WithAll}
+use Rattle.rows_saved.specs.Saved.{Saved, SameRows, WithRow, IsEither}
+use Rattle.rows_saved.specs.Groups.{WithAll}
 use Rattle.acceptor_store.specs.Grouping.{LeavesWithAll}
 use Rattle.acceptor_store.specs.Sqlite.{SqliteOf, IsAtRest, IsOpen, IsOurs, rows_version, saved_of, LeavesStation, LeavesAll, LeavesEither, LeavesItsStation, LeavesNoOther, LeavesSameRows, LeavesWithRow}
 use Rattle.acceptor_store.specs.Restarts.{GivesUp, AreOpenedFrom}

@@ -4,11 +4,11 @@ use Rattle.std.specs.declared.vec.Vec.{Vec}
 use Rattle.std.specs.Global.{Global}
 use Rattle.sqlite_trees.specs.declared.store.Store.{Ghosts}
 use Rattle.protocol.specs.Rows.{Row}
-use Rattle.saved_rows.specs.Calls.{Answered}
-use Rattle.saved_rows.specs.Saved.{SameRows, IsListOf, RowFits, AreFitting}
-use Rattle.saved_rows.specs.declared.fault.RowsFault.{RowsFault}
-use Rattle.saved_rows.specs.declared.fault.RowsFault.TheVariants.{Store}
-use Rattle.saved_rows.specs.declared.rows.Rows as rows
+use Rattle.rows_saved.specs.Calls.{Answered}
+use Rattle.rows_saved.specs.Saved.{SameRows, IsListOf, RowFits, AreFitting}
+use Rattle.rows_saved.specs.declared.fault.RowsFault.{RowsFault}
+use Rattle.rows_saved.specs.declared.fault.RowsFault.TheVariants.{Store}
+use Rattle.rows_saved.specs.declared.rows.Rows as rows
 use Rattle.acceptor_store.specs.Sqlite.{SqliteOf, Blames, IsHonest, IsKept, IsOpen, IsOurs, IsRefusal, LeavesNoOther, rows_version, saved_of}
 
 module _ {S : Type 0} (g : Ghosts S) where

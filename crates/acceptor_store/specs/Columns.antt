@@ -4,10 +4,11 @@ use Rattle.sqlite_value.specs.declared.value.Value.{Value}
 use Rattle.sqlite_value.specs.declared.value.Value.TheVariants.{Null, Int, Real, Text, Blob}
 use Rattle.sqlite_value.specs.Order.{Row as Columns, column}
 use Rattle.sqlite_trees.specs.Tree.{Trees}
-use Rattle.row_table.specs.Tables.{Layout, layout_tree}
-use Rattle.row_table.specs.Tables.Layout.{First, Second}
-use Rattle.row_table.specs.Rows.{columns_of, columns_at}
-use Rattle.row_table.specs.Entries.{entry_columns}
+use Rattle.rows_table.specs.declared.layout.Layout.{Layout}
+use Rattle.rows_table.specs.Tables.{layout_tree}
+use Rattle.rows_table.specs.declared.layout.Layout.TheVariants as layouts
+use Rattle.rows_table.specs.Rows.{columns_of, columns_at}
+use Rattle.rows_table.specs.Entries.{entry_columns}
 use Rattle.tape_frames.specs.Frames.{most_frames, tape_fault}
 use Rattle.tape_frames.specs.Packing.{packed_len, pad_of, packing_of, unpacked}
 use Rattle.tape_frames.specs.Entries.{entry_frames, IsEntry}
@@ -16,12 +17,12 @@ use Rattle.protocol.specs.Entries.{Tape, Entry, Void, Taped}
 use Rattle.protocol.specs.Rows.{Vote, Row, vote_for, blank, may_stand}
 use Rattle.protocol.specs.Versions.{Version, One, Two}
 use Rattle.protocol.specs.Limits.{most_members, last_number, most_frames_one, is_number as is_circuit_number}
-use Rattle.saved_rows.specs.Saved.{Saved}
+use Rattle.rows_saved.specs.Saved.{Saved}
 
 -- the version of the rows that a layout keeps
 abbrev pub version_in : Layout → Version
-version_in First = One
-version_in (Second origin) = Two
+version_in layouts.One = One
+version_in (layouts.Two origin) = Two
 
 -- ---- out of the columns
 
@@ -100,13 +101,13 @@ is_null (Blob b) = false
 
 -- the entry in the columns from this place on: the tape in one of them, or the packed entry in two
 abbrev pub entry_at : Layout → ℕ → Columns → Option Entry
-entry_at First at c = option_map (λ t. Taped t) (tape_in (column c at))
-entry_at (Second origin) at c = entry_in (column c at) (column c (at + 1))
+entry_at layouts.One at c = option_map (λ t. Taped t) (tape_in (column c at))
+entry_at (layouts.Two origin) at c = entry_in (column c at) (column c (at + 1))
 
 -- those columns hold nothing
 abbrev pub no_entry_at : Layout → ℕ → Columns → Bool
-no_entry_at First at c = is_null (column c at)
-no_entry_at (Second origin) at c = is_null (column c at) && is_null (column c (at + 1))
+no_entry_at layouts.One at c = is_null (column c at)
+no_entry_at (layouts.Two origin) at c = is_null (column c at) && is_null (column c (at + 1))
 
 -- the vote for an entry at a ballot, where both are some
 abbrev pub vote_from : Option Ballot → Option Entry → Option (Option Vote)
@@ -165,8 +166,8 @@ voted_packing = option_map (λ v. packing_of (entry_frames v.entry))
 -- the columns of a promise and a vote; layout 1 has none for the vote for a withdrawal
 abbrev pub columns_with : Layout → Option Ballot → Option Vote → Columns
 columns_with layout None vote = []
-columns_with First (Some p) vote = columns_of p.round p.owner (vote_round vote) (vote_owner vote) (voted_tape vote)
-columns_with (Second origin) (Some p) vote = entry_columns p.round p.owner (vote_round vote) (vote_owner vote) (voted_length vote) (voted_packing vote)
+columns_with layouts.One (Some p) vote = columns_of p.round p.owner (vote_round vote) (vote_owner vote) (voted_tape vote)
+columns_with (layouts.Two origin) (Some p) vote = entry_columns p.round p.owner (vote_round vote) (vote_owner vote) (voted_length vote) (voted_packing vote)
 
 -- the columns of a row that has a promise
 abbrev pub columns_for : Layout → Row → Columns

@@ -1,7 +1,7 @@
 -- Why a file of the host gives no rows.
 use Rattle.std.specs.Prelude.{◌≡◌}
-use Rattle.saved_rows.specs.declared.fault.RowsFault.{RowsFault}
-use Rattle.saved_rows.specs.declared.fault.RowsFault.TheVariants.{Store, OutOfMemory}
+use Rattle.rows_saved.specs.declared.fault.RowsFault.{RowsFault}
+use Rattle.rows_saved.specs.declared.fault.RowsFault.TheVariants.{Store, OutOfMemory}
 use Rattle.acceptor_store.specs.Sqlite.{IsRefusal}
 use Rattle.acceptor_store.specs.declared.faults.FileFault.{FileFault}
 use Rattle.acceptor_store.specs.declared.faults.FileFault.TheVariants as faults

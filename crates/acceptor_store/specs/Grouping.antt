@@ -6,18 +6,20 @@ use Rattle.sqlite_trees.specs.Tree.{Trees}
 use Rattle.sqlite_trees.specs.View.{doubt}
 use Rattle.sqlite.specs.State.{State, HasCleanDisk}
 use Rattle.sqlite.specs.declared.transaction.Transaction.{Transaction}
-use Rattle.row_table.specs.Tables.{Layout, Origin, layout_schema, layout_tree}
-use Rattle.row_table.specs.Tables.Layout.{Second}
-use Rattle.row_table.specs.Rows.{AreRows, SavesIn, Serves}
-use Rattle.row_table.specs.Keeping.{KeptWhereRefused}
-use Rattle.row_table.specs.Staging.{IsStaging}
-use Rattle.row_table.specs.Within.{ActsWithin, EndsWhole}
+use Rattle.rows_table.specs.declared.layout.Layout.{Layout}
+use Rattle.rows_table.specs.declared.layout.LayoutOrigin.{LayoutOrigin}
+use Rattle.rows_table.specs.Tables.{layout_schema, layout_tree}
+use Rattle.rows_table.specs.declared.layout.Layout.TheVariants.{Two}
+use Rattle.rows_table.specs.Rows.{AreRows, SavesIn, Serves}
+use Rattle.rows_table.specs.Keeping.{KeptWhereRefused}
+use Rattle.rows_table.specs.Staging.{IsStaging}
+use Rattle.rows_table.specs.Within.{ActsWithin, EndsWhole}
 use Rattle.protocol.specs.Limits.{last_number}
 use Rattle.protocol.specs.Rows.{Row}
-use Rattle.saved_rows.specs.Saved.{Saved, HasPromise}
-use Rattle.saved_rows.specs.Groups.{WithAll, IsAllOrNone}
+use Rattle.rows_saved.specs.Saved.{Saved, HasPromise}
+use Rattle.rows_saved.specs.Groups.{WithAll, IsAllOrNone}
 use Rattle.acceptor_store.specs.Columns.{columns_for, ComesBack}
-use Rattle.saved_rows.specs.declared.fault.RowsFault.{RowsFault}
+use Rattle.rows_saved.specs.declared.fault.RowsFault.{RowsFault}
 use Rattle.acceptor_store.specs.Sqlite.{SqliteOf, IsOpen, IsRefusal, MayLeave, saved_of}
 
 -- under a circuit number this row was put in the place of the one before, in columns out of which it comes back, and nothing else was changed
@@ -40,8 +42,8 @@ abbrev pub StagesBack : Layout → ℕ → Row → State → State → Type 0
 StagesBack layout number row old new = IsStaging layout old → IsStaging layout new × PutsBack layout number row old.now.trees new.now.trees
 
 -- it puts this row into the table of entries, however the database came to it
-abbrev pub StagesSecond : ℕ → Row → State → State → Type 0
-StagesSecond number row old new = (origin : Origin) → StagesBack (Second origin) number row old new
+abbrev pub StagesEntryBack : ℕ → Row → State → State → Type 0
+StagesEntryBack number row old new = (origin : LayoutOrigin) → StagesBack (Two origin) number row old new
 
 -- it puts each of these
 abbrev pub StagesEach : Layout → List (ℕ × Row) → State → State → Type 0

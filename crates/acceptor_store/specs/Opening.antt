@@ -4,16 +4,15 @@ use Rattle.std.specs.Prelude.{◌≡◌, ◌≤◌, ◌⊎◌, ℕ, Option, Some
 use Rattle.sqlite_trees.specs.Tree.{Trees}
 use Rattle.sqlite_trees.specs.View.{doubt}
 use Rattle.sqlite.specs.State.{State, HasCleanDisk, IsUnchanged}
-use Rattle.row_table.specs.Tables.{Layout, layout_schema, layout_tree, no_schema}
-use Rattle.row_table.specs.Rows.{Serves, WasKept}
-use Rattle.row_table.specs.Reading.{KeepsTables}
-use Rattle.row_table.specs.Station.{HoldsNone}
-use Rattle.row_table.specs.declared.tables.StationColumns.{StationColumns}
-use Rattle.row_table.specs.declared.layout.Layout.{Layout as LayoutValue}
-use Rattle.saved_rows.specs.declared.identity.Identity.{Identity}
-use Rattle.saved_rows.specs.declared.fault.RowsFault.{RowsFault}
-use Rattle.saved_rows.specs.declared.fault.RowsFault.TheVariants.{WrongSchema}
-use Rattle.acceptor_store.specs.Layouts.{layout_of}
+use Rattle.rows_table.specs.declared.layout.Layout.{Layout}
+use Rattle.rows_table.specs.Tables.{layout_schema, layout_tree, no_schema}
+use Rattle.rows_table.specs.Rows.{Serves, WasKept}
+use Rattle.rows_table.specs.Reading.{KeepsTables}
+use Rattle.rows_table.specs.Station.{HoldsNone}
+use Rattle.rows_table.specs.declared.tables.StationColumns.{StationColumns}
+use Rattle.rows_saved.specs.declared.identity.Identity.{Identity}
+use Rattle.rows_saved.specs.declared.fault.RowsFault.{RowsFault}
+use Rattle.rows_saved.specs.declared.fault.RowsFault.TheVariants.{WrongSchema}
 use Rattle.acceptor_store.specs.StationRow.{stored_station, Agrees, IsStationOf}
 use Rattle.acceptor_store.specs.Columns.{AreSound}
 use Rattle.acceptor_store.specs.Sqlite.{HoldsRows, IsRefusal, RefusesRows, RefusesToOpen}
@@ -91,11 +90,11 @@ pub record ReadsIdentity (result : Result (ℕ × Identity) RowsFault) (old new 
   pub clean : doubt old.is_clean ≤ doubt new.is_clean
 
 -- an Ok tells the layout of the tables
-abbrev pub TellsLayout : {A E : Type 0} → Result (LayoutValue × A) E → State → Type 0
-TellsLayout result old = (layout : Layout) → old.now.schema ≡ layout_schema layout → IfOk result (λ s. layout_of s.0 ≡ layout)
+abbrev pub TellsLayout : {A E : Type 0} → Result (Layout × A) E → State → Type 0
+TellsLayout result old = (layout : Layout) → old.now.schema ≡ layout_schema layout → IfOk result (λ s. s.0 ≡ layout)
 
 -- the tests of a database before its rows are taken up for the station that is given, if any: an Ok has its layout and its station
-pub record TakesUp (given : Option Identity) (result : Result (LayoutValue × Identity) RowsFault) (old new : State) : Type 0 where
+pub record TakesUp (given : Option Identity) (result : Result (Layout × Identity) RowsFault) (old new : State) : Type 0 where
   pub laid : TellsLayout result old
   pub holds : FindsItsRows result old new
   pub serves : ServesOnceOpened result old new

@@ -4,11 +4,12 @@ use Rattle.std.specs.List.{filter_map}
 use Rattle.sqlite_value.specs.Order.{Row as Columns}
 use Rattle.protocol.specs.Rows.{Row}
 use Rattle.sqlite.specs.State.{State, HasCleanDisk}
-use Rattle.row_table.specs.Tables.{Layout, layout_tree}
-use Rattle.row_table.specs.Rows.{Serves}
-use Rattle.row_table.specs.Reading.{KeepsServing}
-use Rattle.saved_rows.specs.Saved.{Saved, IsListOf}
-use Rattle.saved_rows.specs.declared.fault.RowsFault.{RowsFault}
+use Rattle.rows_table.specs.declared.layout.Layout.{Layout}
+use Rattle.rows_table.specs.Tables.{layout_tree}
+use Rattle.rows_table.specs.Rows.{Serves}
+use Rattle.rows_table.specs.Reading.{KeepsServing}
+use Rattle.rows_saved.specs.Saved.{Saved, IsListOf}
+use Rattle.rows_saved.specs.declared.fault.RowsFault.{RowsFault}
 use Rattle.acceptor_store.specs.Columns.{item_in, damage_in, saved_in, AreSound}
 use Rattle.acceptor_store.specs.Sqlite.{IsRefusal}
 

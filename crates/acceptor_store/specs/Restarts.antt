@@ -10,15 +10,15 @@ use Rattle.sqlite.specs.declared.FileStore.{FileStore}
 use Rattle.sqlite.specs.Held.{Held}
 use Rattle.sqlite.specs.State.{HasCleanDisk}
 use Rattle.sqlite.specs.Files.{file_state, over_files, HoldsDatabase}
-use Rattle.row_table.specs.Tables.{Layout}
-use Rattle.row_table.specs.Station.{HoldsNone}
+use Rattle.rows_table.specs.declared.layout.Layout.{Layout}
+use Rattle.rows_table.specs.Station.{HoldsNone}
 use Rattle.protocol.specs.Rows.{Row, blank}
 use Rattle.protocol.specs.Versions.{Version, Two}
 use Rattle.protocol.specs.Circuit.{MayLeave as MayLeaveTorn, Torn_by_store}
-use Rattle.saved_rows.specs.Saved.{Saved, SameRows, IsEither}
-use Rattle.saved_rows.specs.Groups.{WithAll, IsAllOrNone}
-use Rattle.saved_rows.specs.Identity.{IsIdentity}
-use Rattle.saved_rows.specs.declared.identity.Identity.{Identity}
+use Rattle.rows_saved.specs.Saved.{Saved, SameRows, IsEither}
+use Rattle.rows_saved.specs.Groups.{WithAll, IsAllOrNone}
+use Rattle.rows_saved.specs.Identity.{IsIdentity}
+use Rattle.rows_saved.specs.declared.identity.Identity.{Identity}
 use Rattle.acceptor_store.specs.StationRow.{stored_station}
 use Rattle.acceptor_store.specs.Sqlite.{SqliteOf, IsOurs, rows_version, saved_of, MayLeave, LeavesStation, LeavesAll}
 use Rattle.acceptor_store.specs.Files.{TakesItsOwn, IsTakenUp}

@@ -10,21 +10,21 @@ use Rattle.sqlite_trees.specs.Tree.{Trees}
 use Rattle.sqlite_catalog.specs.Listing.{Lists as ListsTables}
 use Rattle.sqlite.specs.State.{State, HasCleanDisk}
 use Rattle.sqlite.specs.Held.{Held, held_code, state}
-use Rattle.row_table.specs.Tables.{Layout, layout_tree, layout_schema}
-use Rattle.row_table.specs.Tables.Layout.{First, Second}
-use Rattle.row_table.specs.Tables.Origin.{Created, Upgraded}
-use Rattle.row_table.specs.Rows.{Serves, IsListing}
-use Rattle.row_table.specs.Rising.{rise_from}
-use Rattle.row_table.specs.Station.{HoldsNone}
+use Rattle.rows_table.specs.declared.layout.Layout.{Layout}
+use Rattle.rows_table.specs.Tables.{layout_tree, layout_schema}
+use Rattle.rows_table.specs.contracts.layout.Layout as layout_code
+use Rattle.rows_table.specs.Rows.{Serves, IsListing}
+use Rattle.rows_table.specs.Rising.{rise_from}
+use Rattle.rows_table.specs.Station.{HoldsNone}
 use Rattle.protocol.specs.Rows.{Row, blank}
 use Rattle.protocol.specs.Versions.{Version}
-use Rattle.saved_rows.specs.contracts.identity.Identity as identity
-use Rattle.saved_rows.specs.declared.identity.Identity.{Identity}
-use Rattle.saved_rows.specs.declared.fault.RowsFault.{RowsFault}
-use Rattle.saved_rows.specs.declared.fault.RowsFault.TheVariants.{Store, WrongStation, WrongSchema, Damaged, OutOfMemory}
+use Rattle.rows_saved.specs.contracts.identity.Identity as identity
+use Rattle.rows_saved.specs.declared.identity.Identity.{Identity}
+use Rattle.rows_saved.specs.declared.fault.RowsFault.{RowsFault}
+use Rattle.rows_saved.specs.declared.fault.RowsFault.TheVariants.{Store, WrongStation, WrongSchema, Damaged, OutOfMemory}
 use Rattle.acceptor_store.specs.StationRow.{IsStationOf}
 pub use Rattle.acceptor_store.specs.StationRow.{Agrees}
-use Rattle.saved_rows.specs.Saved.{Saved, SameRows, WithRow, IsEither}
+use Rattle.rows_saved.specs.Saved.{Saved, SameRows, WithRow, IsEither}
 use Rattle.acceptor_store.specs.Layouts.{upgraded_from}
 use Rattle.acceptor_store.specs.Columns.{version_in, saved_in, AreSound, damage_in}
 
@@ -45,34 +45,12 @@ pub record SqliteOf (S : Type 0) : Type 0 where
   pub stopped : Bool
   pub refusals : ℕ
 
--- a layout, told by whether it is the second and was upgraded
-abbrev pub told_by : Layout → Option Bool
-told_by First = None
-told_by (Second Created) = Some false
-told_by (Second Upgraded) = Some true
-
--- the layout that is told so
-abbrev pub told_as : Option Bool → Layout
-told_as None = First
-told_as (Some false) = Second Created
-told_as (Some true) = Second Upgraded
-
--- a layout is the one that is told by what it tells
-pub as_told : (layout : Layout) → told_as (told_by layout) ≡ layout
-as_told First = refl
-as_told (Second Created) = refl
-as_told (Second Upgraded) = refl
-
--- the code of a layout
-abbrev pub layout_code : Coded Layout
-layout_code = code_by (Option Bool) (coded_option coded_bool) told_by told_as as_told
-
 -- its fields, one after another
 abbrev pub sqlite_code : {S : Type 0} → Coded S → Coded (SqliteOf S)
 sqlite_code {S} store =
     code_by (Held S × (Identity × (Bool × (Option Schema × (Layout × (Layout × (Bool × ℕ)))))))
     (coded× (held_code store) (coded× identity.the_row.coded (coded× coded_bool
-    (coded× (coded_option schema.the_row.coded) (coded× layout_code (coded× layout_code (coded× coded_bool coded_ℕ)))))))
+    (coded× (coded_option schema.the_row.coded) (coded× layout_code.the_row.coded (coded× layout_code.the_row.coded (coded× coded_bool coded_ℕ)))))))
     (λ s. (s.conn, (s.identity, (s.alone, (s.found, (s.was, (s.layout, (s.stopped, s.refusals))))))))
     (λ p. record {
       conn = p.0;

@@ -7,14 +7,14 @@ use Rattle.std.specs.Global.{Global}
 use Rattle.sqlite_trees.specs.Tree.{Trees}
 use Rattle.sqlite_trees.specs.View.{doubt}
 use Rattle.sqlite.specs.State.{State, HasCleanDisk}
-use Rattle.row_table.specs.Tables.{Layout}
-use Rattle.row_table.specs.Rows.{Serves, SavesIn}
-use Rattle.row_table.specs.Reading.{KeepsServing}
-use Rattle.row_table.specs.Keeping.{KeptWhereRefused, SavesRow}
+use Rattle.rows_table.specs.declared.layout.Layout.{Layout}
+use Rattle.rows_table.specs.Rows.{Serves, SavesIn}
+use Rattle.rows_table.specs.Reading.{KeepsServing}
+use Rattle.rows_table.specs.Keeping.{KeptWhereRefused, SavesRow}
 use Rattle.protocol.specs.Rows.{Row}
 use Rattle.protocol.specs.Versions.{Version}
-use Rattle.saved_rows.specs.Saved.{IsListOf, HasPromise, RowFits, AreFitting}
-use Rattle.saved_rows.specs.declared.fault.RowsFault.{RowsFault}
+use Rattle.rows_saved.specs.Saved.{IsListOf, HasPromise, RowFits, AreFitting}
+use Rattle.rows_saved.specs.declared.fault.RowsFault.{RowsFault}
 use Rattle.acceptor_store.specs.Columns.{columns_for, saved_in, version_in, ComesBack}
 use Rattle.acceptor_store.specs.Reading.{BlamesNoRow}
 use Rattle.acceptor_store.specs.Sqlite.{IsRefusal}

@@ -3,11 +3,12 @@ use Rattle.std.specs.Prelude.{◌≡◌, ◌≢◌, ◌==◌, ℕ, Bool, nat_le,
 use Rattle.protocol.specs.Limits.{most_members}
 use Rattle.sqlite_value.specs.Order.{Row as Columns, column}
 use Rattle.sqlite_trees.specs.Tree.{Trees}
-use Rattle.row_table.specs.Tables.{Layout, station_tree, layout_number}
-use Rattle.row_table.specs.Station.{station_columns}
-use Rattle.saved_rows.specs.declared.identity.Identity.{Identity}
-use Rattle.saved_rows.specs.declared.fault.RowsFault.{RowsFault}
-use Rattle.saved_rows.specs.declared.fault.RowsFault.TheVariants.{Store, WrongStation, WrongSchema, Damaged, OutOfMemory}
+use Rattle.rows_table.specs.declared.layout.Layout.{Layout}
+use Rattle.rows_table.specs.Tables.{station_tree, layout_number}
+use Rattle.rows_table.specs.Station.{station_columns}
+use Rattle.rows_saved.specs.declared.identity.Identity.{Identity}
+use Rattle.rows_saved.specs.declared.fault.RowsFault.{RowsFault}
+use Rattle.rows_saved.specs.declared.fault.RowsFault.TheVariants.{Store, WrongStation, WrongSchema, Damaged, OutOfMemory}
 use Rattle.acceptor_store.specs.Columns.{whole_in}
 
 -- there may be this member among so many

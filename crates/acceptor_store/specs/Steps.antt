@@ -6,8 +6,8 @@ use Rattle.protocol.specs.Refusals.{Call, refusal, event_of}
 use Rattle.protocol.specs.Versions.{Version}
 use Rattle.protocol.specs.Circuit.{Circuit, State, Step, Restarts, Upgrades, Restarted, Torn_by_store, seat_at, task_of, setup_of, StepsTo}
 use Rattle.protocol.specs.Rows.{Row}
-use Rattle.saved_rows.specs.Saved.{Saved}
-use Rattle.saved_rows.specs.Groups.{WithAll, IsAllOrNone}
+use Rattle.rows_saved.specs.Saved.{Saved}
+use Rattle.rows_saved.specs.Groups.{WithAll, IsAllOrNone}
 use Rattle.acceptor_store.specs.Acknowledged.{RestartsWith}
 use Rattle.acceptor_store.specs.Restarts.{AreTorn, AreUpgradeTorn}
 

@@ -5,14 +5,14 @@ use Rattle.sqlite_trees.specs.Tree.{Trees}
 use Rattle.sqlite_trees.specs.View.{doubt}
 use Rattle.sqlite.specs.State.{State, HasCleanDisk}
 use Rattle.sqlite.specs.Held.{Held, state}
-use Rattle.row_table.specs.Tables.{layout_schema, no_schema}
+use Rattle.rows_table.specs.Tables.{layout_schema, no_schema}
 use Rattle.protocol.specs.Versions.{Version}
 use Rattle.tape_frames.specs.Entries.{version_of}
-use Rattle.saved_rows.specs.Identity.{IsIdentity}
-use Rattle.saved_rows.specs.Saved.{SameRows}
-use Rattle.saved_rows.specs.declared.identity.Identity.{Identity}
-use Rattle.saved_rows.specs.declared.fault.RowsFault.{RowsFault}
-use Rattle.saved_rows.specs.declared.fault.RowsFault.TheVariants.{Store}
+use Rattle.rows_saved.specs.Identity.{IsIdentity}
+use Rattle.rows_saved.specs.Saved.{SameRows}
+use Rattle.rows_saved.specs.declared.identity.Identity.{Identity}
+use Rattle.rows_saved.specs.declared.fault.RowsFault.{RowsFault}
+use Rattle.rows_saved.specs.declared.fault.RowsFault.TheVariants.{Store}
 use Rattle.acceptor_store.specs.Columns.{saved_in}
 use Rattle.acceptor_store.specs.FoundTables.{has_any, has_none, has_tables}
 use Rattle.acceptor_store.specs.Layouts.{made_in}

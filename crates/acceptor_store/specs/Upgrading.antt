@@ -7,11 +7,12 @@ use Rattle.sqlite_trees.specs.Tree.{Trees}
 use Rattle.sqlite_trees.specs.View.{doubt}
 use Rattle.sqlite.specs.State.{HasCleanDisk}
 use Rattle.sqlite.specs.Held.{Held, state}
-use Rattle.row_table.specs.Tables.{Layout, Origin}
-use Rattle.row_table.specs.Tables.Layout.{First, Second}
-use Rattle.row_table.specs.Rows.{WasKept}
-use Rattle.saved_rows.specs.declared.identity.Identity.{Identity}
-use Rattle.saved_rows.specs.declared.fault.RowsFault.{RowsFault}
+use Rattle.rows_table.specs.declared.layout.Layout.{Layout}
+use Rattle.rows_table.specs.declared.layout.LayoutOrigin.{LayoutOrigin}
+use Rattle.rows_table.specs.declared.layout.Layout.TheVariants.{One, Two}
+use Rattle.rows_table.specs.Rows.{WasKept}
+use Rattle.rows_saved.specs.declared.identity.Identity.{Identity}
+use Rattle.rows_saved.specs.declared.fault.RowsFault.{RowsFault}
 use Rattle.acceptor_store.specs.Columns.{saved_in}
 use Rattle.acceptor_store.specs.RowsAsEntries.{HoldsMap}
 use Rattle.acceptor_store.specs.Sqlite.{HoldsAll, IsRefusal, Stands, WentOver}
@@ -25,8 +26,8 @@ module _ {S : Type 0} (g : Ghosts S) where
   -- of a layout that is over already, an Ok has left it so
   abbrev pub StaysOver : {A E : Type 0} → Layout → Result A E → Held S → Held S → Type 0
   StaysOver layout result old new =
-      (origin : Origin) (i : Identity) → layout ≡ Second origin → Stands g (Second origin) old i → HasCleanDisk (state g new)
-      → OnOk result (WentOver g (Second origin) i old new)
+      (origin : LayoutOrigin) (i : Identity) → layout ≡ Two origin → Stands g (Two origin) old i → HasCleanDisk (state g new)
+      → OnOk result (WentOver g (Two origin) i old new)
 
   -- a refusal keeps all while the connection is open
   abbrev pub KeepsAllWhereRefused : {A E : Type 0} → Layout → Result A E → Held S → Held S → Type 0
@@ -65,20 +66,20 @@ module _ {S : Type 0} (g : Ghosts S) where
   -- where a table of entries holds the map of layout 1, an Ok has gone over
   abbrev pub GoesOverWith : {A E : Type 0} → List Columns → Result A E → Held S → Held S → Type 0
   GoesOverWith entries result old new =
-      (i : Identity) → Stands g First old i → HoldsMap (saved_in First (state g old).now.trees) entries
-      → IsTrue (state g old).is_open → HasCleanDisk (state g new) → OnOk result (WentOver g First i old new)
+      (i : Identity) → Stands g One old i → HoldsMap (saved_in One (state g old).now.trees) entries
+      → IsTrue (state g old).is_open → HasCleanDisk (state g new) → OnOk result (WentOver g One i old new)
 
   -- and a crash leaves a database of the station with the same map, in layout 1 or upgraded from it
   abbrev pub CrashesWithMapOf : List Columns → Held S → Held S → Type 0
   CrashesWithMapOf entries old new =
-      (i : Identity) → Stands g First old i → HoldsMap (saved_in First (state g old).now.trees) entries
+      (i : Identity) → Stands g One old i → HoldsMap (saved_in One (state g old).now.trees) entries
       → IsTrue (state g old).is_open → HasCleanDisk (state g new)
-      → (db : Trees) → (state g new).may_leave db → HoldsAll First i (saved_in First (state g old).now.trees) db
+      → (db : Trees) → (state g new).may_leave db → HoldsAll One i (saved_in One (state g old).now.trees) db
 
   -- an upgrade from layout 1 with these entries
   pub record MovesEntries {A : Type 0} (entries : List Columns) (result : Result A RowsFault) (old new : Held S) : Type 0 where
     pub over : GoesOverWith entries result old new
-    pub kept : KeepsAllWhereRefused First result old new
+    pub kept : KeepsAllWhereRefused One result old new
     pub crash : CrashesWithMapOf entries old new
     -- no fault of the disk is forgotten
     pub clean : doubt (state g old).is_clean ≤ doubt (state g new).is_clean

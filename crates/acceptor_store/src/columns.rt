@@ -9,15 +9,14 @@ ghost use Rattle.protocol.specs.Versions.{One};
 ghost use Rattle.protocol.specs.Fitting.{Fits};
 ghost use Rattle.tape_frames.specs.Frames.{IsTape};
 ghost use Rattle.tape_frames.specs.Entries.{lent_entry};
-ghost use Rattle.row_table.specs.Tables.Layout.{First};
-ghost use Rattle.row_table.specs.Puts.{columns_of_row};
+ghost use Rattle.rows_table.specs.declared.layout.Layout.TheVariants as layouts;
+ghost use Rattle.rows_table.specs.Puts.{columns_of_row};
 ghost use Rattle.acceptor_store.specs.Columns.{version_in, whole_in, ballot_from, stored_tape, tape_in, is_null, entry_at, no_entry_at, vote_at, row_of, row_in, damage_of, damage_in, item_in, columns_for, ComesBack};
-ghost use Rattle.acceptor_store.specs.Layouts.{layout_of};
-ghost use Rattle.saved_rows.specs.Saved.{HasPromise, RowFits, AreFitting};
+ghost use Rattle.rows_saved.specs.Saved.{HasPromise, RowFits, AreFitting};
 
 use crate::entry_columns::entry_in;
 use ballots::{Ballot, Member, Number, Row, Vote, VoteRef};
-use row_table::{Layout, RowColumns};
+use rows_table::{Layout, RowColumns};
 use sqlite::types::ValueRef;
 use std::alloc::{AllocError, Global};
 use tape_frames::{EntryRef, MAX_FRAMES_ONE, TapeRef};
@@ -94,36 +93,32 @@ fn is_null(value: &ValueRef<'_>) -> bool
 /// The entry in the columns from `at` on, lent: a tape in one of them, or a packed entry in two.
 fn entry_at(layout: Layout, columns: &sqlite::Row, at: usize) -> Option<EntryRef<'_>>
     requires { at ≤ 5 }
-    ensures { option_map lent_entry result ≡ entry_at (layout_of layout) at columns.now }
+    ensures { option_map lent_entry result ≡ entry_at layout at columns.now }
 {
     match layout {
-        Layout::First => {
+        Layout::One => {
             let tape = tape_in(value_at(columns, at))?;
             Some(EntryRef::Plain(tape))
         }
-        Layout::Created | Layout::Upgraded => {
-            entry_in(value_at(columns, at), value_at(columns, at + 1))
-        }
+        Layout::Two(_) => { entry_in(value_at(columns, at), value_at(columns, at + 1)) }
     }
 }
 
 /// Whether the columns of an entry, from `at` on, hold nothing.
 fn no_entry_at(layout: Layout, columns: &sqlite::Row, at: usize) -> bool
     requires { at ≤ 5 }
-    ensures { result ≡ no_entry_at (layout_of layout) at columns.now }
+    ensures { result ≡ no_entry_at layout at columns.now }
 {
     match layout {
-        Layout::First => is_null(&value_at(columns, at)),
-        Layout::Created | Layout::Upgraded => {
-            is_null(&value_at(columns, at)) && is_null(&value_at(columns, at + 1))
-        }
+        Layout::One => is_null(&value_at(columns, at)),
+        Layout::Two(_) => { is_null(&value_at(columns, at)) && is_null(&value_at(columns, at + 1)) }
     }
 }
 
 /// The vote in the columns from `at` on, for an entry that is lent: none where all of them are null.
 fn vote_at(layout: Layout, columns: &sqlite::Row, at: usize) -> Option<Option<VoteRef<'_>>>
     requires { at ≤ 3 }
-    ensures { result ≡ vote_at (layout_of layout) at columns.now }
+    ensures { result ≡ vote_at layout at columns.now }
 {
     let round = value_at(columns, at);
     let owner = value_at(columns, at + 1);
@@ -143,7 +138,7 @@ fn parts_in(
     first: usize,
 ) -> Option<(Ballot, Option<VoteRef<'_>>)>
     requires { first ≤ 1 }
-    ensures { option_map (λ p. row_of p.0 p.1) result ≡ row_in (layout_of layout) first columns.now }
+    ensures { option_map (λ p. row_of p.0 p.1) result ≡ row_in layout first columns.now }
 {
     let promise = ballot_from(
         whole_in(value_at(columns, first)),
@@ -176,8 +171,8 @@ pub(crate) fn row_in(
     first: usize,
 ) -> Result<Option<Row>, AllocError>
     requires { first ≤ 1 }
-    ensures row { IfOk result (λ row. row ≡ row_in (layout_of layout) first columns.now) }
-    ensures fits { IfOk result (λ row. IfSome row (RowFits (version_in (layout_of layout)))) }
+    ensures row { IfOk result (λ row. row ≡ row_in layout first columns.now) }
+    ensures fits { IfOk result (λ row. IfSome row (RowFits (version_in layout))) }
 {
     let Some((promise, vote)) = parts_in(layout, columns, first) else {
         return Ok(None);
@@ -188,7 +183,7 @@ pub(crate) fn row_in(
 
 /// The key of a row of the listing, where it is no circuit number or its columns are no row.
 pub(crate) fn damage_of(layout: Layout, row: &sqlite::Row) -> Option<i64>
-    ensures { result ≡ damage_of (column row.now 0) (row_in (layout_of layout) 1 row.now) }
+    ensures { result ≡ damage_of (column row.now 0) (row_in layout 1 row.now) }
 {
     let ValueRef::Int(key) = value_at(row, 0) else {
         return None;
@@ -202,7 +197,7 @@ pub(crate) fn damage_of(layout: Layout, row: &sqlite::Row) -> Option<i64>
 
 /// The key of the first row of a listing that is none, or that stands under no circuit number; `None` where there is no such row.
 pub(crate) fn damage_in(layout: Layout, rows: &[sqlite::Row]) -> Option<i64>
-    ensures { result ≡ damage_in (layout_of layout) rows.now }
+    ensures { result ≡ damage_in layout rows.now }
 {
     for row in rows {
         if let Some(key) = damage_of(layout, row) {
@@ -218,7 +213,7 @@ pub(crate) fn item_in(
     layout: Layout,
     row: &sqlite::Row,
 ) -> Result<Option<(Number, Row)>, AllocError>
-    ensures { IfOk result (λ item. item ≡ item_in (layout_of layout) row.now) }
+    ensures { IfOk result (λ item. item ≡ item_in layout row.now) }
 {
     let Some(value) = whole_in(value_at(row, 0)) else {
         return Ok(None);
@@ -238,9 +233,9 @@ pub(crate) fn items_in(
     layout: Layout,
     rows: &[sqlite::Row],
 ) -> Result<Vec<(Number, Row)>, AllocError>
-    ensures items { IfOk result (λ items. items.items ≡ filter_map (item_in (layout_of layout)) rows.now) }
+    ensures items { IfOk result (λ items. items.items ≡ filter_map (item_in layout) rows.now) }
     ensures promised { IfOk result (λ items. AllByRecursion (λ p. HasPromise p.1) items.items) }
-    ensures fits { IfOk result (λ items. AreFitting (version_in (layout_of layout)) items.items) }
+    ensures fits { IfOk result (λ items. AreFitting (version_in layout) items.items) }
 {
     let mut items = Vec::new(alloc);
     for row in rows {
@@ -274,8 +269,8 @@ pub(crate) fn columns_for(
     requires promise { HasPromise row.now }
     requires fits { RowFits One row.now }
     ensures number { IfOk result (λ c. c.number ≡ number) }
-    ensures columns { IfOk result (λ c. columns_of_row c ≡ columns_for First row.now) }
-    ensures back { OnOk result (ComesBack First row.now) }
+    ensures columns { IfOk result (λ c. columns_of_row c ≡ columns_for layouts.One row.now) }
+    ensures back { OnOk result (ComesBack layouts.One row.now) }
 {
     let number = number.get();
     let Some(promise) = row.promised() else {

@@ -5,15 +5,15 @@ ghost use Rattle.protocol.specs.Limits.{last_number};
 ghost use Rattle.sqlite_value.specs.Value.{owned};
 ghost use Rattle.tape_frames.specs.Entries.{lent_entry, entry_frames};
 ghost use Rattle.tape_frames.specs.Packing.{packing_of};
-ghost use Rattle.row_table.specs.Tables.{Origin};
-ghost use Rattle.row_table.specs.Tables.Layout.{Second};
-ghost use Rattle.row_table.specs.Entries.{columns_of_entry};
-ghost use Rattle.saved_rows.specs.Saved.{HasPromise};
+ghost use Rattle.rows_table.specs.declared.layout.LayoutOrigin.{LayoutOrigin};
+ghost use Rattle.rows_table.specs.declared.layout.Layout.TheVariants.{Two};
+ghost use Rattle.rows_table.specs.Entries.{columns_of_entry};
+ghost use Rattle.rows_saved.specs.Saved.{HasPromise};
 ghost use Rattle.acceptor_store.specs.Columns.{packed_entry, entry_in, columns_for, ComesBack, EntriesComeBack};
 
 use crate::columns::whole_in;
 use ballots::{Number, Row};
-use row_table::EntryColumns;
+use rows_table::EntryColumns;
 use sqlite::types::ValueRef;
 use std::alloc::{AllocError, Global};
 use tape_frames::{EntryRef, PackedRef, laws};
@@ -71,8 +71,8 @@ pub(crate) fn entry_columns_for(
     ensures low { 1 ≤ number }
     ensures high { number ≤ last_number }
     ensures number { IfOk result (λ c. c.number ≡ number) }
-    ensures columns { (origin : Origin) → IfOk result (λ c. columns_of_entry c ≡ columns_for (Second origin) row.now) }
-    ensures back { (origin : Origin) → OnOk result (ComesBack (Second origin) row.now) }
+    ensures columns { (origin : LayoutOrigin) → IfOk result (λ c. columns_of_entry c ≡ columns_for (Two origin) row.now) }
+    ensures back { (origin : LayoutOrigin) → OnOk result (ComesBack (Two origin) row.now) }
 {
     let number = number.get();
     let Some(promise) = row.promised() else {

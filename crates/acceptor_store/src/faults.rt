@@ -6,7 +6,7 @@ ghost use Rattle.acceptor_store.specs.Faults.{rows_fault, IsOfFile};
 ghost use Rattle.acceptor_store.specs.Sqlite.{IsRefusal};
 
 use crate::found_tables::has_tables;
-use saved_rows::RowsFault;
+use rows_saved::RowsFault;
 use sqlite::{Error, ErrorCode};
 use sqlite_schema::schema::Schema;
 

@@ -1,33 +1,32 @@
 //! Rows that are saved together, in one transaction.
 
 ghost use Rattle.sqlite.specs.Held.{state};
-ghost use Rattle.row_table.specs.Tables.Layout.{First};
+ghost use Rattle.rows_table.specs.declared.layout.Layout.TheVariants as layouts;
 ghost use Rattle.protocol.specs.Versions.{One};
-ghost use Rattle.saved_rows.specs.Saved.{HasPromise};
-ghost use Rattle.saved_rows.specs.Groups.{AreRowsOf};
+ghost use Rattle.rows_saved.specs.Saved.{HasPromise};
+ghost use Rattle.rows_saved.specs.Groups.{AreRowsOf};
 ghost use Rattle.acceptor_store.specs.Columns.{version_in};
-ghost use Rattle.acceptor_store.specs.Layouts.{layout_of};
-ghost use Rattle.acceptor_store.specs.Grouping.{SavesTogether, StagesBack, StagesEach, StagesRows, StagesSecond};
+ghost use Rattle.acceptor_store.specs.Grouping.{SavesTogether, StagesBack, StagesEach, StagesRows, StagesEntryBack};
 ghost use Rattle.acceptor_store.specs.Statements.{CanBeSaved};
 
 use crate::columns::columns_for;
 use crate::entry_columns::entry_columns_for;
 use crate::statements::fault_of;
 use ballots::{Number, Row};
-use row_table::{Layout, stage_entry, stage_row};
-use saved_rows::RowsFault;
+use rows_saved::RowsFault;
+use rows_table::{Layout, stage_entry, stage_row};
 use sqlite::{Alter, Connection, Transaction};
 use std::alloc::Global;
 
 /// Puts a row in layout 1, which has it.
-fn put_first<S: Alter>(
+fn put_row<S: Alter>(
     alloc: Global,
     tx: &mut Transaction<'_, S>,
     number: Number,
     row: &Row,
 ) -> Result<(), RowsFault>
     requires { CanBeSaved One row.now }
-    ensures { StagesRows S.Store (StagesBack First number row.now) result tx.old tx.new }
+    ensures { StagesRows S.Store (StagesBack layouts.One number row.now) result tx.old tx.new }
 {
     // Which numbers there are is known once it is read.
     let _key = number.get();
@@ -41,14 +40,14 @@ fn put_first<S: Alter>(
 }
 
 /// Puts a row in layout 2.
-fn put_second<S: Alter>(
+fn put_entry<S: Alter>(
     alloc: Global,
     tx: &mut Transaction<'_, S>,
     number: Number,
     row: &Row,
 ) -> Result<(), RowsFault>
     requires promise { HasPromise row.now }
-    ensures { StagesRows S.Store (StagesSecond number row.now) result tx.old tx.new }
+    ensures { StagesRows S.Store (StagesEntryBack number row.now) result tx.old tx.new }
 {
     let Ok(entry) = entry_columns_for(alloc, number, row) else {
         return Err(RowsFault::OutOfMemory);
@@ -66,13 +65,12 @@ fn put_in<S: Alter>(
     layout: Layout,
     item: &(Number, Row),
 ) -> Result<(), RowsFault>
-    requires { CanBeSaved (version_in (layout_of layout)) item.now.1 }
-    ensures { StagesRows S.Store (StagesBack (layout_of layout) item.now.0 item.now.1) result tx.old tx.new }
+    requires { CanBeSaved (version_in layout) item.now.1 }
+    ensures { StagesRows S.Store (StagesBack layout item.now.0 item.now.1) result tx.old tx.new }
 {
     match layout {
-        Layout::First => put_first(alloc, tx, item.0, &item.1),
-        Layout::Created => put_second(alloc, tx, item.0, &item.1),
-        Layout::Upgraded => put_second(alloc, tx, item.0, &item.1),
+        Layout::One => put_row(alloc, tx, item.0, &item.1),
+        Layout::Two(_) => put_entry(alloc, tx, item.0, &item.1),
     }
 }
 
@@ -83,8 +81,8 @@ fn put_each<S: Alter>(
     layout: Layout,
     items: &[(Number, Row)],
 ) -> Result<(), RowsFault>
-    requires rows { AreRowsOf (version_in (layout_of layout)) items.now }
-    ensures { StagesRows S.Store (StagesEach (layout_of layout) items.now) result tx.old tx.new }
+    requires rows { AreRowsOf (version_in layout) items.now }
+    ensures { StagesRows S.Store (StagesEach layout items.now) result tx.old tx.new }
 {
     for item in items {
         put_in(alloc, tx, layout, item)?;
@@ -99,8 +97,8 @@ pub(crate) fn save_all<S: Alter>(
     layout: Layout,
     items: &[(Number, Row)],
 ) -> Result<(), RowsFault>
-    requires rows { AreRowsOf (version_in (layout_of layout)) items.now }
-    ensures { SavesTogether (layout_of layout) items.now result (state S.Store conn.old) (state S.Store conn.new) }
+    requires rows { AreRowsOf (version_in layout) items.now }
+    ensures { SavesTogether layout items.now result (state S.Store conn.old) (state S.Store conn.new) }
 {
     if !conn.is_autocommit() {
         return Err(RowsFault::Store);

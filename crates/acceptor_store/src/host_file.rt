@@ -8,7 +8,7 @@ ghost use Rattle.acceptor_store.specs.Sqlite.{IsRefusal};
 use crate::rows_at_path::{Wanted, rows_in_files};
 use crate::sqlite_rows::SqliteRows;
 use crate::statements::fault_of;
-use saved_rows::{Identity, RowsFault};
+use rows_saved::{Identity, RowsFault};
 use sqlite::{Connection, FileFrom, FileStore, Leftover, Start};
 
 /// The path of a host's file, and whether a new one has sums, as `Connection::open_from` takes them.

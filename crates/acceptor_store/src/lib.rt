@@ -27,5 +27,5 @@ pub use given_up::into_files;
 pub use host_file::HostPath;
 pub use reading::RowVisitor;
 pub use rows_at_path::NewTables;
-pub use saved_rows::{Balky, Identity, MemoryRows, Rows, RowsFault};
+pub use rows_saved::{Balky, Identity, MemoryRows, Rows, RowsFault};
 pub use sqlite_rows::SqliteRows;

@@ -3,12 +3,12 @@
 ghost use Rattle.std.specs.Prelude.{◌≡◌, false};
 ghost use Rattle.sqlite.specs.Held.{state};
 ghost use Rattle.tape_frames.specs.Entries.{version_of};
-ghost use Rattle.row_table.specs.Making.{CommitsTables};
+ghost use Rattle.rows_table.specs.Making.{CommitsTables};
 ghost use Rattle.acceptor_store.specs.Layouts.{made_in};
 ghost use Rattle.acceptor_store.specs.Opening.{columns_of_station};
 
-use row_table::{StationColumns, create_entry_tables, create_tables};
-use saved_rows::Identity;
+use rows_saved::Identity;
+use rows_table::{StationColumns, create_layout_one, create_layout_two};
 use sqlite::{Alter, Connection, Error};
 use tape_frames::Version;
 
@@ -27,7 +27,7 @@ pub(crate) fn make_tables<S: Alter>(
         members: u32::from(identity.members),
     };
     match version {
-        Version::One => create_tables(conn, &station),
-        Version::Two => create_entry_tables(conn, &station),
+        Version::One => create_layout_one(conn, &station),
+        Version::Two => create_layout_two(conn, &station),
     }
 }

@@ -3,15 +3,14 @@
 ghost use Rattle.std.specs.Prelude.{◌≤◌};
 ghost use Rattle.sqlite_trees.specs.View.{doubt};
 ghost use Rattle.sqlite.specs.Held.{state};
-ghost use Rattle.acceptor_store.specs.Layouts.{layout_of};
 ghost use Rattle.acceptor_store.specs.Opening.{ReadsIdentity, TakesStation, TakesUp, TestsRows};
 
 use crate::layout::layout_in;
 use crate::row_test::RowTest;
 use crate::statements::fault_of;
 use crate::station_row::{agrees, station_in, wanted_station};
-use row_table::{Layout, get_station, visit_rows};
-use saved_rows::{Identity, RowsFault};
+use rows_saved::{Identity, RowsFault};
+use rows_table::{Layout, get_station, visit_rows};
 use sqlite::{Alter, Connection};
 use sqlite_schema::schema::Schema;
 
@@ -35,7 +34,7 @@ fn take_station<S: Alter>(
     layout: Layout,
     given: Option<Identity>,
 ) -> Result<Identity, RowsFault>
-    ensures { TakesStation (layout_of layout) given result (state S.Store conn.old) (state S.Store conn.new) }
+    ensures { TakesStation layout given result (state S.Store conn.old) (state S.Store conn.new) }
 {
     let stored = read_station(conn)?;
     wanted_station(stored, layout, given)
@@ -59,7 +58,7 @@ fn refuse_without_rows<S: Alter>(conn: &mut Connection<S>, given: Option<Identit
 
 /// Tests that every key is a circuit number and its columns are a row of the layout.
 fn test_rows<S: Alter>(conn: &mut Connection<S>, layout: Layout) -> Result<(), RowsFault>
-    ensures { TestsRows (layout_of layout) result (state S.Store conn.old) (state S.Store conn.new) }
+    ensures { TestsRows layout result (state S.Store conn.old) (state S.Store conn.new) }
 {
     let mut test = RowTest::new(layout);
     match visit_rows(conn, layout, &mut test) {

@@ -4,7 +4,6 @@ ghost use Rattle.std.specs.Prelude.{◌≡◌, ◌⊎◌, ◌++◌, ◌∷◌, [
 ghost use Rattle.sqlite_value.specs.Order.{column};
 ghost use Rattle.sqlite.specs.Held.{state};
 ghost use Rattle.protocol.specs.Rows.{Row as RowValue};
-ghost use Rattle.acceptor_store.specs.Layouts.{layout_of};
 ghost use Rattle.acceptor_store.specs.Columns.{row_in, damage_of, item_in};
 ghost use Rattle.acceptor_store.specs.Sqlite.{IsRefusal};
 ghost use Rattle.acceptor_store.specs.Reading.{HasSeen, ShowsRows};
@@ -12,8 +11,8 @@ ghost use Rattle.acceptor_store.specs.Reading.{HasSeen, ShowsRows};
 use crate::columns::{damage_of, item_in};
 use crate::statements::fault_of;
 use ballots::{Number, Row};
-use row_table::{Layout, Taker, number_above, rising_is_listed, rows_rise, visit_rows};
-use saved_rows::RowsFault;
+use rows_saved::RowsFault;
+use rows_table::{Layout, Taker, number_above, rising_is_listed, rows_rise, visit_rows};
 use sqlite::{Alter, Connection};
 use std::alloc::Global;
 
@@ -41,8 +40,8 @@ fn next_item(
     last: Option<u64>,
     columns: &sqlite::Row,
 ) -> Result<(Number, Row), RowsFault>
-    ensures item { IfOk result (λ item. item_in (layout_of layout) columns.now ≡ Some item) }
-    ensures fault { IfErr result (λ fault. IsRefusal fault ⊎ IsSome (damage_of (column columns.now 0) (row_in (layout_of layout) 1 columns.now))) }
+    ensures item { IfOk result (λ item. item_in layout columns.now ≡ Some item) }
+    ensures fault { IfErr result (λ fault. IsRefusal fault ⊎ IsSome (damage_of (column columns.now 0) (row_in layout 1 columns.now))) }
 {
     if number_above(last, columns).is_none() {
         return Err(RowsFault::Store);
@@ -71,7 +70,7 @@ struct RowReader<'a, V: RowVisitor> {
 
 impl<V: RowVisitor> Taker for RowReader<'_, V> {
     ghost took = { λ old new rows. (old.visitor.ghost_name ≡ new.visitor.ghost_name) × (new.layout ≡ old.layout)
-        × (old.fault ≡ None → HasSeen V.saw (layout_of old.layout) new.fault old.visitor.now new.visitor.now rows) };
+        × (old.fault ≡ None → HasSeen V.saw old.layout new.fault old.visitor.now new.visitor.now rows) };
 
     ghost has_enough = { λ it. IsSome it.fault ⊎ V.has_enough it.visitor.now };
 
@@ -125,7 +124,7 @@ pub(crate) fn show_all<S: Alter, V: RowVisitor>(
     layout: Layout,
     visitor: &mut V,
 ) -> Result<bool, RowsFault>
-    ensures { ShowsRows (layout_of layout) V.saw V.has_enough visitor.old visitor.new result (state S.Store conn.old) (state S.Store conn.new) }
+    ensures { ShowsRows layout V.saw V.has_enough visitor.old visitor.new result (state S.Store conn.old) (state S.Store conn.new) }
 {
     rising_is_listed();
     rows_rise();

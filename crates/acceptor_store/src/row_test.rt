@@ -2,13 +2,12 @@
 
 ghost use Rattle.std.specs.Prelude.{◌≡◌, refl};
 ghost use Rattle.sqlite_value.specs.Order.{column};
-ghost use Rattle.acceptor_store.specs.Layouts.{layout_of};
 ghost use Rattle.acceptor_store.specs.Columns.{row_in, damage_of, first_of};
 ghost use Rattle.acceptor_store.specs.Testing.{begun, LeadsTo, PassesSoundRows, RefusesUnsoundRows, RisesWith};
 
 use crate::columns::damage_of;
-use row_table::{Layout, Taker, number_above, rising_is_listed};
-use saved_rows::RowsFault;
+use rows_saved::RowsFault;
+use rows_table::{Layout, Taker, number_above, rising_is_listed};
 use sqlite::Row;
 
 /// What was found in the rows of a listing up to here.
@@ -38,7 +37,7 @@ impl RowTest {
 
     /// Keeps the key of a damaged row, unless one came before.
     fn see_damage(&mut self, row: &Row)
-        ensures damage { self.new.damage ≡ first_of self.old.damage (damage_of (column row.now 0) (row_in (layout_of self.old.layout) 1 row.now)) }
+        ensures damage { self.new.damage ≡ first_of self.old.damage (damage_of (column row.now 0) (row_in self.old.layout 1 row.now)) }
         ensures same { self.new ≡ record self.old { damage = self.new.damage } }
     {
         if self.damage.is_none() {

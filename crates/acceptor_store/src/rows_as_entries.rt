@@ -2,12 +2,12 @@
 
 ghost use Rattle.std.specs.Prelude.{IfOk};
 ghost use Rattle.std.specs.List.{AllByRecursion};
-ghost use Rattle.saved_rows.specs.Saved.{HasPromise};
+ghost use Rattle.rows_saved.specs.Saved.{HasPromise};
 ghost use Rattle.acceptor_store.specs.RowsAsEntries.{AreEntriesOf, MovesMap};
 
 use crate::entry_columns::entry_columns_for;
 use ballots::{Number, Row};
-use row_table::EntryColumns;
+use rows_table::EntryColumns;
 use std::alloc::{AllocError, Global};
 
 /// The entries of these numbers and rows, in their order: in a table of entries they are the same map.

@@ -3,16 +3,16 @@
 ghost use Rattle.std.specs.Prelude.{◌≡◌, ◌≤◌, ◌⊎◌, ℕ, true, false, List, None, Err, IsTrue, IfOk, IfErr, OnOk, OnErr};
 ghost use Rattle.protocol.specs.Rows.{Row as RowValue};
 ghost use Rattle.tape_frames.specs.Entries.{version_of};
-ghost use Rattle.row_table.specs.Tables.{no_schema};
-ghost use Rattle.saved_rows.specs.Identity.{IsIdentity};
+ghost use Rattle.rows_table.specs.Tables.{no_schema};
+ghost use Rattle.rows_saved.specs.Identity.{IsIdentity};
 ghost use Rattle.protocol.specs.Versions.{Two};
 ghost use Rattle.acceptor_store.specs.FoundTables.{has_any};
 ghost use Rattle.acceptor_store.specs.Layouts.{upgraded_from};
 ghost use Rattle.acceptor_store.specs.Sqlite.{rows_version};
 ghost use Rattle.acceptor_store.specs.Calls.{GivesAll, GivesRow, IsCalled, Reads, SavesOrStops, in_database};
 ghost use Rattle.acceptor_store.specs.Reading.{SeesAll, SeesFront};
-ghost use Rattle.saved_rows.specs.Groups.{AreRowsOf, PutsAll};
-ghost use Rattle.saved_rows.specs.Saved.{SameRows, WithRow, HasPromise, RowFits, Rises};
+ghost use Rattle.rows_saved.specs.Groups.{AreRowsOf, PutsAll};
+ghost use Rattle.rows_saved.specs.Saved.{SameRows, WithRow, HasPromise, RowFits, Rises};
 
 use crate::found_tables::has_any;
 use crate::group::save_all;
@@ -23,8 +23,8 @@ use crate::reading::{RowVisitor, show_all};
 use crate::statements::{Numbered, fault_of, list, read, save};
 use crate::upgrade::go_over;
 use ballots::{Number, Row};
-use row_table::Layout;
-use saved_rows::{Identity, Rows, RowsFault, SavesAll, Settles};
+use rows_saved::{Identity, Rows, RowsFault, SavesAll, Settles};
+use rows_table::Layout;
 use sqlite::{Alter, Connection};
 use sqlite_schema::schema::Schema;
 use std::alloc::Global;
@@ -43,7 +43,7 @@ fn stop(stopped: &mut bool, refusals: &mut u64)
 
 /// Rows in a database, beside the table `station` that says whose they are. At version 1 their layout is 1: they are in
 /// the table `acceptor_row`, and a vote in it is for a tape of at most 4,096 frames. At version 2 their layout is 2: they
-/// are in the table `acceptor_entry`, and a vote in it is for any entry. [`Rows::upgrade`] goes from the first to the second;
+/// are in the table `acceptor_entry`, and a vote in it is for any entry. [`Rows::upgrade`] upgrades layout 1 to layout 2;
 /// the table `acceptor_row` stays then as it was, and is not read again.
 ///
 /// They are kept where their tables are those that [`SqliteRows::create`] makes or an upgrade leaves, and no others, and the
@@ -74,7 +74,6 @@ pub struct SqliteRows<S: Alter + Drop> {
 
 impl<S: Alter + Drop> Model for SqliteRows<S> {
     ghost use Rattle.acceptor_store.specs.Sqlite.{SqliteOf, sqlite_code, IsServing, StemsFrom};
-    ghost use Rattle.acceptor_store.specs.Layouts.{layout_of};
 
     ghost Value = { SqliteOf S };
 
@@ -85,13 +84,13 @@ impl<S: Alter + Drop> Model for SqliteRows<S> {
       identity = s.identity;
       alone = s.alone;
       found = s.found;
-      was = layout_of s.was;
-      layout = layout_of s.layout;
+      was = s.was;
+      layout = s.layout;
       stopped = s.stopped;
       refusals = s.refusals;
     } };
 
-    ghost invariant = { λ s. StemsFrom (layout_of s.was) (layout_of s.layout) × IsServing S.Store s.conn s.identity s.alone (layout_of s.was) s.found (layout_of s.layout) s.stopped };
+    ghost invariant = { λ s. StemsFrom s.was s.layout × IsServing S.Store s.conn s.identity s.alone s.was s.found s.layout s.stopped };
 }
 
 /// Whether a database has no table, index or view.

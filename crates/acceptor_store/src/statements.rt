@@ -2,21 +2,20 @@
 
 ghost use Rattle.std.specs.Prelude.{◌≤◌};
 ghost use Rattle.sqlite.specs.Held.{state};
-ghost use Rattle.row_table.specs.Tables.{Origin};
-ghost use Rattle.row_table.specs.Tables.Layout.{First, Second};
+ghost use Rattle.rows_table.specs.declared.layout.LayoutOrigin.{LayoutOrigin};
+ghost use Rattle.rows_table.specs.declared.layout.Layout.TheVariants as layouts;
 ghost use Rattle.protocol.specs.Versions.{One};
 ghost use Rattle.protocol.specs.Limits.{last_number};
-ghost use Rattle.saved_rows.specs.Saved.{HasPromise};
+ghost use Rattle.rows_saved.specs.Saved.{HasPromise};
 ghost use Rattle.acceptor_store.specs.Columns.{version_in};
-ghost use Rattle.acceptor_store.specs.Layouts.{layout_of};
 ghost use Rattle.acceptor_store.specs.Sqlite.{IsRefusal};
 ghost use Rattle.acceptor_store.specs.Statements.{CanBeSaved, ListsSaved, ReadsSaved, Saves};
 
 use crate::columns::{columns_for, damage_in, items_in, row_in};
 use crate::entry_columns::entry_columns_for;
 use ballots::{Number, Row};
-use row_table::{Layout, all_rows, are_rising, get_row, put_entry, put_row};
-use saved_rows::RowsFault;
+use rows_saved::RowsFault;
+use rows_table::{Layout, all_rows, are_rising, get_row, put_entry, put_row};
 use sqlite::{Alter, Connection, Error, ErrorCode};
 use std::alloc::Global;
 
@@ -38,7 +37,7 @@ fn save_row<S: Alter>(
     row: &Row,
 ) -> Result<(), RowsFault>
     requires { CanBeSaved One row.now }
-    ensures { Saves First number row.now result (state S.Store conn.old) (state S.Store conn.new) }
+    ensures { Saves layouts.One number row.now result (state S.Store conn.old) (state S.Store conn.new) }
 {
     let Ok(columns) = columns_for(alloc, number, row) else {
         return Err(RowsFault::OutOfMemory);
@@ -57,7 +56,7 @@ fn save_entry<S: Alter>(
     row: &Row,
 ) -> Result<(), RowsFault>
     requires promise { HasPromise row.now }
-    ensures { (origin : Origin) → Saves (Second origin) number row.now result (state S.Store conn.old) (state S.Store conn.new) }
+    ensures { (origin : LayoutOrigin) → Saves (layouts.Two origin) number row.now result (state S.Store conn.old) (state S.Store conn.new) }
 {
     let Ok(entry) = entry_columns_for(alloc, number, row) else {
         return Err(RowsFault::OutOfMemory);
@@ -82,16 +81,15 @@ pub(crate) fn save<S: Alter>(
     layout: Layout,
     item: Numbered<'_>,
 ) -> Result<(), RowsFault>
-    requires { CanBeSaved (version_in (layout_of layout)) item.row.now }
-    ensures saves { Saves (layout_of layout) item.entry.number item.entry.row.now result (state S.Store conn.old) (state S.Store conn.new) }
+    requires { CanBeSaved (version_in layout) item.row.now }
+    ensures saves { Saves layout item.entry.number item.entry.row.now result (state S.Store conn.old) (state S.Store conn.new) }
     ensures number { (1 ≤ item.entry.number) × (item.entry.number ≤ last_number) }
 {
     // Which numbers there are is known once it is read.
     let _key = item.number.get();
     match layout {
-        Layout::First => save_row(alloc, conn, item.number, item.row),
-        Layout::Created => save_entry(alloc, conn, item.number, item.row),
-        Layout::Upgraded => save_entry(alloc, conn, item.number, item.row),
+        Layout::One => save_row(alloc, conn, item.number, item.row),
+        Layout::Two(_) => save_entry(alloc, conn, item.number, item.row),
     }
 }
 
@@ -102,7 +100,7 @@ pub(crate) fn read<S: Alter>(
     layout: Layout,
     number: Number,
 ) -> Result<Row, RowsFault>
-    ensures { ReadsSaved (layout_of layout) number result (state S.Store conn.old) (state S.Store conn.new) }
+    ensures { ReadsSaved layout number result (state S.Store conn.old) (state S.Store conn.new) }
 {
     let mut rows = match get_row(conn, layout, number.get()) {
         Ok(rows) => rows,
@@ -126,7 +124,7 @@ pub(crate) fn list<S: Alter>(
     conn: &mut Connection<S>,
     layout: Layout,
 ) -> Result<Vec<(Number, Row)>, RowsFault>
-    ensures { ListsSaved (layout_of layout) result (state S.Store conn.old) (state S.Store conn.new) }
+    ensures { ListsSaved layout result (state S.Store conn.old) (state S.Store conn.new) }
 {
     let rows = match all_rows(conn, layout) {
         Ok(rows) => rows,

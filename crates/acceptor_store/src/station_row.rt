@@ -1,16 +1,14 @@
 //! The station in its table: whose rows a database holds, and in which layout.
 
 ghost use Rattle.std.specs.Prelude.{◌≡◌, ◌≢◌, false, Some, IsTrue, IfOk, IfErr};
-ghost use Rattle.row_table.specs.Tables.{layout_number};
-ghost use Rattle.saved_rows.specs.declared.identity.Identity.{Identity as IdentityValue};
-ghost use Rattle.acceptor_store.specs.Layouts.{layout_of};
+ghost use Rattle.rows_table.specs.Tables.{layout_number};
+ghost use Rattle.rows_saved.specs.declared.identity.Identity.{Identity as IdentityValue};
 ghost use Rattle.acceptor_store.specs.StationRow.{station_of, station_in, Agrees, RefusesStation};
 
 use crate::columns::{value_at, whole_in};
-use crate::layout::layout_number;
 use ballots::Member;
-use row_table::Layout;
-use saved_rows::{Identity, RowsFault};
+use rows_saved::{Identity, RowsFault};
+use rows_table::Layout;
 
 /// The layout's number and the identity that the columns of a station are; `None` where the key is not 1, the layout is not 1 or 2,
 /// or a number is out of range.
@@ -69,12 +67,12 @@ pub(crate) fn wanted_station(
     layout: Layout,
     given: Option<Identity>,
 ) -> Result<Identity, RowsFault>
-    ensures stored { IfOk result (λ i. (stored.0 ≡ layout_number (layout_of layout)) × (i ≡ stored.1)) }
+    ensures stored { IfOk result (λ i. (stored.0 ≡ layout_number layout) × (i ≡ stored.1)) }
     ensures given { IfOk result (Agrees given) }
-    ensures refuses { IfErr result (RefusesStation (layout_of layout) given stored) }
+    ensures refuses { IfErr result (RefusesStation layout given stored) }
 {
     let (number, station) = stored;
-    if number != layout_number(layout) {
+    if number != layout.number() {
         return Err(RowsFault::WrongSchema);
     }
     if agrees(given, station) {

@@ -1,15 +1,14 @@
 //! The upgrade of the rows of layout 1 to layout 2.
 
 ghost use Rattle.std.specs.Prelude.{[]};
-ghost use Rattle.row_table.specs.Tables.Layout.{First};
-ghost use Rattle.row_table.specs.Entries.{with_entries};
-ghost use Rattle.acceptor_store.specs.Layouts.{layout_of};
+ghost use Rattle.rows_table.specs.declared.layout.Layout.TheVariants.{One};
+ghost use Rattle.rows_table.specs.Entries.{with_entries};
 ghost use Rattle.acceptor_store.specs.Upgrading.{MovesEntries, TestsUpgraded, Upgrades};
 
 use crate::rows_as_entries::entries_for;
 use crate::statements::{fault_of, list};
-use row_table::{EntryColumns, Layout, get_row, upgrade_tables};
-use saved_rows::RowsFault;
+use rows_saved::RowsFault;
+use rows_table::{EntryColumns, Layout, get_row, upgrade_tables};
 use sqlite::{Alter, Connection};
 use std::alloc::Global;
 
@@ -31,9 +30,9 @@ fn move_entries<S: Alter>(
 
 /// Reads and packs all rows of layout 1, and moves them to layout 2.
 fn move_rows<S: Alter>(alloc: Global, conn: &mut Connection<S>) -> Result<(), RowsFault>
-    ensures { Upgrades S.Store First result conn.old conn.new }
+    ensures { Upgrades S.Store One result conn.old conn.new }
 {
-    let items = list(alloc, conn, Layout::First)?;
+    let items = list(alloc, conn, Layout::One)?;
     let Ok(entries) = entries_for(alloc, items.as_slice()) else {
         return Err(RowsFault::OutOfMemory);
     };
@@ -42,7 +41,7 @@ fn move_rows<S: Alter>(alloc: Global, conn: &mut Connection<S>) -> Result<(), Ro
 
 /// Tests that a connection still answers what is saved in layout 2. Nothing is written.
 fn test_open<S: Alter>(conn: &mut Connection<S>, layout: Layout) -> Result<(), RowsFault>
-    ensures { TestsUpgraded S.Store (layout_of layout) result conn.old conn.new }
+    ensures { TestsUpgraded S.Store layout result conn.old conn.new }
 {
     match get_row(conn, layout, 1) {
         Ok(_) => Ok(()),
@@ -56,11 +55,10 @@ pub(crate) fn go_over<S: Alter>(
     conn: &mut Connection<S>,
     layout: Layout,
 ) -> Result<(), RowsFault>
-    ensures { Upgrades S.Store (layout_of layout) result conn.old conn.new }
+    ensures { Upgrades S.Store layout result conn.old conn.new }
 {
     match layout {
-        Layout::First => move_rows(alloc, conn),
-        Layout::Created => test_open(conn, layout),
-        Layout::Upgraded => test_open(conn, layout),
+        Layout::One => move_rows(alloc, conn),
+        Layout::Two(_) => test_open(conn, layout),
     }
 }

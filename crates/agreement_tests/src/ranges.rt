@@ -3,7 +3,7 @@
 use crate::rows::Agreed::{Flood, Longest, Void};
 use crate::rows::{Agreed, At, Voted, ballot, is_vote, owned, parts};
 use ballots::{Ballot, Member, Number, Row, Vote, majority};
-use saved_rows::{MemoryRows, Rows};
+use rows_saved::{MemoryRows, Rows};
 use std::alloc::Global;
 use tape_frames::Version;
 

@@ -6,11 +6,11 @@ use Rattle.protocol.specs.Versions.{Version}
 use Rattle.protocol.specs.Rows.{Row}
 use Rattle.protocol.specs.Packets.{Accepted}
 use Rattle.protocol.specs.Acceptor.{Request, Reply, Votes, row_after, reply_after, reply_of, next_row, StepsAreOfTheWhole}
-use Rattle.saved_rows.specs.Saved.{WithRow}
+use Rattle.rows_saved.specs.Saved.{WithRow}
 use Rattle.answer_command.specs.Asked.{Asked}
 use Rattle.answer_command.specs.Replies.{answered, reply_text, rows_after, sent_back, voted_entry}
 use Rattle.answer_command.specs.AnswerText.{requests_for, heard_after, line_text, Stands}
-use Rattle.command_ends.specs.declared.refusal.Refusal.{Refusal}
+use Rattle.refusals.specs.declared.line_refusal.Refusal.{Refusal}
 
 requests_for-more : (n : ℕ) (heard : List (ℕ × Request)) (k : ℕ) (r : Request) → requests_for n (heard ++ (k, r) ∷ []) ≡ cond (eqb n k) (requests_for n heard ++ r ∷ []) (requests_for n heard)
 requests_for-more n [] k r = elim (eqb n k) as (λ p. cond p (r ∷ []) [] ≡ cond p (r ∷ []) []) [ true ↦ refl | false ↦ refl ]

@@ -8,7 +8,7 @@ use Rattle.protocol.specs.Rows.{Row}
 use Rattle.protocol.specs.Acceptor.{Request, row_after, reply_after}
 use Rattle.answer_command.specs.Asked.{Asked, asked_of}
 use Rattle.answer_command.specs.Replies.{refused_text, reply_text}
-use Rattle.command_ends.specs.declared.refusal.Refusal.{Refusal}
+use Rattle.refusals.specs.declared.line_refusal.Refusal.{Refusal}
 
 -- a line of nothing but spaces
 abbrev pub is_blank : List ℕ → Bool

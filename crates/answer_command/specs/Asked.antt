@@ -7,8 +7,8 @@ use Rattle.protocol.specs.Packets.{Packet as PacketValue, Body, Prepare, Promise
 use Rattle.protocol.specs.Acceptor.{Request, Prepares, Accepts}
 use Rattle.packets.specs.Reading.{packet_at}
 use Rattle.packets.specs.declared.fault.PacketFault.{PacketFault}
-use Rattle.command_ends.specs.declared.refusal.Refusal.{Refusal}
-use Rattle.command_ends.specs.declared.refusal.Refusal.TheVariants.{NotHex, Packet, WrongCircuit, NotForMe, NotARequest}
+use Rattle.refusals.specs.declared.line_refusal.Refusal.{Refusal}
+use Rattle.refusals.specs.declared.line_refusal.Refusal.TheVariants.{NotHex, Packet, WrongCircuit, NotForMe, NotARequest}
 
 -- a request, from whom it is and about which number
 pub record Asked : Type 0 where

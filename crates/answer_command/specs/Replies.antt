@@ -9,8 +9,8 @@ use Rattle.protocol.specs.Packets.{Packet as PacketValue, Body, Promise, Accepte
 use Rattle.protocol.specs.Acceptor.{Reply, Promises, Nacks, Says_nothing, Votes, Votes_again, ballot_of, reply_of, next_row}
 use Rattle.packets.specs.Spelling.{spelling}
 use Rattle.answer_command.specs.Asked.{Asked}
-use Rattle.command_ends.specs.declared.refusal.Refusal.{Refusal}
-use Rattle.command_ends.specs.RefusalWords.{word_of}
+use Rattle.refusals.specs.declared.line_refusal.Refusal.{Refusal}
+use Rattle.refusals.specs.RefusalWords.{word_of}
 
 -- the text of a line that is refused
 abbrev pub refused_text : Refusal → List ℕ

@@ -6,13 +6,13 @@ use Rattle.protocol.specs.Fitting.{BodyFits}
 use Rattle.protocol.specs.Packets.{Packet, Body}
 use Rattle.protocol.specs.Rows.{Row}
 use Rattle.packets.specs.Spelling.{spelling}
-use Rattle.saved_rows.specs.Memory.{MemoryOf, saved}
+use Rattle.rows_saved.specs.Memory.{MemoryOf, saved}
 use Rattle.tape_frames.specs.Entries.{version_of}
 use Rattle.answer_command.specs.Asked.{Asked, asked_of}
 use Rattle.answer_command.specs.Replies.{answered, rows_after, back}
 use Rattle.answer_command.specs.AnswerText.{lines_text, answer_text}
 use Rattle.answer_command.specs.declared.line.AcceptorSeat.{AcceptorSeat}
-use Rattle.command_ends.specs.declared.refusal.Refusal.{Refusal}
+use Rattle.refusals.specs.declared.line_refusal.Refusal.{Refusal}
 
 -- what a line asks for
 abbrev pub asked_at : AcceptorSeat → List ℕ → Result Asked Refusal

@@ -1,20 +1,20 @@
 //! The command `answer`: a line out for each line in.
 
-ghost use Rattle.std.specs.Prelude.{◌≡◌, ◌==◌, List, [], ◌∷◌, ◌++◌, map, IfOk};
+ghost use Rattle.std.specs.Prelude.{◌≡◌, ◌==◌, List, [], ◌∷◌, ◌++◌, map, IfOk, IfErr};
 ghost use Rattle.std.specs.List.{list_all, slice_split};
 ghost use Rattle.tape_frames.specs.Entries.{version_of};
 ghost use Rattle.answer_command.specs.AnswerText.{is_blank, lines_of, WritesAnswer, WritesAnswerFront};
 ghost use Rattle.answer_command.specs.Seats.{lines_at, answer_at};
-ghost use Rattle.command_ends.specs.Ends.{IsOfInput};
-ghost use Rattle.command_ends.specs.Writing.{Writes};
+ghost use Rattle.command_ends.specs.Ends.{end_of, IsOfInput};
+ghost use Rattle.streams.specs.Writing.{Writes};
 ghost use Rattle.command_ends.specs.declared.end.End.TheVariants.{Done};
 
 use crate::line::{AcceptorSeat, answer_line};
-use command_ends::{End, Fault, PutFault};
-use saved_rows::MemoryRows;
+use command_ends::{End, Fault, end_with};
+use rows_saved::MemoryRows;
 use std::alloc::{AllocError, Global};
 use std::io::{Read, Write};
-use streams::{put_all, read_input};
+use streams::{PutFault, hand_on, put_all, read_input};
 
 fn is_blank(line: &[u8]) -> bool
     ensures { result ≡ is_blank line.now }
@@ -39,13 +39,9 @@ pub struct AnswerOrder<R: Read + Drop> {
 fn put_text<W: Write>(mut text: Vec<u8>, out: &mut W) -> Result<(), PutFault>
     ensures { Writes result (W.contents out.old) (W.contents out.new) (text.items ++ 10 ∷ []) }
 {
-    if text.push(b'\n').is_err() {
-        return Err(PutFault::OutOfMemory);
-    }
-    match put_all(out, &text) {
-        Ok(()) => Ok(()),
-        Err(_) => Err(PutFault::CannotWrite),
-    }
+    text.push(b'\n')?;
+    put_all(out, &text)?;
+    Ok(())
 }
 
 /// Answers the lines, one after the other.
@@ -62,9 +58,7 @@ fn put_lines<W: Write>(
     let mut rows = MemoryRows::at(alloc, seat.wire);
     for line in lines {
         if !is_blank(line) {
-            let Ok(text) = answer_line(alloc, *seat, &mut rows, line) else {
-                return Err(PutFault::OutOfMemory);
-            };
+            let text = answer_line(alloc, *seat, &mut rows, line)?;
             put_text(text, out)?;
         }
     }
@@ -72,22 +66,19 @@ fn put_lines<W: Write>(
 }
 
 /// Answers the lines of an input, and hands all of it on.
-fn put_answer<W: Write>(
+fn put_answer<'a, W: Write>(
     alloc: Global,
     seat: &AcceptorSeat,
     input: &[u8],
     out: &mut W,
-) -> Result<(), PutFault>
-    ensures { Writes result (W.contents out.old) (W.contents out.new) (answer_at seat.now input.now) }
+) -> Result<(), Fault<'a>>
+    ensures writes { Writes result (W.contents out.old) (W.contents out.new) (answer_at seat.now input.now) }
+    ensures fault { IfErr result (λ fault. IsOfInput (end_of fault)) }
 {
-    let Ok(lines) = lines_of(alloc, input) else {
-        return Err(PutFault::OutOfMemory);
-    };
+    let lines = lines_of(alloc, input)?;
     put_lines(alloc, seat, &lines, out)?;
-    match out.flush() {
-        Ok(()) => Ok(()),
-        Err(_) => Err(PutFault::CannotWrite),
-    }
+    hand_on(out)?;
+    Ok(())
 }
 
 /// Answers each line of the input as one acceptor of this circuit and member, over rows that last for the run. It reads and
@@ -112,8 +103,5 @@ pub fn answer<R: Read + Drop, W: Write, E: Write>(
         Ok(bytes) => bytes,
         Err(fault) => return Fault::of_input(fault, "-").tell(err),
     };
-    match put_answer(alloc, &seat, &bytes, out) {
-        Ok(()) => End::Done,
-        Err(fault) => Fault::of_writing(fault).tell(err),
-    }
+    end_with(put_answer(alloc, &seat, &bytes, out), err)
 }

@@ -10,18 +10,18 @@ ghost use Rattle.tape_frames.specs.Entries.{version_of, lent_entry};
 ghost use Rattle.packets.specs.Bodies.{said};
 ghost use Rattle.packets.specs.Rules.{keeps_rules};
 ghost use Rattle.packets.specs.Spelling.{spelling};
-ghost use Rattle.saved_rows.specs.Saved.{WithRow, RowFits};
-ghost use Rattle.saved_rows.specs.Memory.{saved};
+ghost use Rattle.rows_saved.specs.Saved.{WithRow, RowFits};
+ghost use Rattle.rows_saved.specs.Memory.{saved};
 ghost use Rattle.answer_command.specs.Asked.{asked_in, asked_of_packet};
 ghost use Rattle.answer_command.specs.Replies.{refused_text, voted_entry};
 ghost use Rattle.answer_command.specs.Seats.{asked_at, back_to, back_at, Asks, Reads, Answers};
 
 use acceptor::{AcceptAnswer, PrepareAnswer, accept, prepare};
 use ballots::{Ballot, Member, Number, Row};
-use command_ends::Refusal;
 use hex::FromHexError;
 use packets::{BodyRef, PacketRef, Route, decode, encode};
-use saved_rows::MemoryRows;
+use refusals::Refusal;
+use rows_saved::MemoryRows;
 use std::alloc::{AllocError, Global};
 use tape_frames::{EntryRef, Version};
 
@@ -195,7 +195,7 @@ fn answer_packet(
 }
 
 /// The text of a line that is not blank, and the rows after it.
-pub fn answer_line(
+pub(crate) fn answer_line(
     alloc: Global,
     seat: AcceptorSeat,
     rows: &mut MemoryRows,

@@ -1,7 +1,9 @@
 //! What the command line asks for.
 
+use crate::plan::{Mismatch, Plan};
 use ballots::Member;
-use command_ends::{ScriptPaths, TapePaths};
+use clap::Error;
+use inputs::{ScriptPaths, TapePaths};
 use log_terms::LogTerms;
 use tape_drawing::DrawingForm;
 use tape_frames::Version;
@@ -131,22 +133,12 @@ pub struct ReelPlan<'a> {
     pub folder: &'a str,
 }
 
-/// What the command line of `serve` asks for.
-#[derive(Clone, Copy)]
-pub struct Plan<'a> {
-    /// The path of the configuration.
-    pub config: &'a str,
-    /// How many turns the station takes.
-    pub turns: u32,
-    /// Whether the tables of the saved rows are made.
-    pub create: bool,
-    /// The layout in which they are made, by the version that it has rows of. It stands only where they are made.
-    pub layout: Option<Version>,
-    /// The number for which a tape is offered, and the path of the tape: both, or neither.
-    pub number: Option<u32>,
-    pub tape: Option<&'a str>,
-    /// The number that is withdrawn.
-    pub withdraw: Option<u32>,
-    /// The number whose entry is sought.
-    pub seek: Option<u32>,
+/// Why a line asks for no command.
+#[derive(Drop)]
+pub enum Unasked {
+    /// What `clap` says of its words: the help or the version that they ask for, the first mistake among them, or that
+    /// memory was refused.
+    Clap(Error),
+    /// They are options that do not go together.
+    Mismatched(Mismatch),
 }

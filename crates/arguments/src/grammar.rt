@@ -6,7 +6,7 @@ use clap::{Arg, ArgAction, Command};
 use std::alloc::{AllocError, Global};
 
 /// The version of the program.
-const VERSION: &str = "0.3.0";
+pub const VERSION: &str = "0.3.0";
 
 /// The versions of packets and the layouts of saved rows, as `--wire` and `--layout` name them.
 const VERSIONS: &[&str] = &["1", "2"];

@@ -3,7 +3,10 @@
 
 mod asked;
 mod grammar;
+mod plan;
 mod taking;
 
-pub use asked::{Asked, Plan, ReelPlan, Telling};
+pub use asked::{Asked, ReelPlan, Telling, Unasked};
+pub use grammar::VERSION;
+pub use plan::{Mismatch, Plan, TapeOffer};
 pub use taking::asked_by;

@@ -1,10 +1,11 @@
 //! What the words of a call ask for.
 
-use crate::asked::{Asked, Plan, ReelPlan, Telling};
+use crate::asked::{Asked, ReelPlan, Telling, Unasked};
 use crate::grammar::grammar;
+use crate::plan::{Mismatch, Plan, TapeOffer, making_of, offer_of};
 use ballots::Member;
 use clap::{ArgMatches, Error};
-use command_ends::{ScriptPaths, TapePaths};
+use inputs::{ScriptPaths, TapePaths};
 use log_terms::{LogTerms, loudness_of};
 use std::alloc::Global;
 use tape_drawing::DrawingForm;
@@ -145,18 +146,28 @@ fn status_of<'a>(matches: &ArgMatches<'a>) -> Option<Asked<'a>> {
     Some(Asked::Status { config, telling })
 }
 
-fn serve_of<'a>(matches: &ArgMatches<'a>) -> Option<Asked<'a>> {
+/// To serve, with what is offered first and the version that rows are made in, if any are.
+fn plan_of<'a>(
+    matches: &ArgMatches<'a>,
+    offer: Option<TapeOffer<'a>>,
+    create: Option<Version>,
+) -> Option<Asked<'a>> {
     let plan = Plan {
         config: matches.get_str("CONFIG")?,
         turns: matches.get_one::<u32>("turns")?,
-        create: matches.get_flag("create"),
-        layout: version_of(matches, "layout"),
-        number: matches.get_one::<u32>("number"),
-        tape: matches.get_str("tape"),
+        create,
+        offer,
         withdraw: matches.get_one::<u32>("withdraw"),
         seek: matches.get_one::<u32>("seek"),
     };
     Some(Asked::Serve(plan))
+}
+
+/// Of two mismatches that of the offer is the first.
+fn serve_of<'a>(matches: &ArgMatches<'a>) -> Result<Option<Asked<'a>>, Mismatch> {
+    let offer = offer_of(matches.get_one::<u32>("number"), matches.get_str("tape"))?;
+    let create = making_of(matches.get_flag("create"), version_of(matches, "layout"))?;
+    Ok(plan_of(matches, offer, create))
 }
 
 fn run_of<'a>(matches: &ArgMatches<'a>) -> Option<Asked<'a>> {
@@ -213,9 +224,14 @@ fn survey_of<'a>(words: &'a [String], matches: &ArgMatches<'a>) -> Option<Asked<
     })
 }
 
-fn asked_of<'a>(words: &'a [String], matches: &ArgMatches<'a>) -> Option<Asked<'a>> {
-    let (name, given) = matches.subcommand()?;
-    match name {
+fn asked_of<'a>(
+    words: &'a [String],
+    matches: &ArgMatches<'a>,
+) -> Result<Option<Asked<'a>>, Mismatch> {
+    let Some((name, given)) = matches.subcommand() else {
+        return Ok(None);
+    };
+    let asked = match name {
         "answer" => answer_of(given),
         "check" => check_of(given),
         "draw" => draw_of(given),
@@ -226,7 +242,7 @@ fn asked_of<'a>(words: &'a [String], matches: &ArgMatches<'a>) -> Option<Asked<'
         "rows" => rows_of(given),
         "upgrade" => upgrade_of(given),
         "create" => create_of(given),
-        "serve" => serve_of(given),
+        "serve" => return serve_of(given),
         "run" => run_of(given),
         "check-config" => check_config_of(given),
         "stop" => stop_of(given),
@@ -235,15 +251,22 @@ fn asked_of<'a>(words: &'a [String], matches: &ArgMatches<'a>) -> Option<Asked<'
         "import" => import_of(given),
         "survey" => survey_of(words, given),
         _ => None,
-    }
+    };
+    Ok(asked)
 }
 
 /// The command that the words give, with all that it is given; the first word is the program's own name. `None` where they
 /// name no command.
 ///
-/// `Err` is what `clap` says of words that ask for no command: the help or the version that they ask for, the first
-/// mistake among them, or that memory was refused.
-pub fn asked_by<'a>(alloc: Global, words: &'a [String]) -> Result<Option<Asked<'a>>, Error> {
-    let matches = matches_of(alloc, words)?;
-    Ok(asked_of(words, &matches))
+/// `Err` is what `clap` says of words that ask for no command, or that they are options which do not go together. Of two
+/// such mistakes `clap`'s is the first.
+pub fn asked_by<'a>(alloc: Global, words: &'a [String]) -> Result<Option<Asked<'a>>, Unasked> {
+    let matches = match matches_of(alloc, words) {
+        Ok(matches) => matches,
+        Err(error) => return Err(Unasked::Clap(error)),
+    };
+    match asked_of(words, &matches) {
+        Ok(asked) => Ok(asked),
+        Err(mismatch) => Err(Unasked::Mismatched(mismatch)),
+    }
 }

@@ -12,7 +12,7 @@ ghost use Rattle.catch_up.specs.Told.{HasCome, IsDeclined, IsStepTold};
 use crate::asked::RecallQueue;
 use crate::before::Before;
 use crate::calls;
-use crate::lacking::{has_gone_out, is_busy, leave, take_in, tell};
+use crate::lacking::{count_datagram, has_gone_out, is_busy, leave, tell};
 use crate::news::{news_of, news_of_packet};
 use crate::own::OwnRecalls;
 use crate::packet::PacketHead;
@@ -131,7 +131,7 @@ impl CatchUp {
     pub fn came(&mut self, packet: PacketHead, now: u64) -> Result<(), AllocError>
         ensures { HasCome packet self.old self.new now result }
     {
-        take_in(&mut self.healing);
+        count_datagram(&mut self.healing);
         calls::came(&mut self.rolls, now);
         tell(
             &mut self.healing,
@@ -145,7 +145,7 @@ impl CatchUp {
     pub fn passed_over(&mut self)
         ensures { self.new ≡ record self.old { healing = taken_in self.old.healing } }
     {
-        take_in(&mut self.healing);
+        count_datagram(&mut self.healing);
     }
 
     /// A step of the station about a number was done with this note, at a moment in milliseconds; whether it opened a ballot for a file

@@ -10,7 +10,7 @@ ghost use Rattle.catch_up.specs.Hearing.{IsHeard, IsHeardBy, with_recall};
 
 use crate::calls;
 use crate::catch_up::CatchUp;
-use crate::lacking::{is_new, take_in, tell};
+use crate::lacking::{count_datagram, is_new, tell};
 use crate::unheard::{Unheard, check};
 use ballots::{Member, Number};
 use healing::NumberNews;
@@ -138,7 +138,7 @@ impl CatchUp {
         ensures result { result ≡ heard_by self.old.own heard.now }
         ensures heard { IsHeard self.old self.new heard.now now result }
     {
-        take_in(&mut self.healing);
+        count_datagram(&mut self.healing);
         match heard {
             Aside::Recall(Ok(recall)) => self.hear_recall(recall),
             Aside::Recall(Err(fault)) => Err(Unheard::Bad(*fault)),

@@ -11,11 +11,11 @@ use std::alloc::AllocError;
 const MOST_LACKED: usize = 4096;
 
 /// A datagram was taken in.
-pub(crate) fn take_in(healing: &mut Option<Healing>)
+pub(crate) fn count_datagram(healing: &mut Option<Healing>)
     ensures { healing.new ≡ taken_in healing.old }
 {
     if let Some(healing) = healing {
-        healing.take_in();
+        healing.count_datagram();
     }
 }
 

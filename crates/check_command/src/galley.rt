@@ -5,11 +5,13 @@ ghost use Rattle.code_table.specs.Tables.{mean};
 ghost use Rattle.check_command.specs.Galley.{Checks, CheckEnds, IsSetAs};
 ghost use Rattle.command_ends.specs.Giving.{Gives};
 
-use command_ends::{End, Fault, PutFault, TapePaths, read_table, read_tape, read_widths};
-use line_check::{SetError, Setting, galley, set};
+use command_ends::{End, Fault, end_with};
+use inputs::{TapePaths, read_table, read_tape, read_widths};
+use line_check::{Setting, galley, set};
 use std::alloc::Global;
 use std::io::{Read, Write};
 use std::str;
+use streams::{CannotWrite, hand_on};
 use tape_frames::{Tape, holes};
 
 /// What `check` is asked: where its three files are, what they are read from, and whether its galley has a listing before it.
@@ -23,13 +25,11 @@ pub struct CheckOrder<'a, R: Read + Drop, S: Read + Drop, T: Read + Drop> {
 }
 
 /// Writes one line per frame: its holes, and the frame in decimal.
-fn put_holes<W: Write>(tape: &Tape, out: &mut W) -> Result<(), PutFault> {
+fn put_holes<W: Write>(tape: &Tape, out: &mut W) -> Result<(), CannotWrite> {
     for frame in tape.frames() {
         let row = holes(*frame).unwrap_or(*b"......");
         let row = str::from_utf8(&row).unwrap_or("......");
-        if writeln!(out, "{row} {frame}").is_err() {
-            return Err(PutFault::CannotWrite);
-        }
+        writeln!(out, "{row} {frame}")?;
     }
     Ok(())
 }
@@ -43,14 +43,9 @@ fn put_galley<'a, W: Write>(
 ) -> Result<(), Fault<'a>>
     ensures { Gives result (λ _. IsSetAs (mean setting.now.table) setting.now.widths tape.now (W.contents out.old) (W.contents out.new)) }
 {
-    let slugs = match set(alloc, &setting.table, &setting.widths, tape) {
-        Ok(slugs) => slugs,
-        Err(SetError::Fault(fault)) => return Err(Fault::Unset(fault)),
-        Err(SetError::OutOfMemory) => return Err(Fault::OutOfMemory),
-    };
-    if galley(&slugs, out).is_err() || out.flush().is_err() {
-        return Err(Fault::CannotWrite);
-    }
+    let slugs = set(alloc, &setting.table, &setting.widths, tape)?;
+    galley(&slugs, out)?;
+    hand_on(out)?;
     Ok(())
 }
 
@@ -73,9 +68,7 @@ fn checked<'a, R: Read + Drop, S: Read + Drop, T: Read + Drop, W: Write>(
     let widths = read_widths(alloc, &mut widths, paths.widths)?;
     let tape = read_tape(alloc, &mut tape, paths.tape)?;
     if listing {
-        if let Err(fault) = put_holes(&tape, out) {
-            return Err(Fault::of_writing(fault));
-        }
+        put_holes(&tape, out)?;
     }
     put_galley(alloc, &Setting { table, widths }, &tape, out)
 }
@@ -92,12 +85,10 @@ pub fn check<R: Read + Drop, S: Read + Drop, T: Read + Drop, W: Write, E: Write>
 ) -> End
     ensures { CheckEnds R.remaining S.remaining T.remaining order.entry (W.contents out.old) (W.contents out.new) result }
 {
-    match checked(alloc, order, out) {
-        Ok(()) => End::Done,
-        Err(fault) => {
-            // The listing stands, if there is one.
-            let _ = out.flush();
-            fault.tell(err)
-        }
+    let outcome = checked(alloc, order, out);
+    if outcome.is_err() {
+        // The listing stands, if there is one.
+        let _ = out.flush();
     }
+    end_with(outcome, err)
 }

@@ -13,7 +13,7 @@ use crate::stories::{
 };
 use crate::telling::{Way, fails_at, fails_unread_at};
 use fixtures::Given::{Flood, Void};
-use saved_rows::RowsFault;
+use rows_saved::RowsFault;
 use station::StepRefusal;
 use station_fixtures::Noted::{Began, Heard, Nothing, Promised, Proposed, Voted};
 

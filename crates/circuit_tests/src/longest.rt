@@ -6,7 +6,7 @@ use crate::stories::Ending::Done;
 use crate::stories::{Line, Released};
 use crate::telling::{are_releases, steps_of};
 use fixtures::Given::Longest;
-use saved_rows::Rows;
+use rows_saved::Rows;
 use station::Datagram;
 use station_fixtures::Noted::{Began, Heard, Promised, Proposed, Voted};
 use std::alloc::Global;

@@ -3,7 +3,7 @@
 use code_table::CodeTable;
 use fixtures::WIDTHS;
 use line_check::{Cause, SetFault};
-use saved_rows::{MemoryRows, Rows, RowsFault};
+use rows_saved::{MemoryRows, Rows, RowsFault};
 use station_fixtures::{Unread, setting};
 use std::alloc::Global;
 use tape_frames::Version;

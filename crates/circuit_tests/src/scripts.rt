@@ -6,7 +6,7 @@ use crate::telling::is_set;
 use ballots::Number;
 use fixtures::{Dice, Given, frames_of};
 use packets::{BodyRef, decode};
-use saved_rows::{MemoryRows, Rows};
+use rows_saved::{MemoryRows, Rows};
 use station::Datagram;
 use station_fixtures::is_given;
 use std::alloc::Global;

@@ -5,7 +5,7 @@ use crate::members::{LastWidths, OLD, Versions, WITHOUT_FI};
 use fixtures::Given;
 use line_check::SetFault;
 use packets::PacketFault;
-use saved_rows::RowsFault;
+use rows_saved::RowsFault;
 use station::StepRefusal;
 use station_fixtures::Noted;
 use world::{RunStop, WorldRefusal};

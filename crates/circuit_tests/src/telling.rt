@@ -6,7 +6,7 @@ use crate::stories::{Act, Ending, Line, Offered, Released, Story};
 use ballots::Number;
 use fixtures::{Given, frames_of, galley_of};
 use line_check::{SetFault, galley};
-use saved_rows::Rows;
+use rows_saved::Rows;
 use station::Datagram;
 use station_fixtures::{is_given, is_note};
 use std::alloc::Global;

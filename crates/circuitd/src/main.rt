@@ -5,29 +5,17 @@ use command_ends::{End, Fault};
 use command_line::{Asked, parse};
 use commands::{Console, carry_out};
 use host_process::{StandardError, fill_descriptors};
-use host_row_files::{HostFiles, RowFiles};
+use rows_host_files::{HostFiles, RowFiles};
 use std::env;
-use std::io::{BufWriter, ErrorKind, LineWriter, Write};
+use std::io::{BufWriter, ErrorKind, LineWriter};
 use std::process::ExitCode;
 
-/// Tells that a word of the call is no text. That the writer fails is ignored.
-fn no_text(rt: &HostRuntime) -> End {
-    let _ = writeln!(rt.stderr(), "usage: an argument is not UTF-8");
-    End::Usage
-}
-
 /// The words that the program was called with.
-fn command_words(rt: &HostRuntime) -> Result<Vec<String>, End> {
-    let args = match env::args(rt) {
-        Ok(args) => args,
-        Err(e) if e.kind() == ErrorKind::OutOfMemory => {
-            return Err(Fault::OutOfMemory.tell(&mut rt.stderr()));
-        }
-        Err(_) => return Err(no_text(rt)),
-    };
-    match args.collect(rt.alloc()) {
-        Ok(words) => Ok(words),
-        Err(_) => Err(Fault::OutOfMemory.tell(&mut rt.stderr())),
+fn command_words<'a>(rt: &HostRuntime) -> Result<Vec<String>, Fault<'a>> {
+    match env::args(rt) {
+        Ok(args) => Ok(args.collect(rt.alloc())?),
+        Err(e) if e.kind() == ErrorKind::OutOfMemory => Err(Fault::OutOfMemory),
+        Err(_) => Err(Fault::Usage("an argument is not UTF-8")),
     }
 }
 
@@ -62,7 +50,7 @@ fn run_words<F: RowFiles>(rt: &HostRuntime, words: &[String], row_files: &F) -> 
 fn run<F: RowFiles>(rt: &HostRuntime, row_files: &F) -> End {
     match command_words(rt) {
         Ok(words) => run_words(rt, &words, row_files),
-        Err(end) => end,
+        Err(fault) => fault.tell(&mut rt.stderr()),
     }
 }
 

@@ -17,7 +17,7 @@ use widths::Widths;
 
 /// What the cells are made of.
 #[derive(Clone, Copy)]
-pub struct Sheet<'a> {
+pub(crate) struct Sheet<'a> {
     pub page: DrawingForm,
     pub table: &'a CodeTable,
     pub widths: &'a Widths,
@@ -335,7 +335,7 @@ fn add_cell(text: &mut Vec<u8>, sheet: &Sheet<'_>, frame: u8) -> Result<(), Allo
 }
 
 /// Adds the cells of a chart.
-pub fn add_cells(text: &mut Vec<u8>, sheet: &Sheet<'_>) -> Result<(), AllocError>
+pub(crate) fn add_cells(text: &mut Vec<u8>, sheet: &Sheet<'_>) -> Result<(), AllocError>
     ensures { OnOk result (text.new.items ≡ text.old.items ++ cells_text sheet.now.page (chart sheet.now.widths.now (mean sheet.now.table.now))) }
 {
     for frame in 0..64u8 {

@@ -5,7 +5,7 @@ ghost use Rattle.code_chart.specs.Texts.{style, svg_middle, svg_style_lead, svg_
 
 /// How a chart looks.
 #[tactic(auto, unfolding(crate::specs::Texts::style))]
-pub fn style() -> &'static str
+pub(crate) fn style() -> &'static str
     ensures { result.now ≡ style }
 {
     "\
@@ -31,7 +31,7 @@ path{fill:none;stroke:#1a1a1a;stroke-width:6;stroke-linecap:round}\n\
 
 /// A document behind its height, as far as its title.
 #[tactic(auto, unfolding(crate::specs::Texts::svg_middle))]
-pub fn svg_middle() -> &'static str
+pub(crate) fn svg_middle() -> &'static str
     ensures { result.now ≡ svg_middle }
 {
     "808' viewBox='0 0 840 808'>\n<title>"
@@ -39,7 +39,7 @@ pub fn svg_middle() -> &'static str
 
 /// The end of its title, and what begins its style.
 #[tactic(auto, unfolding(crate::specs::Texts::svg_style_lead))]
-pub fn svg_style_lead() -> &'static str
+pub(crate) fn svg_style_lead() -> &'static str
     ensures { result.now ≡ svg_style_lead }
 {
     "\
@@ -50,7 +50,7 @@ pub fn svg_style_lead() -> &'static str
 
 /// The end of its style, and the ground.
 #[tactic(auto, unfolding(crate::specs::Texts::svg_ground))]
-pub fn svg_ground() -> &'static str
+pub(crate) fn svg_ground() -> &'static str
     ensures { result.now ≡ svg_ground }
 {
     "\
@@ -61,7 +61,7 @@ pub fn svg_ground() -> &'static str
 
 /// How a cell reads.
 #[tactic(auto, unfolding(crate::specs::Texts::cell_legend))]
-pub fn cell_legend() -> &'static str
+pub(crate) fn cell_legend() -> &'static str
     ensures { result.now ≡ cell_legend }
 {
     "In each cell the holes, level 0 on top, and the number | above the meaning unshifted, below it the meaning shifted, each with its width in units"
@@ -69,7 +69,7 @@ pub fn cell_legend() -> &'static str
 
 /// What is marked.
 #[tactic(auto, unfolding(crate::specs::Texts::sign_legend))]
-pub fn sign_legend() -> &'static str
+pub(crate) fn sign_legend() -> &'static str
     ensures { result.now ≡ sign_legend }
 {
     "red: no meaning, or a matrix without a width | = 5: combination 5 means the same, unshifted or shifted"
@@ -77,7 +77,7 @@ pub fn sign_legend() -> &'static str
 
 /// What the marks of functions stand for.
 #[tactic(auto, unfolding(crate::specs::Texts::function_legend))]
-pub fn function_legend() -> &'static str
+pub(crate) fn function_legend() -> &'static str
     ensures { result.now ≡ function_legend }
 {
     "SB spaceband | SH shift | UN unshift | EL elevate, which ends a line | RT return | UR upper rail | LR lower rail"
@@ -85,7 +85,7 @@ pub fn function_legend() -> &'static str
 
 /// What the others stand for.
 #[tactic(auto, unfolding(crate::specs::Texts::quad_legend))]
-pub fn quad_legend() -> &'static str
+pub(crate) fn quad_legend() -> &'static str
     ensures { result.now ≡ quad_legend }
 {
     "QL QC QR quad left, center, right | TH EN EM thin, en, em space | IG ignored"
@@ -93,7 +93,7 @@ pub fn quad_legend() -> &'static str
 
 /// The end of the title of a page, and what begins its style.
 #[tactic(auto, unfolding(crate::specs::Texts::page_style_lead))]
-pub fn page_style_lead() -> &'static str
+pub(crate) fn page_style_lead() -> &'static str
     ensures { result.now ≡ page_style_lead }
 {
     "\
@@ -104,7 +104,7 @@ pub fn page_style_lead() -> &'static str
 
 /// How a page looks round its cells, and what begins its heading.
 #[tactic(auto, unfolding(crate::specs::Texts::page_style_end))]
-pub fn page_style_end() -> &'static str
+pub(crate) fn page_style_end() -> &'static str
     ensures { result.now ≡ page_style_end }
 {
     "\
@@ -124,7 +124,7 @@ main>svg{display:block;width:100%;break-inside:avoid}\n\
 
 /// The end of its heading, what the marks stand for, and what begins its cells.
 #[tactic(auto, unfolding(crate::specs::Texts::page_legend))]
-pub fn page_legend() -> &'static str
+pub(crate) fn page_legend() -> &'static str
     ensures { result.now ≡ page_legend }
 {
     "\
@@ -139,7 +139,7 @@ QL QC QR quad left, center, right | TH EN EM thin, en, em space | IG ignored</p>
 
 /// The end of a page.
 #[tactic(auto, unfolding(crate::specs::Texts::page_end))]
-pub fn page_end() -> &'static str
+pub(crate) fn page_end() -> &'static str
     ensures { result.now ≡ page_end }
 {
     "\

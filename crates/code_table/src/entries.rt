@@ -17,7 +17,7 @@ use toml::value::Array;
 use toml::{Table, Value};
 
 /// How many frames there are.
-pub const FRAMES: usize = 64;
+pub(crate) const FRAMES: usize = 64;
 
 /// Whether there is an entry at the frame.
 fn is_placed(places: &[Option<FrameMeanings>], frame: u8) -> bool
@@ -85,7 +85,7 @@ fn no_entries(alloc: Global) -> Result<Vec<Option<FrameMeanings>>, AllocError>
 
 /// The array of the document's entries.
 #[tactic(auto, using(crate::proofs::Arrays::filled_empty, crate::proofs::Arrays::filled_some), unfolding(crate::specs::Reading::codes_in))]
-pub fn codes_in(document: &Table) -> Result<&Array, TableFault>
+pub(crate) fn codes_in(document: &Table) -> Result<&Array, TableFault>
     ensures { MatchResult result (λ a. codes_in (table_view document.now) ≡ Ok (array_view a.now)) (λ e. codes_in (table_view document.now) ≡ Err e) }
 {
     match array_at(document, "code") {
@@ -95,7 +95,10 @@ pub fn codes_in(document: &Table) -> Result<&Array, TableFault>
 }
 
 /// The places of all frames, each with its entry among those of the array.
-pub fn read_places(alloc: Global, codes: &Array) -> Result<Vec<Option<FrameMeanings>>, TableFault>
+pub(crate) fn read_places(
+    alloc: Global,
+    codes: &Array,
+) -> Result<Vec<Option<FrameMeanings>>, TableFault>
     ensures ok { IfOk result (λ places. read_places (array_view codes.now) ≡ Ok places.items) }
     ensures full { IfOk result (λ places. length places.items ≡ 64) }
     ensures alike { IfOk result (λ places. AreAlike places.items) }

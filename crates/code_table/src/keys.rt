@@ -10,7 +10,7 @@ use toml::{Table, Value};
 
 /// The three keys of an entry as they are written.
 #[derive(Drop)]
-pub struct EntryKeys<'a> {
+pub(crate) struct EntryKeys<'a> {
     pub frame: i64,
     pub unshift: &'a str,
     pub shift: &'a str,
@@ -48,7 +48,7 @@ fn text_at<'a>(keys: &'a Table, key: &str) -> Option<&'a str>
 
 /// The array at the key.
 #[tactic(auto, unfolding(crate::specs::Entries::array_at))]
-pub fn array_at<'a>(keys: &'a Table, key: &str) -> Option<&'a Array>
+pub(crate) fn array_at<'a>(keys: &'a Table, key: &str) -> Option<&'a Array>
     ensures { option_map (λ a. array_view a.now) result ≡ array_at key.now (table_view keys.now) }
 {
     match value_at(keys, key) {
@@ -71,7 +71,7 @@ fn keys_in(keys: &Table) -> Option<EntryKeys<'_>>
 
 /// An entry as it is written, where it is a table with the three keys.
 #[tactic(auto, unfolding(crate::specs::Entries::keys_of))]
-pub fn keys_of(code: &Value) -> Option<EntryKeys<'_>>
+pub(crate) fn keys_of(code: &Value) -> Option<EntryKeys<'_>>
     ensures { option_map (λ w. record { frame = w.frame; unshift = w.unshift.now; shift = w.shift.now }) result ≡ keys_of (view code.now) }
 {
     match code.as_table() {
@@ -82,7 +82,7 @@ pub fn keys_of(code: &Value) -> Option<EntryKeys<'_>>
 
 /// A frame is 0 to 63.
 #[tactic(auto, unfolding(crate::specs::Entries::frame_of))]
-pub fn frame_of(number: i64) -> Option<u8>
+pub(crate) fn frame_of(number: i64) -> Option<u8>
     ensures value { result ≡ frame_of number }
     ensures small { IfSome result (λ frame. frame ≤ 63) }
 {

@@ -1,7 +1,7 @@
 -- How a command ends by a fault.
-use Rattle.std.specs.Prelude.{◌≡◌, ◌⊎◌}
-use Rattle.saved_rows.specs.declared.fault.RowsFault.{RowsFault}
-use Rattle.saved_rows.specs.declared.fault.RowsFault.TheVariants as rows
+use Rattle.std.specs.Prelude.{◌≡◌, ◌⊎◌, Bool, true, false, Result, OnOk, IfErr}
+use Rattle.rows_saved.specs.declared.fault.RowsFault.{RowsFault}
+use Rattle.rows_saved.specs.declared.fault.RowsFault.TheVariants as rows
 use Rattle.refusals.specs.declared.refusal.StepRefusal.{StepRefusal}
 use Rattle.refusals.specs.declared.refusal.StepRefusal.TheVariants as steps
 use Rattle.command_ends.specs.declared.end.End.{End}
@@ -22,12 +22,20 @@ end_of (faults.Tape fault) = Input
 end_of (faults.Unset fault) = Input
 end_of (faults.Script line what) = Input
 end_of (faults.Rows fault) = Store
+end_of (faults.RowsFile fault cause) = Store
 end_of (faults.Config what) = Input
 end_of (faults.ConfigKey what key) = Input
 end_of (faults.ConfigStation entry) = Input
+end_of (faults.ConfigHost entry) = Input
+end_of (faults.Key what) = Input
+end_of (faults.KeyUnread path) = Input
+end_of faults.NoFolders = Input
+end_of (faults.Offers what why) = Input
+end_of (faults.NotEnded seconds) = Input
 end_of (faults.Socket what) = ends.Socket
 end_of (faults.SendFailed member) = ends.Socket
 end_of (faults.Refused refusal) = Input
+end_of (faults.Usage what) = Usage
 end_of faults.Unpaired = Usage
 end_of faults.LayoutAlone = Usage
 
@@ -86,3 +94,18 @@ IsOfUsage end = (end ≡ Usage) ⊎ (end ≡ Memory)
 pub record EndsBy (by given : End) : Type 0 where
   pub end : given ≡ by
   pub fails : ¬ (given ≡ ends.Done)
+
+-- a command ends after this outcome: well, or by its fault as this says, and not well
+pub record EndsAfter {A F : Type 0} (ends_as : F → End) (outcome : Result A F) (by : End) : Type 0 where
+  pub ok : OnOk outcome (by ≡ ends.Done)
+  pub err : IfErr outcome (λ fault. EndsBy (ends_as fault) by)
+
+-- a command that found something well ends well, else as by a fault of an input
+abbrev pub found : Bool → End
+found true = ends.Done
+found false = Input
+
+-- rows that are refused by this fault are told so
+pub record EndsByRows (fault : RowsFault) (told : Fault) : Type 0 where
+  pub end : end_of told ≡ end_of_rows fault
+  pub rows : IsOfRows (end_of told)

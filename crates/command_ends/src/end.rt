@@ -2,6 +2,7 @@
 
 ghost use Rattle.std.specs.Prelude.{◌≡◌};
 ghost use Rattle.std.specs.Process.{exit_status};
+ghost use Rattle.command_ends.specs.Ends.{found};
 ghost use Rattle.command_ends.specs.Statuses.{status_of};
 
 use std::process::ExitCode;
@@ -24,6 +25,13 @@ pub enum End {
 }
 
 impl End {
+    /// How a command ends that was to find out whether something is well, and has told what it found.
+    pub fn found(is_well: bool) -> End
+        ensures { result ≡ found is_well }
+    {
+        if is_well { End::Done } else { End::Input }
+    }
+
     /// The exit status of the program, as a number.
     pub fn code(self) -> u8
         ensures { result ≡ status_of self }

@@ -3,31 +3,24 @@
 ghost use Rattle.std.specs.Prelude.{◌≡◌};
 ghost use Rattle.command_ends.specs.Ends.{end_of, end_of_rows, end_of_step, IsOfInput, IsOfRows, IsOfWriting, EndsBy};
 ghost use Rattle.command_ends.specs.declared.end.End.TheVariants.{Input};
+ghost use Rattle.command_ends.specs.declared.fault.Fault.TheVariants.{OutOfMemory, CannotWrite};
 
-use crate::cause_words::{CauseText, RefusalText};
 use crate::end::End;
 use crate::fault_texts::{RowsText, TableText, TapeText, WidthsText};
+use crate::telling::{CommandFault, tell};
 use code_table::TableFault;
-use line_check::SetFault;
-use refusals::StepRefusal;
-use saved_rows::RowsFault;
+use line_check::{SetError, SetFault};
+use refusals::{CauseText, RefusalText, StepRefusal};
+use rows_saved::RowsFault;
+use std::alloc::{AllocError, AllocFailed};
 use std::fmt;
 use std::io::Write;
-use streams::InputFault;
+use streams::{CannotWrite, InputFault, PutFault};
 use tape_frames::TapeFault;
 use thiserror::Error;
 use widths::WidthFault;
 
-/// Why a text was not written whole.
-#[derive(Clone, Copy)]
-pub enum PutFault {
-    /// Memory for it was refused.
-    OutOfMemory,
-    /// The output did not take all of it.
-    CannotWrite,
-}
-
-/// Why a command did not end well. Its text is one line.
+/// Why a command did not end well. Its text is one line, or two where a file of rows is refused.
 #[derive(Clone, Copy, Error)]
 pub enum Fault<'a> {
     /// The input at this path can't be read.
@@ -63,6 +56,9 @@ pub enum Fault<'a> {
     /// Rows are not read or saved.
     #[error("{}", RowsText(*.0))]
     Rows(RowsFault),
+    /// The same, with what is the matter with their file, on a line of its own.
+    #[error("{}\n{}", RowsText(*.0), .1)]
+    RowsFile(RowsFault, &'static str),
     /// A text is no configuration.
     #[error("config: {0}")]
     Config(&'static str),
@@ -75,6 +71,27 @@ pub enum Fault<'a> {
     /// A station of a configuration, counted from 1.
     #[error("config: bad station {0}")]
     ConfigStation(usize),
+    /// The host of a station of a configuration, counted from 1.
+    #[error("config: station {0}: host: no address")]
+    ConfigHost(usize),
+    /// A file of keys is not taken.
+    #[error("key: {0}")]
+    Key(&'static str),
+    /// The file of keys at this path can't be read.
+    #[error("key: cannot read {0}")]
+    KeyUnread(&'a str),
+    /// A station whose configuration names no folders is to end.
+    #[error("stop: the configuration names no folders")]
+    NoFolders,
+    /// The offers of a plant can't be read or written, for this reason.
+    #[error("folders: cannot {what} offers: {why}")]
+    Offers {
+        what: &'static str,
+        why: &'static str,
+    },
+    /// A station that is to end has not ended within so many seconds.
+    #[error("stop: the station has not ended within {0} seconds")]
+    NotEnded(u32),
     /// The socket failed.
     #[error("socket: {0}")]
     Socket(&'static str),
@@ -84,6 +101,9 @@ pub enum Fault<'a> {
     /// A station did not take a step that was asked of it.
     #[error("refused {}", RefusalText(*.0))]
     Refused(StepRefusal),
+    /// The command line asks for what can't be done.
+    #[error("usage: {0}")]
+    Usage(&'static str),
     /// A number without a tape, or a tape without a number.
     #[error("usage: --number and --tape go together")]
     Unpaired,
@@ -99,6 +119,54 @@ impl<'a> fmt::Debug for Fault<'a> {
     }
 }
 
+impl<'a> From<AllocError> for Fault<'a> {
+    ghost from_gives = { λ _ fault. fault ≡ OutOfMemory };
+
+    fn from(_error: AllocError) -> Fault<'a> {
+        Fault::OutOfMemory
+    }
+}
+
+impl<'a, T: Drop> From<AllocFailed<T>> for Fault<'a> {
+    ghost from_gives = { λ _ fault. fault ≡ OutOfMemory };
+
+    fn from(_error: AllocFailed<T>) -> Fault<'a> {
+        Fault::OutOfMemory
+    }
+}
+
+impl<'a> From<CannotWrite> for Fault<'a> {
+    ghost from_gives = { λ _ fault. fault ≡ CannotWrite };
+
+    fn from(_error: CannotWrite) -> Fault<'a> {
+        Fault::CannotWrite
+    }
+}
+
+/// Why a text was not written whole.
+impl<'a> From<PutFault> for Fault<'a> {
+    ghost from_gives = { λ _ fault. IsOfWriting fault × IsOfInput (end_of fault) };
+
+    fn from(fault: PutFault) -> Fault<'a> {
+        match fault {
+            PutFault::OutOfMemory => Fault::OutOfMemory,
+            PutFault::CannotWrite => Fault::CannotWrite,
+        }
+    }
+}
+
+/// Why a tape is not set.
+impl<'a> From<SetError> for Fault<'a> {
+    ghost from_gives = { λ _ fault. IsOfInput (end_of fault) };
+
+    fn from(error: SetError) -> Fault<'a> {
+        match error {
+            SetError::Fault(fault) => Fault::Unset(fault),
+            SetError::OutOfMemory => Fault::OutOfMemory,
+        }
+    }
+}
+
 impl<'a> Fault<'a> {
     /// Why the input at this path is not taken.
     pub fn of_input(fault: InputFault, path: &'a str) -> Fault<'a>
@@ -108,17 +176,6 @@ impl<'a> Fault<'a> {
             InputFault::CannotRead => Fault::CannotRead(path),
             InputFault::TooLong => Fault::InputTooLong,
             InputFault::OutOfMemory => Fault::OutOfMemory,
-        }
-    }
-
-    /// Why a text was not written whole.
-    pub fn of_writing(fault: PutFault) -> Fault<'a>
-        ensures cause { IsOfWriting result }
-        ensures end { IsOfInput (end_of result) }
-    {
-        match fault {
-            PutFault::OutOfMemory => Fault::OutOfMemory,
-            PutFault::CannotWrite => Fault::CannotWrite,
         }
     }
 
@@ -181,24 +238,24 @@ impl<'a> Fault<'a> {
         Fault::Script { line, what }
     }
 
-    /// How a command ends by this fault.
-    pub fn end(&self) -> End
-        ensures { EndsBy (end_of self.now) result }
-    {
-        match self {
-            Fault::OutOfMemory => End::Memory,
-            Fault::Rows(_) => End::Store,
-            Fault::Socket(_) | Fault::SendFailed(_) => End::Socket,
-            Fault::Unpaired | Fault::LayoutAlone => End::Usage,
-            _ => End::Input,
-        }
-    }
-
     /// Writes the text, and gives the end. That the writer fails is ignored.
     pub fn tell<E: Write>(&self, err: &mut E) -> End
         ensures { EndsBy (end_of self.now) result }
     {
-        let _ = writeln!(err, "{self}");
-        self.end()
+        tell(self, err)
+    }
+}
+
+impl<'a> CommandFault for Fault<'a> {
+    ghost ends_as = { end_of };
+
+    fn end(&self) -> End {
+        match self {
+            Fault::OutOfMemory => End::Memory,
+            Fault::Rows(_) | Fault::RowsFile(..) => End::Store,
+            Fault::Socket(_) | Fault::SendFailed(_) => End::Socket,
+            Fault::Usage(_) | Fault::Unpaired | Fault::LayoutAlone => End::Usage,
+            _ => End::Input,
+        }
     }
 }

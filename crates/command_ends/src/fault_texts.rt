@@ -1,14 +1,14 @@
 //! The texts of the faults of files and of saved rows, each a line without its end.
 
 use code_table::TableFault;
-use saved_rows::RowsFault;
+use rows_saved::RowsFault;
 use std::fmt;
 use tape_frames::TapeFault;
 use widths::{WidthFault, WidthKey};
 
 /// Why a text is no code table, as `table entry 3: bad frame`.
 #[derive(Clone, Copy)]
-pub struct TableText(pub TableFault);
+pub(crate) struct TableText(pub TableFault);
 
 impl fmt::Display for TableText {
     fn fmt<W: fmt::Write>(&self, f: &mut fmt::Formatter<W>) -> fmt::Result {
@@ -55,7 +55,7 @@ impl fmt::Display for KeyText {
 
 /// Why a text is no width file, as `widths: missing band_min`.
 #[derive(Clone, Copy)]
-pub struct WidthsText(pub WidthFault);
+pub(crate) struct WidthsText(pub WidthFault);
 
 impl fmt::Display for WidthsText {
     fn fmt<W: fmt::Write>(&self, f: &mut fmt::Formatter<W>) -> fmt::Result {
@@ -74,7 +74,7 @@ impl fmt::Display for WidthsText {
 
 /// Why bytes are no tape, as `tape: bad frame at 1`.
 #[derive(Clone, Copy)]
-pub struct TapeText(pub TapeFault);
+pub(crate) struct TapeText(pub TapeFault);
 
 impl fmt::Display for TapeText {
     fn fmt<W: fmt::Write>(&self, f: &mut fmt::Formatter<W>) -> fmt::Result {
@@ -89,7 +89,7 @@ impl fmt::Display for TapeText {
 
 /// Why rows are not read or saved, as `store: wrong station`.
 #[derive(Clone, Copy)]
-pub struct RowsText(pub RowsFault);
+pub(crate) struct RowsText(pub RowsFault);
 
 impl fmt::Display for RowsText {
     fn fmt<W: fmt::Write>(&self, f: &mut fmt::Formatter<W>) -> fmt::Result {

@@ -1,12 +1,16 @@
 -- What is printed of the version.
-use Rattle.std.specs.Prelude.{◌≡◌, ℕ, List, Option, codes}
+use Rattle.std.specs.Prelude.{◌≡◌, ℕ, List, ◌++◌, Option, codes}
 use Rattle.std.specs.Io.KnownBytes.{Appends}
 use Rattle.streams.specs.Fronts.{AppendsFront}
 use Rattle.command_ends.specs.Ends.{IsOfInput}
 use Rattle.command_ends.specs.declared.end.End.{End}
 use Rattle.command_ends.specs.declared.end.End.TheVariants.{Done}
 
--- the program's name and its version, on a line
+-- the program's name and a version, on a line
+abbrev pub named_text : List ℕ → List ℕ
+named_text version = codes "circuitd " ++ (version ++ codes "\n")
+
+-- the program's name and its own version, on a line
 abbrev pub version_text : List ℕ
 version_text = codes "circuitd 0.3.0\n"
 

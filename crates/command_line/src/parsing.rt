@@ -1,9 +1,10 @@
 //! The command that the words of a call give.
 
-ghost use Rattle.std.specs.Prelude.{IfErr};
-ghost use Rattle.command_ends.specs.Ends.{IsOfUsage};
+ghost use Rattle.std.specs.Prelude.{◌≡◌, IfErr};
+ghost use Rattle.command_ends.specs.Ends.{end_of, IsOfUsage};
+ghost use Rattle.command_ends.specs.declared.end.End.TheVariants.{Usage};
 
-use arguments::{Asked, asked_by};
+use arguments::{Asked, Mismatch, Unasked, asked_by};
 use clap::Error;
 use clap::error::ErrorKind;
 use command_ends::{End, Fault};
@@ -26,10 +27,21 @@ fn tell<W: Write, E: Write>(error: &Error, out: &mut W, err: &mut E) -> End
     End::Usage
 }
 
+/// The fault of options that do not go together.
+fn fault_of(mismatch: Mismatch) -> Fault<'static>
+    ensures { end_of result ≡ Usage }
+{
+    match mismatch {
+        Mismatch::Unpaired => Fault::Unpaired,
+        Mismatch::LayoutAlone => Fault::LayoutAlone,
+    }
+}
+
 /// The command that the words give; the first word is the program's own name.
 ///
-/// Help is written to `out` and mistakes to `err`, as `clap` words them, and end as usage. Where memory is refused, that
-/// fault is told and is the end. To ask for the version is a command too, and nothing is written of it yet.
+/// Help is written to `out` and mistakes to `err`, and end as usage: those of `clap` as it words them, and then the fault
+/// of options that do not go together. Where memory is refused, that fault is told and is the end. To ask for the version
+/// is a command too, and nothing is written of it yet.
 pub fn parse<'a, W: Write, E: Write>(
     alloc: Global,
     words: &'a [String],
@@ -41,7 +53,10 @@ pub fn parse<'a, W: Write, E: Write>(
     match asked_by(alloc, words) {
         Ok(Some(asked)) => Ok(asked),
         Ok(None) => Err(End::Usage),
-        Err(error) if error.kind() == ErrorKind::DisplayVersion => Ok(Asked::Version),
-        Err(error) => Err(tell(&error, out, err)),
+        Err(Unasked::Mismatched(mismatch)) => Err(fault_of(mismatch).tell(err)),
+        Err(Unasked::Clap(error)) if error.kind() == ErrorKind::DisplayVersion => Ok(
+            Asked::Version,
+        ),
+        Err(Unasked::Clap(error)) => Err(tell(&error, out, err)),
     }
 }

@@ -4,11 +4,20 @@ ghost use Rattle.std.specs.Prelude.{◌≡◌, OnOk, OnErr, IfErr};
 ghost use Rattle.std.specs.Io.KnownBytes.{Appends};
 ghost use Rattle.streams.specs.Fronts.{AppendsFront};
 ghost use Rattle.command_ends.specs.declared.fault.Fault.TheVariants.{CannotWrite};
-ghost use Rattle.command_line.specs.Version.{version_text, PrintsVersion};
+ghost use Rattle.command_line.specs.Version.{named_text, version_text, PrintsVersion};
 
-use command_ends::{End, Fault};
+use arguments::VERSION;
+use command_ends::{End, Fault, end_with};
 use std::io::Write;
-use streams::put_all;
+use streams::{CannotWrite as WriteFault, put_parts};
+
+/// Writes the program's name and a version, on a line.
+fn put_line<W: Write>(out: &mut W, version: &str) -> Result<(), WriteFault>
+    ensures ok { OnOk result (Appends (W.contents out.old) (W.contents out.new) (named_text version.now)) }
+    ensures err { OnErr result (AppendsFront (W.contents out.old) (W.contents out.new) (named_text version.now)) }
+{
+    put_parts(out, &[b"circuitd ", version.as_bytes(), b"\n"])
+}
 
 /// Writes the version, and hands it on.
 fn put_version<'a, W: Write>(out: &mut W) -> Result<(), Fault<'a>>
@@ -16,7 +25,7 @@ fn put_version<'a, W: Write>(out: &mut W) -> Result<(), Fault<'a>>
     ensures err { OnErr result (AppendsFront (W.contents out.old) (W.contents out.new) version_text) }
     ensures fault { IfErr result (λ fault. fault ≡ CannotWrite) }
 {
-    match put_all(out, b"circuitd 0.3.0\n") {
+    match put_line(out, VERSION) {
         Ok(()) => {}
         Err(_) => return Err(Fault::CannotWrite),
     }
@@ -31,8 +40,5 @@ fn put_version<'a, W: Write>(out: &mut W) -> Result<(), Fault<'a>>
 pub fn print_version<W: Write, E: Write>(out: &mut W, err: &mut E) -> End
     ensures { PrintsVersion (W.contents out.old) (W.contents out.new) result }
 {
-    match put_version(out) {
-        Ok(()) => End::Done,
-        Err(fault) => fault.tell(err),
-    }
+    end_with(put_version(out), err)
 }

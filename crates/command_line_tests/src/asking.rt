@@ -2,7 +2,7 @@
 
 use super::splitting::words_of;
 use command_ends::End;
-use command_line::{Asked, Plan, Telling, parse};
+use command_line::{Asked, Plan, TapeOffer, Telling, parse};
 use log_terms::LogTerms;
 use std::alloc::Global;
 use tape_frames::Version;
@@ -14,6 +14,8 @@ pub enum Wanted<'a> {
     Help(&'a str),
     /// It is usage, with this told between the word `error` and the hint at the help.
     Mistake(&'a str),
+    /// It is usage, and this line is told, since options do not go together.
+    Mismatch(&'a str),
     /// It asks for the version, which is not printed yet.
     Version,
     /// It asks to serve by this plan.
@@ -30,22 +32,32 @@ pub enum Wanted<'a> {
     Status(Telling),
 }
 
+/// Whether the same is offered.
+fn is_same_offer(offer: &Option<TapeOffer<'_>>, wanted: &Option<TapeOffer<'_>>) -> bool {
+    match (offer, wanted) {
+        (Some(offer), Some(wanted)) => offer.number == wanted.number && offer.path == wanted.path,
+        (None, None) => true,
+        _ => false,
+    }
+}
+
 /// Whether two plans are the same.
 fn is_same(plan: &Plan<'_>, wanted: &Plan<'_>) -> bool {
     let config = plan.config == wanted.config;
-    let number = plan.number == wanted.number;
-    let tape = plan.tape == wanted.tape;
-    let withdraw = plan.withdraw == wanted.withdraw;
-    let seek = plan.seek == wanted.seek;
     let runs = plan.turns == wanted.turns;
-    let makes = plan.create == wanted.create && plan.layout == wanted.layout;
-    config && runs && makes && number && tape && withdraw && seek
+    let makes = plan.create == wanted.create;
+    let offers = is_same_offer(&plan.offer, &wanted.offer);
+    let withdraws = plan.withdraw == wanted.withdraw;
+    let seeks = plan.seek == wanted.seek;
+    config && runs && makes && offers && withdraws && seeks
 }
 
 /// Whether a line that is told so asks for what is wanted.
 fn is_asked(asked: &Result<Asked<'_>, End>, wanted: &Wanted<'_>) -> bool {
     match (asked, wanted) {
-        (Err(end), Wanted::Help(_) | Wanted::Mistake(_)) => *end == End::Usage,
+        (Err(end), Wanted::Help(_) | Wanted::Mistake(_) | Wanted::Mismatch(_)) => {
+            *end == End::Usage
+        }
         (Ok(Asked::Version), Wanted::Version) => true,
         (Ok(Asked::Serve(plan)), Wanted::Plan(wanted)) => is_same(plan, wanted),
         (Ok(Asked::Answer { circuit, wire, .. }), Wanted::Answer(wanted)) => {
@@ -100,6 +112,7 @@ fn is_said(out: &[u8], err: &[u8], wanted: &Wanted<'_>) -> bool {
     match wanted {
         Wanted::Help(text) => out == text.as_bytes() && err.is_empty(),
         Wanted::Mistake(text) => out.is_empty() && told_of(err) == Some(text.as_bytes()),
+        Wanted::Mismatch(text) => out.is_empty() && err == text.as_bytes(),
         _ => out.is_empty() && err.is_empty(),
     }
 }

@@ -2,7 +2,7 @@
 
 use super::asking::{Wanted, comes_to};
 use command_ends::End;
-use command_line::{Plan, Telling, print_version};
+use command_line::{Plan, TapeOffer, Telling, print_version};
 use log_terms::{LogTerms, Loudness};
 use std::alloc::Global;
 use tape_frames::Version;
@@ -11,15 +11,13 @@ use tape_frames::Version;
 const ONE_TURN: Plan<'static> = Plan {
     config: "station.toml",
     turns: 1,
-    create: false,
-    layout: None,
-    number: None,
-    tape: None,
+    create: None,
+    offer: None,
     withdraw: None,
     seek: None,
 };
 
-/// The least and the greatest number of turns, a line with every option, and one with a layout alone. A number is any
+/// The least and the greatest number of turns, a line with every option, and one that names no layout. A number is any
 /// that fits: the station refuses one that is out of range.
 const PLANS: &[(&str, Plan<'static>)] = &[
     ("circuitd serve station.toml --turns 1", ONE_TURN),
@@ -34,19 +32,20 @@ const PLANS: &[(&str, Plan<'static>)] = &[
         "circuitd serve station.toml --create --layout 2 --tape story.tape --turns 9 --seek 4294967295 --number 0 --withdraw 13",
         Plan {
             turns: 9,
-            create: true,
-            layout: Some(Version::Two),
-            number: Some(0),
-            tape: Some("story.tape"),
+            create: Some(Version::Two),
+            offer: Some(TapeOffer {
+                number: 0,
+                path: "story.tape",
+            }),
             withdraw: Some(13),
             seek: Some(4_294_967_295),
             ..ONE_TURN
         },
     ),
     (
-        "circuitd serve --layout=1 --turns 1 station.toml",
+        "circuitd serve --create --turns 1 station.toml",
         Plan {
-            layout: Some(Version::One),
+            create: Some(Version::One),
             ..ONE_TURN
         },
     ),

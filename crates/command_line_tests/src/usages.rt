@@ -208,3 +208,38 @@ fn lines_that_are_usage(rt: HostRuntime) {
     }
     assert!(rt; rows.split("$ ").count() == 50);
 }
+
+const UNPAIRED: Wanted<'static> = Wanted::Mismatch("usage: --number and --tape go together\n");
+
+const LAYOUT_ALONE: Wanted<'static> = Wanted::Mismatch("usage: --layout goes with --create\n");
+
+/// Lines whose options do not go together, each with what is told. Of two such mistakes the offer's is told, and before
+/// both one of `clap`'s.
+const MISMATCHES: &[(&str, Wanted<'static>)] = &[
+    ("circuitd serve one.toml --turns 1 --number 12", UNPAIRED),
+    (
+        "circuitd serve one.toml --turns 1 --tape story.tape",
+        UNPAIRED,
+    ),
+    ("circuitd serve one.toml --turns 1 --layout 2", LAYOUT_ALONE),
+    ("circuitd serve --layout=1 --turns 1 one.toml", LAYOUT_ALONE),
+    (
+        "circuitd serve one.toml --turns 1 --layout 2 --number 12",
+        UNPAIRED,
+    ),
+    (
+        "circuitd serve one.toml --turns 1 --layout 2 --number 12 --tape story.tape",
+        LAYOUT_ALONE,
+    ),
+    (
+        "circuitd serve one.toml --turns 0 --number 12",
+        Wanted::Mistake("invalid value '0' for '--turns <T>': 0 is not in 1..=1000000\n"),
+    ),
+];
+
+#[test]
+fn options_that_go_together(rt: HostRuntime) {
+    for (line, wanted) in MISMATCHES {
+        assert!(rt; comes_to(rt.alloc(), line, *wanted), "{line}");
+    }
+}

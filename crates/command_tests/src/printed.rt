@@ -3,9 +3,9 @@
 mod answering;
 mod checking;
 mod failing;
-mod inputs;
 mod paths;
 mod rehearsing;
 mod running;
 mod scripts;
+mod three_inputs;
 mod writers;

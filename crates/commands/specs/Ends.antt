@@ -5,10 +5,10 @@ use Rattle.tape_frames.specs.declared.version.Version.{Version}
 use Rattle.answer_command.specs.AnswerText.{WritesAnswer, WritesAnswerFront}
 use Rattle.command_ends.specs.declared.end.End.{End}
 use Rattle.command_ends.specs.declared.end.End.TheVariants.{Done}
-use Rattle.saved_rows.specs.declared.identity.Identity.{Identity}
+use Rattle.rows_saved.specs.declared.identity.Identity.{Identity}
 use Rattle.arguments.specs.declared.asked.Asked.{Asked}
 use Rattle.arguments.specs.declared.asked.Asked.TheVariants.{Answer, Create}
-use Rattle.station_commands.specs.Creations.{CreateEnds}
+use Rattle.commands.specs.Creations.{CreateEnds}
 
 -- `answer` writes its answers to what comes in: all of them where it ends well, and the first of them however it ends
 pub record Answers (input before after : Option (List ℕ)) (circuit me : ℕ) (wire : Version) (end : End) : Type 0 where

@@ -1,6 +1,6 @@
 //! What each command works with.
 
-use row_files::RowFiles;
+use rows_files::RowFiles;
 use std::io::{Read, Write};
 
 /// The runtime of the host, the files that saved rows lie in, and the standard streams.

@@ -7,20 +7,25 @@ ghost use Rattle.arguments.specs.declared.asked.Asked.TheVariants.{Upgrade};
 ghost use Rattle.commands.specs.Ends.{AnswersAsked, CreatesAsked};
 
 use crate::console::Console;
+use crate::create_start::{CreatePlan, create};
 use crate::editing::{run_fit, run_punch, run_spell};
+use crate::host::ThisHost;
 use crate::reels::{run_import, run_survey};
+use crate::run_start::{RunPlan, run};
+use crate::serve_start::serve;
+use crate::start_up::Ground;
 use crate::story::Story;
 use answer_command::{AcceptorSeat, AnswerOrder, answer};
 use check_command::{CheckOrder, check};
-use command_ends::{End, ScriptPaths, TapePaths};
+use command_ends::{End, end_with};
 use command_line::{Asked, Telling, print_version};
 use draw_command::{ChartingOrder, DrawOrder, SettingPaths, chart, draw};
 use editor_commands::StoryPaths;
+use inputs::{ScriptPaths, TapePaths};
 use plant_commands::{check_config, stop};
 use reel_commands::ChartPaths;
 use rehearse_command::{RehearsalOrder, rehearse};
-use row_files::RowFiles;
-use station_commands::{CreatePlan, Ground, RunPlan, ThisHost, create, run, serve};
+use rows_files::RowFiles;
 use status_command::{Shape, StatusOrder, status};
 use std::io::{Read, Write};
 use streams::InputFile;
@@ -182,12 +187,12 @@ pub fn carry_out<F: RowFiles, R: Read + Drop, W: Write + Drop, E: Write + Drop>(
         }
         Asked::Fit { paths, text } => run_fit(console, paths, *text),
         Asked::Rows { path } => {
-            let Console { out, err, .. } = console;
-            ground.row_files.list(rt, *path, out, err)
+            let outcome = ground.row_files.list(rt, *path, &mut console.out);
+            end_with(outcome, &mut console.err)
         }
         Asked::Upgrade { path } => {
-            let Console { out, err, .. } = console;
-            ground.row_files.upgrade(rt, *path, out, err)
+            let outcome = ground.row_files.upgrade(rt, *path, &mut console.out);
+            end_with(outcome, &mut console.err)
         }
         Asked::Create { config, layout } => {
             let plan = CreatePlan {
@@ -196,7 +201,7 @@ pub fn carry_out<F: RowFiles, R: Read + Drop, W: Write + Drop, E: Write + Drop>(
             };
             create(&ground, plan, &mut console.out, &mut console.err)
         }
-        Asked::Serve(plan) => serve(&ground, plan, &mut console.out, &mut console.err),
+        Asked::Serve(plan) => serve(&ground, *plan, &mut console.out, &mut console.err),
         Asked::Run {
             config,
             create,

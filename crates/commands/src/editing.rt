@@ -3,11 +3,12 @@
 use crate::console::Console;
 use crate::story::Story;
 use code_table::Name;
-use command_ends::{End, Fault, TapePaths};
+use command_ends::{End, Fault};
 use editor_commands::{
     FitOrder, Form, Given, PunchOrder, SpellOrder, StoryPaths, fit, punch, spell,
 };
-use row_files::RowFiles;
+use inputs::TapePaths;
+use rows_files::RowFiles;
 use std::alloc::Global;
 use std::io::{Read, Write};
 use streams::InputFile;
@@ -15,8 +16,7 @@ use tape_frames::Version;
 use text_words::{LigatureError, ligatures_of};
 
 /// What is told where a ligature can be none.
-const NO_LIGATURE: &str =
-    "usage: --ligatures takes names of matrices without a brace, as fi,fl,ffi";
+const NO_LIGATURE: &str = "--ligatures takes names of matrices without a brace, as fi,fl,ffi";
 
 /// The ligatures that are named, if any are.
 fn ligatures_by(alloc: Global, names: Option<&str>) -> Result<Vec<Name>, LigatureError> {
@@ -26,19 +26,16 @@ fn ligatures_by(alloc: Global, names: Option<&str>) -> Result<Vec<Name>, Ligatur
     }
 }
 
-/// Tells why there are no ligatures, and gives the end.
-fn tell_ligatures<E: Write>(error: LigatureError, err: &mut E) -> End {
+/// Why there are no ligatures.
+fn no_ligatures<'a>(error: LigatureError) -> Fault<'a> {
     match error {
-        LigatureError::OutOfMemory => Fault::OutOfMemory.tell(err),
-        LigatureError::NoName => {
-            let _ = writeln!(err, "{NO_LIGATURE}");
-            End::Usage
-        }
+        LigatureError::OutOfMemory => Fault::OutOfMemory,
+        LigatureError::NoName => Fault::Usage(NO_LIGATURE),
     }
 }
 
 /// Punches the text at its path, with the ligatures that are named, by the table at its. The names are looked at first.
-pub fn run_punch<F: RowFiles, R: Read + Drop, W: Write + Drop, E: Write + Drop>(
+pub(crate) fn run_punch<F: RowFiles, R: Read + Drop, W: Write + Drop, E: Write + Drop>(
     console: &mut Console<'_, F, R, W, E>,
     paths: &StoryPaths<'_>,
     ligatures: Option<&str>,
@@ -53,7 +50,7 @@ pub fn run_punch<F: RowFiles, R: Read + Drop, W: Write + Drop, E: Write + Drop>(
     } = console;
     let ligatures = match ligatures_by(rt.alloc(), ligatures) {
         Ok(ligatures) => ligatures,
-        Err(error) => return tell_ligatures(error, err),
+        Err(error) => return no_ligatures(error).tell(err),
     };
     let paths = *paths;
     let order = PunchOrder {
@@ -67,7 +64,7 @@ pub fn run_punch<F: RowFiles, R: Read + Drop, W: Write + Drop, E: Write + Drop>(
 }
 
 /// Spells the tape at its path by the table at its.
-pub fn run_spell<F: RowFiles, R: Read + Drop, W: Write + Drop, E: Write + Drop>(
+pub(crate) fn run_spell<F: RowFiles, R: Read + Drop, W: Write + Drop, E: Write + Drop>(
     console: &mut Console<'_, F, R, W, E>,
     paths: &StoryPaths<'_>,
     plain: bool,
@@ -89,7 +86,7 @@ pub fn run_spell<F: RowFiles, R: Read + Drop, W: Write + Drop, E: Write + Drop>(
 }
 
 /// Tells how each line fits of the story at its path, by the table and the widths at theirs.
-pub fn run_fit<F: RowFiles, R: Read + Drop, W: Write + Drop, E: Write + Drop>(
+pub(crate) fn run_fit<F: RowFiles, R: Read + Drop, W: Write + Drop, E: Write + Drop>(
     console: &mut Console<'_, F, R, W, E>,
     paths: &TapePaths<'_>,
     text: bool,

@@ -3,20 +3,20 @@
 use crate::console::Console;
 use crate::story::Story;
 use crate::tapes::HostTapes;
-use command_ends::{End, Fault};
+use command_ends::{End, Fault, end_with};
 use command_line::ReelPlan;
 use reel::{Cutting, Levels, LevelsFault, levels_of, mask_of};
 use reel_commands::{ChartPaths, Reel, ReelFault, Survey, end_by, import, put_import};
-use row_files::RowFiles;
+use rows_files::RowFiles;
 use std::alloc::Global;
 use std::io::{Read, Write};
 use streams::InputFile;
 
 /// What is told where a mask has not six bits.
-const NO_MASK: &str = "usage: --mask takes a byte of which six bits are set, as 0x3f";
+const NO_MASK: &str = "--mask takes a byte of which six bits are set, as 0x3f";
 
 /// What is told where a word does not name each level.
-const NO_LEVELS: &str = "usage: --levels takes each level from 0 to 5 once, as 543210";
+const NO_LEVELS: &str = "--levels takes each level from 0 to 5 once, as 543210";
 
 /// The levels that a line names.
 fn levels_by(alloc: Global, plan: &ReelPlan<'_>) -> Result<Levels, LevelsFault> {
@@ -26,15 +26,13 @@ fn levels_by(alloc: Global, plan: &ReelPlan<'_>) -> Result<Levels, LevelsFault> 
     levels_of(alloc, plan.levels.as_bytes(), mask, plan.inverted)
 }
 
-/// Tells why a line names no levels, and gives the end.
-fn tell_levels<E: Write>(fault: LevelsFault, err: &mut E) -> End {
-    let text = match fault {
-        LevelsFault::OutOfMemory => return Fault::OutOfMemory.tell(err),
-        LevelsFault::BadMask => NO_MASK,
-        LevelsFault::BadLevels => NO_LEVELS,
-    };
-    let _ = writeln!(err, "{text}");
-    End::Usage
+/// Why a line names no levels.
+fn no_levels<'a>(fault: LevelsFault) -> Fault<'a> {
+    match fault {
+        LevelsFault::OutOfMemory => Fault::OutOfMemory,
+        LevelsFault::BadMask => Fault::Usage(NO_MASK),
+        LevelsFault::BadLevels => Fault::Usage(NO_LEVELS),
+    }
 }
 
 /// How the roll of a line is cut.
@@ -59,7 +57,7 @@ fn import_reel<'a, R: Read, W: Write>(
 }
 
 /// Makes tapes of the reel at its path. The levels are looked at first.
-pub fn run_import<F: RowFiles, R: Read + Drop, W: Write + Drop, E: Write + Drop>(
+pub(crate) fn run_import<F: RowFiles, R: Read + Drop, W: Write + Drop, E: Write + Drop>(
     console: &mut Console<'_, F, R, W, E>,
     plan: &ReelPlan<'_>,
 ) -> End {
@@ -72,7 +70,7 @@ pub fn run_import<F: RowFiles, R: Read + Drop, W: Write + Drop, E: Write + Drop>
     } = console;
     let levels = match levels_by(rt.alloc(), plan) {
         Ok(levels) => levels,
-        Err(fault) => return tell_levels(fault, err),
+        Err(fault) => return no_levels(fault).tell(err),
     };
     let reel = Reel {
         path: plan.path,
@@ -87,43 +85,30 @@ pub fn run_import<F: RowFiles, R: Read + Drop, W: Write + Drop, E: Write + Drop>
     }
 }
 
-/// A survey by the table and the widths at their paths.
-fn read_survey<'a>(rt: &HostRuntime, paths: &ChartPaths<'a>) -> Result<Survey, Fault<'a>> {
+/// Surveys the tapes at their paths, one after the other, by the table and the widths at theirs.
+fn survey_tapes<'a, W: Write>(
+    rt: &HostRuntime,
+    paths: &ChartPaths<'a>,
+    tapes: &'a [String],
+    out: &mut W,
+) -> Result<(), ReelFault<'a>> {
     let mut table = InputFile::at(rt, paths.table);
     let mut widths = InputFile::at(rt, paths.widths);
-    Survey::read(rt.alloc(), paths, &mut table, &mut widths)
-}
-
-/// Adds the tapes at their paths to a survey, one after the other.
-fn add_tapes<'a>(
-    rt: &HostRuntime,
-    survey: &mut Survey,
-    paths: &'a [String],
-) -> Result<(), ReelFault<'a>> {
-    for path in paths {
+    let mut survey = Survey::read(rt.alloc(), paths, &mut table, &mut widths)?;
+    for path in tapes {
         let mut tape = InputFile::at(rt, path.as_str());
         survey.add(rt.alloc(), path.as_str(), &mut tape)?;
     }
-    Ok(())
+    survey.write(rt.alloc(), out)
 }
 
 /// Surveys the tapes at their paths.
-pub fn run_survey<F: RowFiles, R: Read + Drop, W: Write + Drop, E: Write + Drop>(
+pub(crate) fn run_survey<F: RowFiles, R: Read + Drop, W: Write + Drop, E: Write + Drop>(
     console: &mut Console<'_, F, R, W, E>,
     paths: &ChartPaths<'_>,
     tapes: &[String],
 ) -> End {
     let rt = console.rt;
     let Console { out, err, .. } = console;
-    let mut survey = match read_survey(rt, paths) {
-        Ok(survey) => survey,
-        Err(fault) => return fault.tell(err),
-    };
-    if let Err(fault) = add_tapes(rt, &mut survey, tapes) {
-        return fault.tell(err);
-    }
-    match survey.write(rt.alloc(), out) {
-        Ok(()) => End::Done,
-        Err(fault) => fault.tell(err),
-    }
+    end_with(survey_tapes(rt, paths, tapes, out), err)
 }

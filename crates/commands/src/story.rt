@@ -6,7 +6,7 @@ use streams::InputFile;
 
 /// A tape or a text: of a file, or of standard input.
 #[derive(Drop)]
-pub enum Story<'a, R: Read> {
+pub(crate) enum Story<'a, R: Read> {
     File(InputFile),
     Input(&'a mut R),
 }

@@ -8,7 +8,7 @@ use std::{fs, io};
 
 /// A folder of the host, by its path.
 #[derive(Drop)]
-pub struct HostTapes<'a> {
+pub(crate) struct HostTapes<'a> {
     rt: &'a HostRuntime,
     path: &'a str,
 }

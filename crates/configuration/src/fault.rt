@@ -1,14 +1,14 @@
 //! Why a configuration is none.
 
 ghost use Rattle.std.specs.Prelude.{◌≡◌};
+ghost use Rattle.command_ends.specs.Ends.{end_of};
+ghost use Rattle.command_ends.specs.declared.end.End.TheVariants.{Input};
 ghost use Rattle.configuration.specs.Ends.{EndsByConfig};
 ghost use Rattle.configuration.specs.Keys.{name_of};
 ghost use Rattle.configuration.specs.declared.fault.ConfigFault.TheVariants.{OutOfMemory};
 
-use command_ends::End;
+use command_ends::Fault;
 use std::alloc::{AllocError, AllocFailed};
-use std::fmt;
-use std::io::Write;
 
 /// The keys of a configuration, in the order in which they are read.
 #[derive(Clone, Copy, PartialEq, Eq)]
@@ -98,34 +98,29 @@ impl<T: Drop> From<AllocFailed<T>> for ConfigFault {
     }
 }
 
-/// What a person reads.
-impl fmt::Display for ConfigFault {
-    fn fmt<W: fmt::Write>(&self, f: &mut fmt::Formatter<W>) -> fmt::Result {
-        let (what, key) = match self {
-            ConfigFault::NotToml => return f.write_str("config: not toml"),
-            ConfigFault::BadStation(entry) => return write!(f, "config: bad station {entry}"),
-            ConfigFault::NoAddress(entry) => {
-                return write!(f, "config: station {entry}: host: no address");
-            }
-            ConfigFault::OutOfMemory => return f.write_str("out of memory"),
-            ConfigFault::Missing(key) => ("missing", key),
-            ConfigFault::WrongType(key) => ("wrong type", key),
-            ConfigFault::OutOfRange(key) => ("out of range", key),
-        };
-        let name = key.name();
-        write!(f, "config: {what} {name}")
+/// The fault of a key, which has this name in the file.
+fn of_key<'a>(what: &'static str, key: ConfigKey) -> Fault<'a>
+    ensures { end_of result ≡ Input }
+{
+    Fault::ConfigKey {
+        what,
+        key: key.name(),
     }
 }
 
-impl ConfigFault {
-    /// Writes the text, and gives the end. That the writer fails is ignored.
-    pub fn tell<E: Write>(self, err: &mut E) -> End
-        ensures { EndsByConfig self result }
-    {
-        let _ = writeln!(err, "{self}");
-        match self {
-            ConfigFault::OutOfMemory => End::Memory,
-            _ => End::Input,
+/// What a person reads.
+impl<'a> From<ConfigFault> for Fault<'a> {
+    ghost from_gives = { λ fault told. EndsByConfig fault told };
+
+    fn from(fault: ConfigFault) -> Fault<'a> {
+        match fault {
+            ConfigFault::NotToml => Fault::Config("not toml"),
+            ConfigFault::Missing(key) => of_key("missing", key),
+            ConfigFault::WrongType(key) => of_key("wrong type", key),
+            ConfigFault::OutOfRange(key) => of_key("out of range", key),
+            ConfigFault::BadStation(entry) => Fault::ConfigStation(entry),
+            ConfigFault::NoAddress(entry) => Fault::ConfigHost(entry),
+            ConfigFault::OutOfMemory => Fault::OutOfMemory,
         }
     }
 }

@@ -7,7 +7,7 @@ use Rattle.sqlite_trees.specs.View.{doubt}
 use Rattle.sqlite.specs.Steps.{over_memory}
 use Rattle.protocol.specs.Versions.{Version}
 use Rattle.acceptor_store.specs.Sqlite.{SqliteOf, IsKept, IsOpen, IsHonest, IsOurs, rows_version, saved_of, Blames}
-use Rattle.saved_rows.specs.declared.rows.Rows.{Ghosts}
+use Rattle.rows_saved.specs.declared.rows.Rows.{Ghosts}
 use Rattle.world.specs.Founding.{Part, Given, given_of, AreAt, AreBlank, IsNewlyMade, AreNewlyMade}
 
 -- what is said of rows, of those in a database in memory

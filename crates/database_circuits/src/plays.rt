@@ -8,7 +8,7 @@ ghost use Rattle.world.specs.Reach.{Agreed};
 
 use acceptor_store::SqliteRows;
 use code_table::CodeTable;
-use saved_rows::{Identity, Rows};
+use rows_saved::{Identity, Rows};
 use sqlite::{Connection, MemStore};
 use std::alloc::AllocError;
 use tape_frames::Version;

@@ -14,7 +14,7 @@ use Rattle.sqlite.specs.Files.{over_files}
 use Rattle.ballots.specs.contracts.row.Row as row_code
 use Rattle.protocol.specs.Rows.{Row}
 use Rattle.protocol.specs.Refusals.{Call}
-use Rattle.saved_rows.specs.Saved.{Saved, SameRows, WithRow, IsEither, with_row}
+use Rattle.rows_saved.specs.Saved.{Saved, SameRows, WithRow, IsEither, with_row}
 use Rattle.acceptor_store.specs.Columns.{version_in}
 use Rattle.station.specs.declared.station.Station.{Station}
 use Rattle.station.specs.Stations.{Sight}

@@ -9,9 +9,9 @@ use Rattle.sqlite_disk.specs.declared.Files.{Files}
 use Rattle.sqlite.specs.declared.FileStore.{FileStore}
 use Rattle.sqlite.specs.Files.{over_files}
 use Rattle.protocol.specs.Rows.{Row}
-use Rattle.saved_rows.specs.Saved.{Saved, SameRows, with_row}
-use Rattle.saved_rows.specs.Groups.{WithAll, IsAllOrNone, with_all}
-use Rattle.saved_rows.specs.Grouped.{GroupedOf}
+use Rattle.rows_saved.specs.Saved.{Saved, SameRows, with_row}
+use Rattle.rows_saved.specs.Groups.{WithAll, IsAllOrNone, with_all}
+use Rattle.rows_saved.specs.Grouped.{GroupedOf}
 use Rattle.acceptor_store.specs.Columns.{version_in}
 use Rattle.station.specs.declared.station.Station.{Station}
 use Rattle.station.specs.Stations.{Sight}

@@ -7,8 +7,8 @@ use Rattle.sqlite.specs.WalFiles.{outcomes}
 use Rattle.sqlite.specs.Recovery.{Image}
 use Rattle.sqlite.specs.declared.FileStore.{FileStore}
 use Rattle.sqlite.specs.Files.{over_files}
-use Rattle.saved_rows.specs.Saved.{SameRows}
-use Rattle.saved_rows.specs.Grouped.{GroupedOf}
+use Rattle.rows_saved.specs.Saved.{SameRows}
+use Rattle.rows_saved.specs.Grouped.{GroupedOf}
 use Rattle.station.specs.declared.station.Station.{Station}
 use Rattle.station.specs.Stations.{Sight}
 use Rattle.acceptor_store.specs.Sqlite.{SqliteOf, IsAtRest, IsOpen, IsOurs, rows_version, saved_of, LeavesItsStation, LeavesNoOther}

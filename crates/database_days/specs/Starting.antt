@@ -11,7 +11,7 @@ use Rattle.protocol.specs.Rows.{Row}
 use Rattle.protocol.specs.Marks.{Mark}
 use Rattle.protocol.specs.Turn.{Event, number_of, Turn}
 use Rattle.protocol.specs.Refusals.{Call}
-use Rattle.saved_rows.specs.Saved.{SameRows}
+use Rattle.rows_saved.specs.Saved.{SameRows}
 use Rattle.node_core.specs.Standing.{StandsFor}
 use Rattle.station.specs.declared.station.Station.{Station}
 use Rattle.station.specs.Stations.{Sight}

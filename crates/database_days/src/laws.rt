@@ -5,7 +5,7 @@ ghost use Rattle.database_days.specs.Grouping.{GroupsHandOver};
 ghost use Rattle.station.specs.Stations.{sight};
 
 use acceptor_store::{SqliteRows, laws};
-use saved_rows::{Grouped, Rows};
+use rows_saved::{Grouped, Rows};
 use sqlite::FileStore;
 use sqlite_disk::Disk;
 

@@ -5,7 +5,7 @@ use code_table::CodeTable;
 use database_circuits::play_in_databases;
 use fixtures::FLOOD;
 use line_check::galley;
-use saved_rows::{MemoryRows, Rows};
+use rows_saved::{MemoryRows, Rows};
 use station::Datagram;
 use std::alloc::Global;
 use tape_frames::{Tape, Version};

@@ -4,7 +4,7 @@ use Rattle.protocol.specs.Ballots.{IsMember}
 use Rattle.protocol.specs.Versions.{Version}
 use Rattle.protocol.specs.Refusals.{Call}
 use Rattle.protocol.specs.Circuit.{fresh, starts}
-use Rattle.saved_rows.specs.declared.rows.Rows.{Ghosts}
+use Rattle.rows_saved.specs.declared.rows.Rows.{Ghosts}
 use Rattle.refusals.specs.declared.refusal.StepRefusal.{StepRefusal}
 use Rattle.refusals.specs.declared.refusal.StepRefusal.TheVariants.{Stopped}
 use Rattle.station.specs.declared.answer.Answer.{Answer}

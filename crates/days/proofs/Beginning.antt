@@ -10,8 +10,8 @@ use Rattle.protocol.specs.Circuit as circuit
 use Rattle.protocol.specs.Circuit.{Datagram, Offer, with_at, saved, offers_with, MayLeave, at_save, StepsTo, is_torn, upgrade_is_torn, restarts, History, goes_on}
 use Rattle.packets.specs.declared.fault.PacketFault.{PacketFault}
 use Rattle.line_check.specs.declared.fault.SetFault.{SetFault}
-use Rattle.saved_rows.specs.Saved.{SameRows}
-use Rattle.saved_rows.specs.declared.rows.Rows.{Ghosts}
+use Rattle.rows_saved.specs.Saved.{SameRows}
+use Rattle.rows_saved.specs.declared.rows.Rows.{Ghosts}
 use Rattle.node_core.specs.Standing.{StandsFor as CoreStandsFor}
 use Rattle.station.specs.declared.station.Station.{Station}
 use Rattle.station.specs.Stations.{sight, setup_of}

@@ -11,7 +11,7 @@ use Rattle.node_core.specs.Standing.{StandsFor}
 use Rattle.station.specs.Stations.{sight, IsFixed}
 use Rattle.station.specs.Settling.{IsReadAlike}
 use Rattle.station.specs.Steps.{TakesStep, Steps, IsStep}
-use Rattle.saved_rows.specs.declared.rows.Rows.{Ghosts}
+use Rattle.rows_saved.specs.declared.rows.Rows.{Ghosts}
 use Rattle.station.specs.declared.answer.Answer.{Answer}
 use Rattle.station.specs.declared.answer.Release.{Release}
 use Rattle.station.specs.declared.station.Station.{Station}

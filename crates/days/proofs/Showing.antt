@@ -12,7 +12,7 @@ use Rattle.packets.specs.Reading.{packet_in, packet_at}
 use Rattle.packets.specs.declared.fault.PacketFault.{PacketFault}
 use Rattle.code_table.specs.Tables.{Places, mean}
 use Rattle.widths.specs.Widths.{WidthFile}
-use Rattle.saved_rows.specs.declared.rows.Rows.{Ghosts}
+use Rattle.rows_saved.specs.declared.rows.Rows.{Ghosts}
 use Rattle.node_core.specs.Standing.{StandsFor as CoreStandsFor, seat_of}
 use Rattle.station.specs.declared.station.Station.{Station}
 use Rattle.station.specs.Readiness.{SetsEntry}

@@ -4,7 +4,7 @@ use Rattle.protocol.specs.Ballots.{IsMember}
 use Rattle.protocol.specs.Refusals.{Call}
 use Rattle.protocol.specs.Circuit.{with_at}
 use Rattle.code_table.specs.Tables.{mean}
-use Rattle.saved_rows.specs.declared.rows.Rows.{Ghosts}
+use Rattle.rows_saved.specs.declared.rows.Rows.{Ghosts}
 use Rattle.tape_frames.specs.Entries.{owned_entry}
 use Rattle.station.specs.declared.answer.Answer.{Answer}
 use Rattle.station.specs.declared.answer.Release.{Release}

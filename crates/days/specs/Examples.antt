@@ -4,7 +4,7 @@ use Rattle.protocol.specs.Lists.{IsAmong}
 use Rattle.protocol.specs.Ballots.{IsMember}
 use Rattle.protocol.specs.Entries.{Entry}
 use Rattle.protocol.specs.Refusals.{Offering, Receiving}
-use Rattle.saved_rows.specs.declared.rows.Rows.{Ghosts}
+use Rattle.rows_saved.specs.declared.rows.Rows.{Ghosts}
 use Rattle.station.specs.declared.answer.Answer.{Answer}
 use Rattle.station.specs.declared.answer.Release.{Release}
 use Rattle.station.specs.declared.station.Station.{Station}

@@ -7,8 +7,8 @@ use Rattle.protocol.specs.Turn.{Event, number_of, Turn}
 use Rattle.protocol.specs.Refusals.{Call}
 use Rattle.code_table.specs.Tables.{Places}
 use Rattle.widths.specs.Widths.{WidthFile}
-use Rattle.saved_rows.specs.Saved.{Saved, SameRows, WithRow}
-use Rattle.saved_rows.specs.declared.rows.Rows.{Ghosts}
+use Rattle.rows_saved.specs.Saved.{Saved, SameRows, WithRow}
+use Rattle.rows_saved.specs.declared.rows.Rows.{Ghosts}
 use Rattle.node_core.specs.Standing.{StandsFor}
 use Rattle.station.specs.declared.answer.Answer.{Answer}
 use Rattle.station.specs.declared.station.Station.{Station}

@@ -5,7 +5,7 @@ ghost use Rattle.protocol.specs.Entries.{Taped};
 ghost use Rattle.days.specs.Examples.{DayOfTwo, OfferedBoth, Received, TookIn};
 
 use line_check::Setting;
-use saved_rows::{Grouped, MemoryRows, Rows, Settles};
+use rows_saved::{Grouped, MemoryRows, Rows, Settles};
 use station::{Answer, Membership, Release, Station};
 use std::alloc::Global;
 use tape_frames::Tape;

@@ -2,7 +2,7 @@
 
 ghost use Rattle.days.specs.Days.{DaysAgree};
 
-use saved_rows::Rows;
+use rows_saved::Rows;
 use world::laws;
 
 /// In every day of a circuit's processes, however often they end and begin again, any two releases of one number have one entry. It

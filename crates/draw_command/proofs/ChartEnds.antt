@@ -1,10 +1,11 @@
 -- How `chart` ends, by its cause.
-use Rattle.std.proofs.Common.{◌≡◌, ℕ, List, Option, Some, None, inl, inr, refl, sym, subst, ◌∙◌}
-use Rattle.std.specs.Prelude.{IfSome}
+use Rattle.std.proofs.Common.{◌≡◌, ℕ, List, Option, Some, None, Result, Ok, Err, OnOk, inl, inr, refl, sym, subst, ◌∙◌}
+use Rattle.std.specs.Prelude.{IfSome, IfErr}
 use Rattle.std.specs.Io.KnownBytes.{Appends}
 use Rattle.command_ends.specs.declared.end.End.{End}
 use Rattle.command_ends.specs.declared.end.End.TheVariants.{Done, Input}
-use Rattle.command_ends.specs.Ends.{IsOfInput}
+use Rattle.command_ends.specs.declared.fault.Fault.{Fault}
+use Rattle.command_ends.specs.Ends.{end_of, EndsAfter, IsOfInput}
 use Rattle.draw_command.specs.Drawing.{BreaksOffText}
 use Rattle.draw_command.specs.Charting.{ToChart, IsChart, IsCharted, Charted, Whole, Unwritten, Cut, Charts}
 
@@ -47,6 +48,12 @@ cut order text end told old new same fails is off = record {
       mapped order.table order.widths (λ ts ws. IsChart order ts ws text) (λ ts ws. Charted order ts ws end old new)
       (λ ts ws c. broken order ts ws text end told old new same fails off c) is;
 }
+
+-- so a command ends after the outcome of the writing
+pub written : (order : ToChart) (text : List ℕ) (outcome : Result (Unit {0}) Fault) (end : End) (old new : Option (List ℕ)) → EndsAfter end_of outcome end → IsCharted order text
+    → OnOk outcome (Appends old new text) → IfErr outcome (λ fault. BreaksOffText text (end_of fault) old new) → Charts order end old new
+written order text (Ok done) end old new by is wrote off = subst (λ e. Charts order e old new) (sym by.ok) (whole order text old new is wrote)
+written order text (Err fault) end old new by is wrote off = cut order text end (end_of fault) old new by.err.end by.err.fails is off
 
 -- an input that is not taken leaves nothing written
 pub unwritten : (order : ToChart) (end told : End) (old new : Option (List ℕ)) → end ≡ told → IsOfInput told → ¬ (end ≡ Done) → new ≡ old → Charts order end old new

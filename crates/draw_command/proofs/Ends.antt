@@ -1,19 +1,13 @@
 -- How `draw` ends, by its cause.
-use Rattle.std.proofs.Common.{◌≡◌, ℕ, List, Option, Some, None, inl, inr, refl, sym, subst, ◌∙◌}
-use Rattle.std.specs.Io.KnownBytes.{Appends, Keeps}
-use Rattle.std.proofs.KnownBytes.{Appends-kept}
+use Rattle.std.proofs.Common.{◌≡◌, ℕ, List, Option, Some, None, inl, inr, sym, subst, ◌∙◌}
+use Rattle.std.specs.Io.KnownBytes.{Appends}
 use Rattle.std.specs.Prelude.{IfSome}
 use Rattle.line_check.specs.declared.fault.SetFault.{SetFault}
 use Rattle.streams.specs.Fronts.{AppendsFront}
-use Rattle.streams.proofs.Fronts.{front_of_all}
 use Rattle.command_ends.specs.declared.end.End.{End}
 use Rattle.command_ends.specs.declared.end.End.TheVariants.{Done, Input}
 use Rattle.command_ends.specs.Ends.{IsOfInput}
 use Rattle.draw_command.specs.Drawing.{ToDraw, IsDrawingOf, WasDrawn, BreaksOff, BreaksOffDrawing, end_by, Drew, Whole, Unset, Unwritten, Cut, Draws}
-
--- what is not handed on was written
-pub cut : (old mid new : Option (List ℕ)) (text : List ℕ) → Appends old mid text → Keeps mid new → BreaksOff (AppendsFront old new text) Input old new
-cut old mid new text wrote keeps = inr (refl, front_of_all old new text (Appends-kept old mid new text wrote keeps))
 
 -- what follows of the texts follows where they are known
 mapped :

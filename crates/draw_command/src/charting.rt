@@ -5,7 +5,8 @@ ghost use Rattle.command_ends.specs.Giving.{Gives};
 
 use crate::drawing::put_text;
 use code_chart::{ChartOrder, draw_chart};
-use command_ends::{End, Fault, read_table, read_widths};
+use command_ends::{End, Fault, end_with};
+use inputs::{read_table, read_widths};
 use std::alloc::Global;
 use std::io::{Read, Write};
 use std::marker::Model;
@@ -63,10 +64,7 @@ fn charted<'a, R: Read + Drop, S: Read + Drop>(
         widths_name: paths.widths,
         page,
     };
-    match draw_chart(alloc, &chart) {
-        Ok(text) => Ok(text),
-        Err(_) => Err(Fault::OutOfMemory),
-    }
+    Ok(draw_chart(alloc, &chart)?)
 }
 
 /// Charts a code table with a width file, as a document in SVG or a page in HTML.
@@ -86,8 +84,5 @@ pub fn chart<R: Read + Drop, S: Read + Drop, W: Write, E: Write>(
         Ok(text) => text,
         Err(fault) => return fault.tell(err),
     };
-    match put_text(&text, out) {
-        Ok(()) => End::Done,
-        Err(fault) => fault.tell(err),
-    }
+    end_with(put_text(&text, out), err)
 }

@@ -5,12 +5,13 @@ ghost use Rattle.std.specs.Io.KnownBytes.{Appends};
 ghost use Rattle.draw_command.specs.Drawing.{WasOrdered, WasDrawn, BreaksOffText, BreaksOffOrder, BreaksOffDrawing, end_by, Draws};
 ghost use Rattle.command_ends.specs.Ends.{end_of};
 
-use command_ends::{End, Fault, TapePaths, read_table, read_tape, read_widths};
+use command_ends::{End, Fault, end_with};
+use inputs::{TapePaths, read_table, read_tape, read_widths};
 use line_check::SetFault;
 use std::alloc::Global;
 use std::io::{Read, Write};
 use std::marker::Model;
-use streams::put_all;
+use streams::put_whole;
 use tape_drawing::{DrawingForm, DrawingOrder, Names, draw_tape};
 
 /// A drawing that is asked for: where its files lie, what reads them, and as what it is written. Clauses see the texts.
@@ -43,14 +44,8 @@ pub(crate) fn put_text<'a, W: Write>(text: &[u8], out: &mut W) -> Result<(), Fau
     ensures ok { OnOk result (Appends (W.contents out.old) (W.contents out.new) text.now) }
     ensures err { IfErr result (λ e. BreaksOffText text.now (end_of e) (W.contents out.old) (W.contents out.new)) }
 {
-    match put_all(out, text) {
-        Ok(()) => {}
-        Err(_) => return Err(Fault::CannotWrite),
-    }
-    match out.flush() {
-        Ok(()) => Ok(()),
-        Err(_) => Err(Fault::CannotWrite),
-    }
+    put_whole(out, text)?;
+    Ok(())
 }
 
 /// Draws a tape by an order, and answers its first fault, if it has one.
@@ -62,9 +57,7 @@ fn put_tape<'a, W: Write>(
     ensures ok { IfOk result (λ fault. WasOrdered order.now fault (W.contents out.old) (W.contents out.new)) }
     ensures err { IfErr result (λ e. BreaksOffOrder order.now (end_of e) (W.contents out.old) (W.contents out.new)) }
 {
-    let Ok(drawing) = draw_tape(alloc, order) else {
-        return Err(Fault::OutOfMemory);
-    };
+    let drawing = draw_tape(alloc, order)?;
     put_text(&drawing.text, out)?;
     Ok(drawing.fault)
 }
@@ -106,10 +99,11 @@ fn drawn<'a, R: Read + Drop, S: Read + Drop, T: Read + Drop, W: Write>(
 fn end_by<E: Write>(fault: Option<SetFault>, err: &mut E) -> End
     ensures { result ≡ end_by fault }
 {
-    match fault {
-        None => End::Done,
-        Some(fault) => Fault::Unset(fault).tell(err),
-    }
+    let outcome = match fault {
+        None => Ok(()),
+        Some(fault) => Err(Fault::Unset(fault)),
+    };
+    end_with(outcome, err)
 }
 
 /// Draws a tape by a code table and a width file, as a document in SVG or a page in HTML.

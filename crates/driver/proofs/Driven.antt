@@ -5,14 +5,14 @@ use Rattle.protocol.specs.Refusals.{Call as StationCall}
 use Rattle.station.specs.declared.answer.Answer.{Answer}
 use Rattle.refusals.specs.declared.refusal.StepRefusal.{StepRefusal}
 use Rattle.refusals.specs.declared.refusal.StepRefusal.TheVariants as steps
-use Rattle.saved_rows.specs.declared.rows.Rows.{Ghosts}
+use Rattle.rows_saved.specs.declared.rows.Rows.{Ghosts}
 use Rattle.station.specs.declared.station.Station.{Station}
 use Rattle.station.specs.Settling.{Settling}
 use Rattle.station.specs.Steps.{IsStep, tears, stopped_after}
 use Rattle.recalls.specs.Spelling.{spelling}
 use Rattle.rolls.specs.Spelling.{spelling as roll_spelling}
 use Rattle.wire.specs.Passing.{Passed, Passes, Trace, sent, told}
-use Rattle.command_ends.specs.Ends.{end_of, end_of_step, IsOfWriting}
+use Rattle.command_ends.specs.Ends.{end_of, end_of_step, EndsAfter, IsOfWriting}
 use Rattle.command_ends.specs.declared.end.End.{End}
 use Rattle.command_ends.specs.declared.end.End.TheVariants as ends
 use Rattle.command_ends.specs.declared.fault.Fault.{Fault}
@@ -68,6 +68,16 @@ was_asked c now a call it = (a, ap (λ (x : StationCall). took x (Ok a) ∷ stor
 pub no_result : {A : Type 0} (r : Result A Fault) (f : Fault) (P : Type 0) → ended r ≡ end_of f → OnOk r P
 no_result (Ok x) f P is = absurd (ends_badly f (sym is))
 no_result (Err e) f P is = tt
+
+-- what holds of a good result holds where it ended well
+pub went_on : {A : Type 0} (r : Result A Fault) (P : Type 0) → OnOk r P → ended r ≡ ends.Done → P
+went_on (Ok x) P p done = p
+went_on (Err f) P p done = absurd (ends_badly f done)
+
+-- a command that ends after a result ends as this did
+pub ends_so : {A : Type 0} (r : Result A Fault) (end : End) → EndsAfter end_of r end → end ≡ ended r
+ends_so (Ok x) end is = is.ok
+ends_so (Err f) end is = is.err.end
 
 -- a driver has the hands that it had before both
 pub hands_then : {R N S : Type 0} (a b c : Driver R N S) → SameHands a b → SameHands b c → SameHands a c

@@ -1,8 +1,8 @@
 -- Stretches of what happened to a station on a wire, one after the other, and why one came to an end.
 use Rattle.std.proofs.Common.{◌≡◌, List, [], ◌∷◌, ◌++◌, Bool, ◌||◌, true, Result, Ok, Err, inl, inr, refl, sym, ap, ◌∙◌, subst, append_assoc}
 use Rattle.protocol.specs.Refusals.{Call}
-use Rattle.saved_rows.specs.declared.fault.RowsFault.TheVariants as row_faults
-use Rattle.saved_rows.specs.declared.rows.Rows.{Ghosts}
+use Rattle.rows_saved.specs.declared.fault.RowsFault.TheVariants as row_faults
+use Rattle.rows_saved.specs.declared.rows.Rows.{Ghosts}
 use Rattle.refusals.specs.declared.refusal.StepRefusal.{StepRefusal}
 use Rattle.refusals.specs.declared.refusal.StepRefusal.TheVariants as steps
 use Rattle.station.specs.declared.station.Station.{Station}
@@ -103,12 +103,20 @@ ends_badly (faults.Tape fault) e = cc
 ends_badly (faults.Unset fault) e = cc
 ends_badly (faults.Script line what) e = cc
 ends_badly (faults.Rows fault) e = cc
+ends_badly (faults.RowsFile fault cause) e = cc
 ends_badly (faults.Config what) e = cc
 ends_badly (faults.ConfigKey what key) e = cc
 ends_badly (faults.ConfigStation entry) e = cc
+ends_badly (faults.ConfigHost entry) e = cc
+ends_badly (faults.Key what) e = cc
+ends_badly (faults.KeyUnread path) e = cc
+ends_badly faults.NoFolders e = cc
+ends_badly (faults.Offers what why) e = cc
+ends_badly (faults.NotEnded seconds) e = cc
 ends_badly (faults.Socket what) e = cc
 ends_badly (faults.SendFailed member) e = cc
 ends_badly (faults.Refused refusal) e = cc
+ends_badly (faults.Usage what) e = cc
 ends_badly faults.Unpaired e = cc
 ends_badly faults.LayoutAlone e = cc
 

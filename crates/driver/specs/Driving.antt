@@ -2,7 +2,7 @@
 -- what became of the sink, and how it ended.
 use Rattle.std.specs.Prelude.{◌≡◌, ◌⊎◌, ℕ, List, [], ◌∷◌, ◌++◌, flat_map, false, Option, Some, None, Result, Ok, Err, OnOk}
 use Rattle.protocol.specs.Refusals.{Call, Falling_due, Receiving}
-use Rattle.saved_rows.specs.declared.rows.Rows.{Ghosts}
+use Rattle.rows_saved.specs.declared.rows.Rows.{Ghosts}
 use Rattle.station.specs.declared.answer.Answer.{Answer}
 use Rattle.refusals.specs.declared.refusal.StepRefusal.{StepRefusal}
 use Rattle.station.specs.declared.station.Station.{Station}
@@ -17,6 +17,7 @@ use Rattle.driver.specs.Events.{Event, asked, took, stored, aside, heard, coming
 use Rattle.driver.specs.Fates.{ByAnswer, ByStored}
 use Rattle.driver.specs.declared.driver.Driver.{Driver}
 use Rattle.driver.specs.declared.group.Group.{Group}
+use Rattle.driver.specs.declared.machine.Machine.{Machine}
 use Rattle.driver.specs.declared.sink.Sink.{Ghosts as SinkGhosts}
 use Rattle.driver.specs.declared.sink.TakenStep.{TakenStep}
 
@@ -155,7 +156,11 @@ IsTurn now log = Then (IsTakingIn now) (IsSeeingToDue now) log
 abbrev pub post_of : {R N S : Type 0} → Driver R N S → Post R N S
 post_of d = post d.station.now d.wire.now d.sink
 
--- the same, where this waits to be sent
+-- the station of a machine, its wire, and what is outside of both
+abbrev pub post_in : {R N O : Type 0} → Machine R N O → Post R N O
+post_in m = post m.station m.wire m.outside
+
+-- the same of a driver, where this waits to be sent
 abbrev pub post_behind : {R N S : Type 0} → Driver R N S → List Passed → Post R N S
 post_behind d waits = post_with d.station.now d.wire.now d.sink waits
 

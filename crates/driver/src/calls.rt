@@ -4,7 +4,7 @@ ghost use Rattle.std.specs.Prelude.{◌≡◌};
 ghost use Rattle.station.specs.Steps.{IsStep};
 ghost use Rattle.driver.specs.Calls.{call_of, length_of};
 
-use saved_rows::Rows;
+use rows_saved::Rows;
 use station::{Answer, Station, StepRefusal};
 use tape_frames::Tape;
 

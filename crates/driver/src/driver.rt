@@ -13,7 +13,7 @@ use crate::sink::{HeardDatagram, Sink, TakenStep};
 use crate::taking_in::{Received, take_datagram};
 use crate::telling::{NewerLayouts, newer_in};
 use command_ends::Fault;
-use saved_rows::{Rows, Settles};
+use rows_saved::{Rows, Settles};
 use station::{Station, StepRefusal};
 use std::io::Write;
 use wire::Wire;

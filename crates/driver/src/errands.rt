@@ -14,7 +14,7 @@ use crate::sink::TakenStep;
 use ballots::{Member, Number};
 use catch_up::Errand;
 use command_ends::Fault;
-use saved_rows::{Rows, Settles};
+use rows_saved::{Rows, Settles};
 use std::io::Write;
 use wire::Wire;
 

@@ -11,7 +11,7 @@ use crate::group::Group;
 use crate::log::Log;
 use command_ends::Fault;
 use pace::Work;
-use saved_rows::{Rows, Settles};
+use rows_saved::{Rows, Settles};
 use std::io::Write;
 use wire::Wire;
 

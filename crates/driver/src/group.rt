@@ -110,10 +110,8 @@ impl Group {
         if step.answer.out.is_empty() && step.answer.release.is_none() {
             return Ok(());
         }
-        match self.steps.push(step) {
-            Ok(()) => Ok(()),
-            Err(_) => Err(Fault::OutOfMemory),
-        }
+        self.steps.push(step)?;
+        Ok(())
     }
 
     /// Hands on what the steps handed out, at a moment in milliseconds: their datagrams to the wire, each once, in order, and then what they

@@ -16,10 +16,10 @@ use crate::pacing::asking_of;
 use crate::sink::TakenStep;
 use crate::telling::{tell_lost, tell_strangers};
 use ballots::Ballot;
-use command_ends::{End, Fault};
+use command_ends::{End, Fault, end_with};
 use folders::{FileRequest, OfferKind};
 use pace::Work;
-use saved_rows::{Rows, Settles};
+use rows_saved::{Rows, Settles};
 use station::{Answer, Station, StepRefusal};
 use std::alloc::Global;
 use std::io::Write;
@@ -245,9 +245,7 @@ impl<'a, R: Settles, N: Wire, S: Desk> Driver<'a, R, N, S> {
     {
         let mut group = Group::new(alloc);
         let mut log = Log { err, quiet };
-        match self.work_to_the_end(&mut group, &mut log) {
-            Ok(()) => End::Done,
-            Err(fault) => fault.tell(log.err),
-        }
+        let outcome = self.work_to_the_end(&mut group, &mut log);
+        end_with(outcome, log.err)
     }
 }

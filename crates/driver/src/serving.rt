@@ -10,7 +10,7 @@ use crate::sending::send_all;
 use crate::sink::{Outlet, TakenStep};
 use crate::telling::tell_strangers;
 use command_ends::Fault;
-use saved_rows::{Rows, Settles};
+use rows_saved::{Rows, Settles};
 use std::io::Write;
 use wire::Wire;
 
@@ -26,7 +26,7 @@ impl<'a, R: Settles, N: Wire, S: Outlet> Driver<'a, R, N, S> {
         match self.station.settle() {
             Ok(()) => {
                 send_all(step.answer.out.as_slice(), self.wire, log.err);
-                self.sink.take(step, log)
+                self.sink.print(step, log)
             }
             Err(refusal) => Err(Fault::of_step(refusal)),
         }
@@ -34,7 +34,7 @@ impl<'a, R: Settles, N: Wire, S: Outlet> Driver<'a, R, N, S> {
 
     /// Takes in what comes at a moment in milliseconds, one datagram at most. One that the station refuses is passed over; where that is for
     /// its layout, it is told.
-    pub fn take_in<E: Write>(
+    pub fn receive<E: Write>(
         &mut self,
         now: u64,
         log: &mut Log<'_, E>,
@@ -72,7 +72,7 @@ impl<'a, R: Settles, N: Wire, S: Outlet> Driver<'a, R, N, S> {
     ) -> Result<(), Fault<'static>>
         ensures { WentOn (IsTurn now) result R.Rows R.Settles.is_settled N.passed S.Sink self.old self.new }
     {
-        self.take_in(now, log)?;
+        self.receive(now, log)?;
         tell_strangers(self.wire, now, log.err);
         self.see_to_due(now, log)
     }

@@ -67,7 +67,7 @@ pub trait Sink: Drop {
 pub trait Outlet: Sink {
     /// Takes what a step of the station did and released, once what it saved is stored and its datagrams are sent. It fails where that can't
     /// be written, or there is no memory for it.
-    fn take<E: Write>(
+    fn print<E: Write>(
         &mut self,
         step: &TakenStep,
         log: &mut Log<'_, E>,

@@ -3,7 +3,7 @@
 ghost use Rattle.driver.specs.TakingIn.{IsAsideOf, IsTakenIn};
 
 use rolls::{Aside, hear};
-use saved_rows::Rows;
+use rows_saved::Rows;
 use station::{Answer, Station, StepRefusal};
 use wire::{Arrival, Wire};
 

@@ -1,21 +1,19 @@
 -- How the commands for editors end, by their cause.
-use Rattle.std.proofs.Common.{◌≡◌, ℕ, List, Option, Some, None, inl, inr, refl, sym, subst}
-use Rattle.std.specs.Io.KnownBytes.{Appends, Keeps}
-use Rattle.std.proofs.KnownBytes.{Appends-kept}
+use Rattle.std.proofs.Common.{◌≡◌, ℕ, List, Option, Some, None, Result, Ok, Err, IfSome, IfErr, inl, inr, refl, sym, subst}
+use Rattle.std.specs.Io.KnownBytes.{Appends}
 use Rattle.streams.specs.Fronts.{AppendsFront}
-use Rattle.streams.proofs.Fronts.{front_of_all}
+use Rattle.toml.specs.Parse.{parse_document}
+use Rattle.code_table.specs.Tables.{Places, mean}
+use Rattle.code_table.specs.Reading.{read_table}
+use Rattle.tape_frames.specs.Frames.{IsTape}
 use Rattle.command_ends.specs.Ends.{IsOfInput}
 use Rattle.command_ends.specs.declared.end.End.{End}
-use Rattle.command_ends.specs.declared.end.End.TheVariants.{Done, Input}
-use Rattle.editor_commands.specs.Ends.{BreaksOff, IfBoth}
+use Rattle.command_ends.specs.declared.end.End.TheVariants.{Done}
+use Rattle.editor_commands.specs.Ends.{BreaksOff, BreaksOffText, IfBoth}
 use Rattle.editor_commands.specs.Punched as punched
 use Rattle.editor_commands.specs.Punched.{ToPunch, IsTapeOf, WasPunched, BreaksOffPunching, Punched, Punches}
 use Rattle.editor_commands.specs.SpelledAs as spelled
-use Rattle.editor_commands.specs.SpelledAs.{ToSpell, IsTextOf, WasSpelled, BreaksOffSpelling, SpelledAs, Spells}
-
--- what is not handed on was written
-pub cut : (old mid new : Option (List ℕ)) (text : List ℕ) → Appends old mid text → Keeps mid new → BreaksOff (AppendsFront old new text) Input old new
-cut old mid new text wrote keeps = inr (refl, front_of_all old new text (Appends-kept old mid new text wrote keeps))
+use Rattle.editor_commands.specs.SpelledAs.{ToSpell, text_in, IsTextOf, WasSpelled, BreaksOffSpelling, SpelledAs, Spells}
 
 -- what follows of two texts follows where they are known
 both : (first second : Option (List ℕ)) (P Q : List ℕ → List ℕ → Type 0) → ((xs ys : List ℕ) → P xs ys → Q xs ys) → IfBoth first second P → IfBoth first second Q
@@ -67,6 +65,27 @@ spelling_by order end old new fails off = record {
   cause =
       both order.table order.tape (λ ts xs. BreaksOff (IsTextOf order ts xs (AppendsFront old new)) end old new) (λ ts xs. SpelledAs order ts xs end old new)
       (λ ts xs b. spelling_off order ts xs end old new fails b) off.wrote;
+}
+
+ended_off : (end : End) (old new : Option (List ℕ)) (text : List ℕ) → BreaksOffText text end old new → IsOfInput end
+ended_off end old new text (inl none) = none.0
+ended_off end old new text (inr some) = subst IsOfInput (sym some.0) tt
+
+cut_off : (order : ToSpell) (places : Places) (ts xs text : List ℕ) (end : End) (old new : Option (List ℕ)) → read_table (parse_document ts) ≡ Ok places → IsTape xs → text ≡ text_in order.form (mean places) xs → BreaksOffText text end old new → BreaksOff (IsTextOf order ts xs (AppendsFront old new)) end old new
+cut_off order places ts xs text end old new is_table is_tape same (inl none) = inl none
+cut_off order places ts xs text end old new is_table is_tape same (inr some) = inr (some.0, record { places = places; is_table = is_table; is_tape = is_tape; wrote = subst (AppendsFront old new) same some.1 })
+
+wrote_off : (order : ToSpell) (table tape : Option (List ℕ)) (places : Places) (frames text : List ℕ) (end : End) (old new : Option (List ℕ)) → IfSome table (λ ts. read_table (parse_document ts) ≡ Ok places) → IfSome tape (λ xs. frames ≡ xs) → IsTape frames → text ≡ text_in order.form (mean places) frames → BreaksOffText text end old new → IfBoth table tape (λ ts xs. BreaksOff (IsTextOf order ts xs (AppendsFront old new)) end old new)
+wrote_off order None tape places frames text end old new taken given is_tape same off = tt
+wrote_off order (Some ts) None places frames text end old new taken given is_tape same off = tt
+wrote_off order (Some ts) (Some xs) places frames text end old new taken given is_tape same off = subst (λ ys. BreaksOff (IsTextOf order ts ys (AppendsFront old new)) end old new) given (cut_off order places ts frames text end old new taken is_tape same off)
+
+-- the text of a tape that was not written whole breaks the command off
+pub spelling_cut : {A F : Type 0} (result : Result A F) (ends_as : F → End) (order : ToSpell) (places : Places) (frames text : List ℕ) (old new : Option (List ℕ)) → IfSome order.table (λ ts. read_table (parse_document ts) ≡ Ok places) → IfSome order.tape (λ xs. frames ≡ xs) → IsTape frames → text ≡ text_in order.form (mean places) frames → IfErr result (λ e. BreaksOffText text (ends_as e) old new) → IfErr result (λ e. BreaksOffSpelling order (ends_as e) old new)
+spelling_cut (Ok done) ends_as order places frames text old new taken given is_tape same off = tt
+spelling_cut (Err e) ends_as order places frames text old new taken given is_tape same off = record {
+  ends = ended_off (ends_as e) old new text off;
+  wrote = wrote_off order order.table order.tape places frames text (ends_as e) old new taken given is_tape same off;
 }
 
 -- a command that breaks off ends by what broke it off

@@ -12,7 +12,7 @@ use Rattle.line_check.specs.declared.slug.Kind.TheVariants as kinds
 use Rattle.line_check.specs.declared.slug.Slug.{Slug}
 use Rattle.line_check.specs.Slugs.{band_width}
 use Rattle.line_fit.specs.declared.verdict.Verdict.{Verdict}
-use Rattle.command_ends.specs.Columns.{on_the_right, on_the_left}
+use Rattle.columns.specs.Columns.{on_the_right, on_the_left}
 use Rattle.line_fit.specs.declared.verdict.Verdict.TheVariants.{Nothing, Faulty, Sets}
 use Rattle.line_fit.specs.declared.verdict.LineFit.{LineFit}
 use Rattle.line_fit.specs.declared.fitting.Fitting.{Fitting}

@@ -1,11 +1,14 @@
 //! Why a command for editors did not end well.
 
-ghost use Rattle.command_ends.specs.Ends.{EndsBy};
+ghost use Rattle.std.specs.Prelude.{◌≡◌};
+ghost use Rattle.command_ends.specs.declared.fault.Fault.TheVariants.{OutOfMemory, CannotWrite};
 ghost use Rattle.editor_commands.specs.Ends.{end_in};
+ghost use Rattle.editor_commands.specs.declared.cause.EditorFault.TheVariants.{Other};
 
-use command_ends::{End, Fault};
+use command_ends::{CommandFault, End, Fault};
+use std::alloc::AllocError;
 use std::fmt;
-use std::io::Write;
+use streams::CannotWrite;
 use text_tape::{PunchError, PunchFault};
 use text_words::TextPlace;
 
@@ -22,6 +25,30 @@ pub enum EditorFault<'a> {
     EmptyText,
     /// This byte of a tape is above 63, and none before it is.
     NoFrame { at: usize, byte: u8 },
+}
+
+impl<'a> From<Fault<'a>> for EditorFault<'a> {
+    ghost from_gives = { λ fault e. e ≡ Other fault };
+
+    fn from(fault: Fault<'a>) -> EditorFault<'a> {
+        EditorFault::Other(fault)
+    }
+}
+
+impl<'a> From<AllocError> for EditorFault<'a> {
+    ghost from_gives = { λ _ e. e ≡ Other OutOfMemory };
+
+    fn from(_error: AllocError) -> EditorFault<'a> {
+        EditorFault::Other(Fault::OutOfMemory)
+    }
+}
+
+impl<'a> From<CannotWrite> for EditorFault<'a> {
+    ghost from_gives = { λ _ e. e ≡ Other CannotWrite };
+
+    fn from(_error: CannotWrite) -> EditorFault<'a> {
+        EditorFault::Other(Fault::CannotWrite)
+    }
 }
 
 impl<'a> fmt::Display for EditorFault<'a> {
@@ -45,12 +72,10 @@ impl<'a> fmt::Display for EditorFault<'a> {
     }
 }
 
-impl<'a> EditorFault<'a> {
-    /// Writes the text, and gives how a command ends by this fault. That the writer fails is ignored.
-    pub fn tell<E: Write>(&self, err: &mut E) -> End
-        ensures { EndsBy (end_in self.now) result }
-    {
-        let _ = writeln!(err, "{self}");
+impl<'a> CommandFault for EditorFault<'a> {
+    ghost ends_as = { end_in };
+
+    fn end(&self) -> End {
         match self {
             EditorFault::Other(fault) => fault.end(),
             _ => End::Input,

@@ -6,11 +6,12 @@ ghost use Rattle.editor_commands.specs.Ends.{end_in, Gives};
 ghost use Rattle.editor_commands.specs.Fitted.{IsStory, WasReported, BreaksOffReport, WasFitted, BreaksOffFitting, end_by, FitsWhole};
 
 use crate::cause::EditorFault;
-use crate::inputs::{punched, tape_of};
 use crate::outputs::put_whole;
 use crate::report::{faults_in, report};
+use crate::taking::{punched, tape_of};
 use code_table::CodeTable;
-use command_ends::{End, Fault, TapePaths, read_table, read_text, read_widths};
+use command_ends::{End, Fault, tell};
+use inputs::{TapePaths, read_table, read_text, read_widths};
 use line_check::Setting;
 use line_fit::fit as fit_lines;
 use std::alloc::Global;
@@ -82,16 +83,10 @@ fn put_report<'a, W: Write>(
     ensures ok { IfOk result (λ faults. WasReported setting.now tape.now faults (W.contents out.old) (W.contents out.new)) }
     ensures err { IfErr result (λ e. BreaksOffReport setting.now tape.now (end_in e) (W.contents out.old) (W.contents out.new)) }
 {
-    let Ok(fitting) = fit_lines(alloc, &setting.table, &setting.widths, tape) else {
-        return Err(EditorFault::Other(Fault::OutOfMemory));
-    };
-    let Ok(text) = report(alloc, setting.widths.measure(), &fitting) else {
-        return Err(EditorFault::Other(Fault::OutOfMemory));
-    };
-    match put_whole(&text, out) {
-        Ok(()) => Ok(faults_in(&fitting)),
-        Err(fault) => Err(fault),
-    }
+    let fitting = fit_lines(alloc, &setting.table, &setting.widths, tape)?;
+    let text = report(alloc, setting.widths.measure(), &fitting)?;
+    put_whole(&text, out)?;
+    Ok(faults_in(&fitting))
 }
 
 /// Writes the report of a story, and answers how many of its lines do not set.
@@ -110,18 +105,9 @@ fn fitted<'a, R: Read + Drop, S: Read + Drop, T: Read + Drop, W: Write>(
         mut story,
         given,
     } = order;
-    let table = match read_table(alloc, &mut table, paths.table) {
-        Ok(table) => table,
-        Err(fault) => return Err(EditorFault::Other(fault)),
-    };
-    let widths = match read_widths(alloc, &mut widths, paths.widths) {
-        Ok(widths) => widths,
-        Err(fault) => return Err(EditorFault::Other(fault)),
-    };
-    let story = match read_text(alloc, &mut story, paths.tape) {
-        Ok(story) => story,
-        Err(fault) => return Err(EditorFault::Other(fault)),
-    };
+    let table = read_table(alloc, &mut table, paths.table)?;
+    let widths = read_widths(alloc, &mut widths, paths.widths)?;
+    let story = read_text(alloc, &mut story, paths.tape)?;
     let setting = Setting { table, widths };
     let tape = story_of(alloc, &setting.table, &story, given)?;
     put_report(alloc, &setting, &tape, out)
@@ -131,7 +117,7 @@ fn fitted<'a, R: Read + Drop, S: Read + Drop, T: Read + Drop, W: Write>(
 fn end_by(faults: u64) -> End
     ensures { result ≡ end_by faults }
 {
-    if faults == 0 { End::Done } else { End::Input }
+    End::found(faults == 0)
 }
 
 /// Tells of each line of a story how it fits, by a code table and a width file.
@@ -150,6 +136,6 @@ pub fn fit<R: Read + Drop, S: Read + Drop, T: Read + Drop, W: Write, E: Write>(
 {
     match fitted(alloc, order, out) {
         Ok(faults) => end_by(faults),
-        Err(fault) => fault.tell(err),
+        Err(fault) => tell(&fault, err),
     }
 }

@@ -3,12 +3,12 @@
 
 mod cause;
 mod fitting;
-mod inputs;
 mod outputs;
 mod punching;
 mod report;
 mod row;
 mod spelling;
+mod taking;
 mod verdict_words;
 
 pub use cause::EditorFault;

@@ -5,21 +5,13 @@ ghost use Rattle.std.specs.Io.KnownBytes.{Appends};
 ghost use Rattle.editor_commands.specs.Ends.{end_in, BreaksOffText};
 
 use crate::cause::EditorFault;
-use command_ends::Fault;
 use std::io::Write;
-use streams::put_all;
 
 /// Writes bytes, and hands them on.
-pub fn put_whole<'a, W: Write>(bytes: &[u8], out: &mut W) -> Result<(), EditorFault<'a>>
+pub(crate) fn put_whole<'a, W: Write>(bytes: &[u8], out: &mut W) -> Result<(), EditorFault<'a>>
     ensures ok { OnOk result (Appends (W.contents out.old) (W.contents out.new) bytes.now) }
     ensures err { IfErr result (λ e. BreaksOffText bytes.now (end_in e) (W.contents out.old) (W.contents out.new)) }
 {
-    match put_all(out, bytes) {
-        Ok(()) => {}
-        Err(_) => return Err(EditorFault::Other(Fault::CannotWrite)),
-    }
-    match out.flush() {
-        Ok(()) => Ok(()),
-        Err(_) => Err(EditorFault::Other(Fault::CannotWrite)),
-    }
+    streams::put_whole(out, bytes)?;
+    Ok(())
 }

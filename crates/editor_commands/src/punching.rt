@@ -5,10 +5,11 @@ ghost use Rattle.editor_commands.specs.Ends.{end_in};
 ghost use Rattle.editor_commands.specs.Punched.{WasPunched, BreaksOffPunching, Punches};
 
 use crate::cause::EditorFault;
-use crate::inputs::punched;
 use crate::outputs::put_whole;
+use crate::taking::punched;
 use code_table::Name;
-use command_ends::{End, read_table, read_text};
+use command_ends::{End, end_with};
+use inputs::{read_table, read_text};
 use std::alloc::Global;
 use std::io::{Read, Write};
 use std::marker::Model;
@@ -56,14 +57,8 @@ fn write_tape<'a, R: Read + Drop, S: Read + Drop, W: Write>(
         ligatures,
         room,
     } = order;
-    let table = match read_table(alloc, &mut table, paths.table) {
-        Ok(table) => table,
-        Err(fault) => return Err(EditorFault::Other(fault)),
-    };
-    let text = match read_text(alloc, &mut text, paths.story) {
-        Ok(text) => text,
-        Err(fault) => return Err(EditorFault::Other(fault)),
-    };
+    let table = read_table(alloc, &mut table, paths.table)?;
+    let text = read_text(alloc, &mut text, paths.story)?;
     let by = PunchedBy {
         table: &table,
         ligatures,
@@ -86,8 +81,5 @@ pub fn punch<R: Read + Drop, S: Read + Drop, W: Write, E: Write>(
 ) -> End
     ensures { Punches order.entry result (W.contents out.old) (W.contents out.new) }
 {
-    match write_tape(alloc, order, out) {
-        Ok(()) => End::Done,
-        Err(fault) => fault.tell(err),
-    }
+    end_with(write_tape(alloc, order, out), err)
 }

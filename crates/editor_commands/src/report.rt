@@ -38,7 +38,7 @@ fn one_if(fault: Option<SetFault>) -> u8
 }
 
 /// How many lines do not set; what is wrong behind the last counts as one.
-pub fn faults_in(fitting: &Fitting) -> u64
+pub(crate) fn faults_in(fitting: &Fitting) -> u64
     ensures { result ≡ faults_in fitting.now }
 {
     count_faults(&fitting.lines) as u64 + u64::from(one_if(fitting.rest))
@@ -107,7 +107,7 @@ fn put_foot(text: &mut Vec<u8>, faults: u64, lines: u64) -> Result<(), AllocErro
 }
 
 /// The report of how a tape fits in a measure: a head, a row for each line, what is wrong behind the last, and how many do not set.
-pub fn report(alloc: Global, measure: u16, fitting: &Fitting) -> Result<Vec<u8>, AllocError>
+pub(crate) fn report(alloc: Global, measure: u16, fitting: &Fitting) -> Result<Vec<u8>, AllocError>
     ensures { IfOk result (λ text. text.items ≡ report_text measure fitting.now) }
 {
     let mut text = Vec::new(alloc);

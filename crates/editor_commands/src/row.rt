@@ -1,11 +1,11 @@
 //! The row of a line in the report of `fit`.
 
 ghost use Rattle.std.specs.Prelude.{◌≡◌, ◌++◌, replicate, decimal, flat_map, OnOk, length, codes, [], ◌∷◌};
-ghost use Rattle.command_ends.specs.Columns.{on_the_right, on_the_left};
+ghost use Rattle.columns.specs.Columns.{on_the_right, on_the_left};
 ghost use Rattle.editor_commands.specs.Report.{item_read, slug_column, line_columns, row_text, rest_row};
 
 use crate::verdict_words::{fault_words, verdict_words};
-use command_ends::{put_blanks, put_left, put_number};
+use columns::{put_blanks, put_left, put_number};
 use itoa::Buffer;
 use line_check::SetFault;
 use line_fit::{LineFit, Verdict};
@@ -68,13 +68,13 @@ fn put_line_columns(text: &mut Vec<u8>, verdict: &[u8], fit: &LineFit) -> Result
 
 /// The number of a line, and the one that its slug has, where it has one.
 #[derive(Clone, Copy)]
-pub struct RowNumbers {
+pub(crate) struct RowNumbers {
     pub line: usize,
     pub slug: usize,
 }
 
 /// Writes the row of a line with its numbers.
-pub fn put_row(
+pub(crate) fn put_row(
     alloc: Global,
     text: &mut Vec<u8>,
     numbers: RowNumbers,
@@ -92,7 +92,11 @@ pub fn put_row(
 }
 
 /// Writes the row of what stands behind the last line, where that is wrong.
-pub fn put_rest(alloc: Global, text: &mut Vec<u8>, rest: Option<SetFault>) -> Result<(), AllocError>
+pub(crate) fn put_rest(
+    alloc: Global,
+    text: &mut Vec<u8>,
+    rest: Option<SetFault>,
+) -> Result<(), AllocError>
     ensures { OnOk result (text.new.items ≡ text.old.items ++ rest_row rest) }
 {
     let Some(fault) = rest else {

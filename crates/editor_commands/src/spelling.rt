@@ -6,11 +6,12 @@ ghost use Rattle.editor_commands.specs.Ends.{end_in, Gives};
 ghost use Rattle.editor_commands.specs.SpelledAs.{text_in, WasSpelled, BreaksOffSpelling, Spells};
 
 use crate::cause::EditorFault;
-use crate::inputs::tape_of;
 use crate::outputs::put_whole;
 use crate::punching::StoryPaths;
+use crate::taking::tape_of;
 use code_table::CodeTable;
-use command_ends::{End, Fault, read_table, read_text};
+use command_ends::{End, end_with};
+use inputs::{read_table, read_text};
 use std::alloc::Global;
 use std::io::{Read, Write};
 use std::marker::Model;
@@ -52,13 +53,9 @@ fn text_of<'a>(
 ) -> Result<Vec<u8>, EditorFault<'a>>
     ensures { Gives result (λ text. text.items ≡ text_in form (mean table.now) tape.now) }
 {
-    let text = match form {
-        Form::Punchable => spell_tape(alloc, table, tape),
-        Form::Plain => spell_plainly(alloc, table, tape),
-    };
-    match text {
-        Ok(text) => Ok(text),
-        Err(_) => Err(EditorFault::Other(Fault::OutOfMemory)),
+    match form {
+        Form::Punchable => Ok(spell_tape(alloc, table, tape)?),
+        Form::Plain => Ok(spell_plainly(alloc, table, tape)?),
     }
 }
 
@@ -77,14 +74,8 @@ fn write_text<'a, R: Read + Drop, S: Read + Drop, W: Write>(
         mut tape,
         form,
     } = order;
-    let table = match read_table(alloc, &mut table, paths.table) {
-        Ok(table) => table,
-        Err(fault) => return Err(EditorFault::Other(fault)),
-    };
-    let bytes = match read_text(alloc, &mut tape, paths.story) {
-        Ok(bytes) => bytes,
-        Err(fault) => return Err(EditorFault::Other(fault)),
-    };
+    let table = read_table(alloc, &mut table, paths.table)?;
+    let bytes = read_text(alloc, &mut tape, paths.story)?;
     let tape = tape_of(alloc, &bytes)?;
     let text = text_of(alloc, &table, &tape, form)?;
     put_whole(&text, out)
@@ -103,8 +94,5 @@ pub fn spell<R: Read + Drop, S: Read + Drop, W: Write, E: Write>(
 ) -> End
     ensures { Spells order.entry result (W.contents out.old) (W.contents out.new) }
 {
-    match write_text(alloc, order, out) {
-        Ok(()) => End::Done,
-        Err(fault) => fault.tell(err),
-    }
+    end_with(write_text(alloc, order, out), err)
 }

@@ -10,7 +10,7 @@ use line_fit::Verdict;
 use std::alloc::{AllocError, Global};
 
 /// The words of a fault; its line stands before them in its row.
-pub fn fault_words(alloc: Global, fault: SetFault) -> Result<String, AllocError>
+pub(crate) fn fault_words(alloc: Global, fault: SetFault) -> Result<String, AllocError>
     ensures { IfOk result (λ t. string_bytes t ≡ fault_words fault) }
 {
     let at = fault.at;
@@ -92,7 +92,7 @@ fn filled_words(alloc: Global, slug: &Slug) -> Result<String, AllocError>
 }
 
 /// The words of a verdict.
-pub fn verdict_words(alloc: Global, verdict: &Verdict) -> Result<String, AllocError>
+pub(crate) fn verdict_words(alloc: Global, verdict: &Verdict) -> Result<String, AllocError>
     ensures { IfOk result (λ t. string_bytes t ≡ verdict_words verdict.now) }
 {
     match verdict {

@@ -91,7 +91,7 @@ fn has_found(seen: looks::EndedLook, numbers: &[u32], others: usize) -> bool {
 
 /// Whether a look finds in a piece what it has to.
 fn finds(looking: &mut Looking, listing: Listing, piece: &Piece) -> bool {
-    match (looking.take(listing, piece.now), piece.found) {
+    match (looking.push(listing, piece.now), piece.found) {
         (None, None) => true,
         (Some(Ok(seen)), Some((numbers, others))) => {
             !seen.is_crowded() && has_found(seen, numbers, others)

@@ -23,7 +23,7 @@ pub trait Mover {
         ensures err { OnErr result (Adds (steps self.old) (steps self.new) []) };
 
     /// Moves the file there. Where it fails it may have been moved all the same.
-    fn take(&mut self, alloc: Global, leaving: Leaving<'_>) -> Result<(), FolderFault>
+    fn move_file(&mut self, alloc: Global, leaving: Leaving<'_>) -> Result<(), FolderFault>
         ensures ok { OnOk result (Adds (steps self.old) (steps self.new) (moved leaving.entry.name.now leaving.entry.to ∷ [])) }
         ensures err { OnErr result (Begins (steps self.old) (steps self.new) (moved leaving.entry.name.now leaving.entry.to ∷ [])) };
 }
@@ -41,5 +41,5 @@ pub fn move_behind<M: Mover>(
     if let Some(text) = beside {
         mover.write_text(alloc, leaving, text)?;
     }
-    mover.take(alloc, leaving)
+    mover.move_file(alloc, leaving)
 }

@@ -131,7 +131,7 @@ impl Gathering {
 
     /// Takes in what a datagram brings, and answers the packet that it is the last part of. Where a member has begun four others, the
     /// oldest of them is dropped for a new one.
-    pub fn take(
+    pub fn push(
         &mut self,
         alloc: Global,
         keys: &Keys,

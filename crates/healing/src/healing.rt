@@ -142,7 +142,7 @@ impl Healing {
     }
 
     /// A datagram was taken in, whatever it is about.
-    pub fn take_in(&mut self)
+    pub fn count_datagram(&mut self)
         ensures { self.new ≡ record self.old { taken = min (self.old.taken + 1) 256 } }
     {
         self.taken = self.taken.saturating_add(1).min(MOST_BEFORE_NEXT);

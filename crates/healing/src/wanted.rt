@@ -8,7 +8,7 @@ use ballots::Number;
 use std::marker::Model;
 
 /// The most numbers that are recalled at a time, and so the most of a batch.
-pub const MOST_RECALLED: usize = 64;
+pub(crate) const MOST_RECALLED: usize = 64;
 
 /// 1 to 64 numbers that are recalled together, each above the one before it. Clauses see the list.
 #[derive(Drop)]

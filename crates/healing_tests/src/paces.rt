@@ -334,7 +334,7 @@ fn goes(healing: &mut Healing, step: Step) -> Option<bool> {
         }
         Step::Take(many) => {
             for _ in 0..many {
-                healing.take_in();
+                healing.count_datagram();
             }
             Some(true)
         }

@@ -111,7 +111,7 @@ impl Mover for Way<'_, '_> {
         write_beside(self.maker, self.folder, leaving.name, text)
     }
 
-    fn take(&mut self, _alloc: Global, leaving: Leaving<'_>) -> Result<(), FolderFault> {
+    fn move_file(&mut self, _alloc: Global, leaving: Leaving<'_>) -> Result<(), FolderFault> {
         let own = take_away(self.maker, self.offers, leaving.name)?;
         let put = put_aside(self.maker.rt, &own, self.folder, leaving);
         if put.is_err() {

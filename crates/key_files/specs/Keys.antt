@@ -1,8 +1,9 @@
--- Which file of keys is taken, and how a command ends where it is not.
+-- Which file of keys is taken, and how it is told where it is not.
 use Rattle.std.specs.Prelude.{◌≡◌, ℕ, ◌%◌, ◌==◌, Bool, not, List, Option, Some, None, Result, Ok, Err, if◌then◌else◌}
-use Rattle.command_ends.specs.Ends.{IsOfInput}
+use Rattle.command_ends.specs.Ends.{end_of, IsOfInput}
 use Rattle.command_ends.specs.declared.end.End.{End}
-use Rattle.command_ends.specs.declared.end.End.TheVariants.{Done, Input, Memory}
+use Rattle.command_ends.specs.declared.end.End.TheVariants.{Input, Memory}
+use Rattle.command_ends.specs.declared.fault.Fault.{Fault}
 use Rattle.circuit_keys.specs.declared.key_file.SharedKeys.{SharedKeys}
 use Rattle.circuit_keys.specs.KeyFile.{keys_in}
 use Rattle.key_files.specs.declared.fault.KeyFault.{KeyFault}
@@ -28,8 +29,7 @@ end_of_key OthersCan = Input
 end_of_key BadFile = Input
 end_of_key OutOfMemory = Memory
 
--- a command that takes no keys for this fault ends so: by an input or for want of memory, and never well
-pub record EndsByKey (fault : KeyFault) (result : End) : Type 0 where
-  pub end : result ≡ end_of_key fault
-  pub cause : IsOfInput result
-  pub fails : ¬ (result ≡ Done)
+-- keys that are not taken for this fault are told so: by a fault of an input or for want of memory
+pub record EndsByKey (fault : KeyFault) (told : Fault) : Type 0 where
+  pub end : end_of told ≡ end_of_key fault
+  pub cause : IsOfInput (end_of told)

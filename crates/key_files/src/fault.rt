@@ -2,9 +2,7 @@
 
 ghost use Rattle.key_files.specs.Keys.{EndsByKey};
 
-use command_ends::End;
-use std::fmt;
-use std::io::Write;
+use command_ends::Fault;
 
 /// The first of these that holds.
 #[derive(Clone, Copy, PartialEq, Eq)]
@@ -27,29 +25,15 @@ pub struct RefusedKey<'a> {
 }
 
 /// What a person reads.
-impl<'a> fmt::Display for RefusedKey<'a> {
-    fn fmt<W: fmt::Write>(&self, f: &mut fmt::Formatter<W>) -> fmt::Result {
-        match self.fault {
-            KeyFault::CannotRead => {
-                let path = self.path;
-                write!(f, "key: cannot read {path}")
-            }
-            KeyFault::OthersCan => f.write_str("key: others can read it"),
-            KeyFault::BadFile => f.write_str("key: bad file"),
-            KeyFault::OutOfMemory => f.write_str("out of memory"),
-        }
-    }
-}
+impl<'a> From<RefusedKey<'a>> for Fault<'a> {
+    ghost from_gives = { λ refused told. EndsByKey refused.fault told };
 
-impl<'a> RefusedKey<'a> {
-    /// Writes the text, and gives the end of a command that stops by it. That the writer fails is ignored.
-    pub fn tell<E: Write>(&self, err: &mut E) -> End
-        ensures { EndsByKey self.now.fault result }
-    {
-        let _ = writeln!(err, "{self}");
-        match self.fault {
-            KeyFault::OutOfMemory => End::Memory,
-            _ => End::Input,
+    fn from(refused: RefusedKey<'a>) -> Fault<'a> {
+        match refused.fault {
+            KeyFault::CannotRead => Fault::KeyUnread(refused.path),
+            KeyFault::OthersCan => Fault::Key("others can read it"),
+            KeyFault::BadFile => Fault::Key("bad file"),
+            KeyFault::OutOfMemory => Fault::OutOfMemory,
         }
     }
 }

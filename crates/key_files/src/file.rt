@@ -1,7 +1,7 @@
 //! The file of keys on the host.
 
 use crate::fault::{KeyFault, RefusedKey};
-use crate::taking::{others_can, take_keys};
+use crate::taking::{check_keys, others_can};
 use circuit_keys::SharedKeys;
 use std::fs::File;
 use std::os::unix::fs::MetadataExt;
@@ -38,7 +38,7 @@ fn keys_at(rt: &HostRuntime, path: &str) -> Result<SharedKeys, KeyFault> {
         return Err(KeyFault::OthersCan);
     }
     let text = read_input(rt.alloc(), &mut file).map_err(unread)?;
-    take_keys(mode, &text)
+    check_keys(mode, &text)
 }
 
 /// The keys that the stations of a circuit share, from the file at a path.

@@ -7,4 +7,4 @@ mod taking;
 
 pub use fault::{KeyFault, RefusedKey};
 pub use file::read_key_file;
-pub use taking::take_keys;
+pub use taking::check_keys;

@@ -14,7 +14,7 @@ pub(crate) fn others_can(mode: u32) -> bool
 }
 
 /// The keys in the text of a file of this mode; or why the file is not taken: others can read it, or it holds something else.
-pub fn take_keys(mode: u32, text: &[u8]) -> Result<SharedKeys, KeyFault>
+pub fn check_keys(mode: u32, text: &[u8]) -> Result<SharedKeys, KeyFault>
     ensures { result ≡ keys_taken mode text.now }
 {
     if others_can(mode) {

@@ -18,7 +18,7 @@ use widths::Widths;
 
 /// Why a tape, or a line of it, is not set.
 #[derive(Clone, Copy, PartialEq, Eq)]
-pub enum Unset {
+pub(crate) enum Unset {
     /// This is wrong at this position, and nothing is before it.
     Faulty { at: u32, cause: Cause },
     /// The slugs could not be kept.

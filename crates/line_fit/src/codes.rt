@@ -10,7 +10,7 @@ use line_check::Cause;
 use slug_reader::{Item, Quad, Rail};
 
 /// The rail that a rail code selects.
-pub fn rail_of(meaning: &Meaning) -> Option<Rail>
+pub(crate) fn rail_of(meaning: &Meaning) -> Option<Rail>
     ensures { result ≡ rail_of (Some meaning.now) }
 {
     match meaning {
@@ -21,7 +21,7 @@ pub fn rail_of(meaning: &Meaning) -> Option<Rail>
 }
 
 /// The quad that a quad code asks for its line.
-pub fn quad_of(meaning: &Meaning) -> Option<Quad>
+pub(crate) fn quad_of(meaning: &Meaning) -> Option<Quad>
     ensures { result ≡ quad_of (Some meaning.now) }
 {
     match meaning {
@@ -33,14 +33,14 @@ pub fn quad_of(meaning: &Meaning) -> Option<Quad>
 }
 
 /// Whether the line is sent to be cast.
-pub fn is_elevate(meaning: &Meaning) -> bool
+pub(crate) fn is_elevate(meaning: &Meaning) -> bool
     ensures { result ≡ is_elevate (Some meaning.now) }
 {
     matches!(meaning, Meaning::Elevate)
 }
 
 /// What goes into the line, if anything, where this rail holds.
-pub fn item_of(sizes: &Sizes<'_>, rail: Rail, meaning: &Meaning) -> Option<Item>
+pub(crate) fn item_of(sizes: &Sizes<'_>, rail: Rail, meaning: &Meaning) -> Option<Item>
     ensures { result ≡ item_of sizes.now rail (Some meaning.now) }
 {
     match meaning {
@@ -67,7 +67,7 @@ pub fn item_of(sizes: &Sizes<'_>, rail: Rail, meaning: &Meaning) -> Option<Item>
 }
 
 /// Why a frame with this meaning cannot be read, of which this goes into the line.
-pub fn cause_of(meaning: &Meaning, item: &Option<Item>) -> Option<Cause>
+pub(crate) fn cause_of(meaning: &Meaning, item: &Option<Item>) -> Option<Cause>
     ensures { result ≡ cause_by (Some meaning.now) item.now }
 {
     match (meaning, item) {

@@ -23,7 +23,7 @@ use widths::Widths;
 
 /// The case and the rail that hold, and the line since the last cut, with its first fault and its number.
 #[derive(Drop)]
-pub struct Pending {
+pub(crate) struct Pending {
     pub case: Case,
     pub rail: Rail,
     pub items: Vec<Item>,
@@ -89,7 +89,7 @@ fn add(items: &mut Vec<Item>, item: Option<Item>) -> Result<(), AllocError>
 
 /// What a tape is read by, and its frames.
 #[derive(Clone, Copy)]
-pub struct Reading<'a> {
+pub(crate) struct Reading<'a> {
     pub table: &'a CodeTable,
     pub sizes: &'a Sizes<'a>,
     pub frames: &'a [u8],

@@ -15,7 +15,7 @@ const BYTES: u8 = 127;
 
 /// Widths, with those of the matrices whose names are one byte at hand. Clauses see the widths.
 #[derive(Drop)]
-pub struct Sizes<'a> {
+pub(crate) struct Sizes<'a> {
     widths: &'a Widths,
     of_bytes: Vec<Option<u16>>,
 }

@@ -10,13 +10,13 @@ use widths::Widths;
 
 /// The least and the greatest width of a line.
 #[derive(Clone, Copy)]
-pub struct LineSpan {
+pub(crate) struct LineSpan {
     pub least: u32,
     pub greatest: u32,
 }
 
 /// The widths of a line with its bands at their least, and at their greatest.
-pub fn span_of(items: &[Item], widths: &Widths) -> LineSpan
+pub(crate) fn span_of(items: &[Item], widths: &Widths) -> LineSpan
     requires { length items.now ≤ most_frames }
     ensures least { result.least ≡ least_width widths.now items.now }
     ensures greatest { result.greatest ≡ greatest_width widths.now items.now }

@@ -162,7 +162,7 @@ impl LookFindings {
     }
 
     /// Takes in what was found now.
-    pub(crate) fn take(&mut self, listing: Listing)
+    pub(crate) fn push(&mut self, listing: Listing)
         ensures { self.new.is_broken ≡ false → Takes listing self.old self.new }
     {
         self.take_files(listing.files);

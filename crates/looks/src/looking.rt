@@ -112,7 +112,7 @@ impl Looking {
     }
 
     /// Takes in what was found in a turn, at a moment; all that the look found, where it has come to its end.
-    pub fn take(&mut self, listing: Listing, now: u64) -> Option<Result<EndedLook, AllocError>>
+    pub fn push(&mut self, listing: Listing, now: u64) -> Option<Result<EndedLook, AllocError>>
         ensures goes_on { listing.is_end ≡ false → GoesOn listing self.old.stage self.new.stage }
         ensures nothing { listing.is_end ≡ false → result ≡ None }
         ensures ends { listing.is_end ≡ true → self.new.stage ≡ rests_after self.old.stage listing.took now }
@@ -122,7 +122,7 @@ impl Looking {
         let (is_end, took) = (listing.is_end, listing.took);
         let several = self.goes_on();
         let (mut found, was_part) = self.so_far();
-        found.take(listing);
+        found.push(listing);
         if is_end {
             let until = now.saturating_add(rest_after(several, took));
             self.stage = LookStage::Rests { until };

@@ -374,7 +374,7 @@ impl Instance {
     }
 
     /// Takes an event of the number, where `row` is its saved row. What is refused for another cause than memory leaves all as it was.
-    pub fn take(
+    pub fn handle(
         &mut self,
         alloc: Global,
         seat: Seat,

@@ -158,13 +158,13 @@ impl NodeCore {
         learner::laws::other_marks_pass();
         proposer::laws::other_marks_pass();
         if let Some(boxed) = self.instances.get_mut(&number.get()) {
-            return boxed.instance.take(self.alloc, self.seat, event, row);
+            return boxed.instance.handle(self.alloc, self.seat, event, row);
         }
         if self.released(number) {
             return voting::settled(self.alloc, self.seat, &event, row);
         }
         let mut instance = Instance::new(self.alloc, number, self.seat);
-        let turn = instance.take(self.alloc, self.seat, event, row)?;
+        let turn = instance.handle(self.alloc, self.seat, event, row)?;
         self.keep(instance)?;
         Ok(turn)
     }

@@ -1,11 +1,11 @@
 //! The addresses of a circuit, as they are seen from this host.
 
-use command_ends::Fault;
 use config_check::{HostPlace, Oddity, Reach, is_even, oddity_of, place_of, reach_of};
 use configuration::Config;
 use std::io;
 use std::io::Write;
 use std::net::{IpAddr, Ipv4Addr, SocketAddr, UdpSocket};
+use streams::CannotWrite;
 use wire::Address;
 
 /// Whether an address is one of this host's: a socket can be bound there, at whichever port is free.
@@ -72,8 +72,12 @@ fn put_count<W: Write>(stations: usize, out: &mut W) -> io::Result<()> {
     )
 }
 
-/// Writes where each station is, and what is odd about them; whether nothing of that is a fault.
-fn put_stations<W: Write>(rt: &HostRuntime, config: &Config, out: &mut W) -> io::Result<bool> {
+/// Writes where each station of a circuit is, and what is odd about their addresses and their count; whether nothing of that is a fault.
+pub(crate) fn put_addresses<W: Write>(
+    rt: &HostRuntime,
+    config: &Config,
+    out: &mut W,
+) -> Result<bool, CannotWrite> {
     let Some(first) = config.stations.first() else {
         return Ok(true);
     };
@@ -85,16 +89,4 @@ fn put_stations<W: Write>(rt: &HostRuntime, config: &Config, out: &mut W) -> io:
     }
     put_count(config.stations.len(), out)?;
     Ok(is_well)
-}
-
-/// Writes where each station of a circuit is, and what is odd about their addresses and their count; whether nothing of that is a fault.
-pub(crate) fn put_addresses<'a, W: Write>(
-    rt: &HostRuntime,
-    config: &Config,
-    out: &mut W,
-) -> Result<bool, Fault<'a>> {
-    match put_stations(rt, config, out) {
-        Ok(well) => Ok(well),
-        Err(_) => Err(Fault::CannotWrite),
-    }
 }

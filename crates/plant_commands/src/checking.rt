@@ -1,21 +1,21 @@
 //! The command `check-config`.
 
 use crate::addresses::put_addresses;
-use crate::files::{put_rows, put_tables};
+use crate::files::{put_fault, put_rows, put_tables};
 use crate::folders_check::put_folders;
 use crate::key_check::put_key;
-use command_ends::{End, Fault, read_text};
+use command_ends::{End, Fault};
 use configuration::{Config, ConfigFault, Resolver, faults_of, find_hosts};
+use inputs::{read_text, text_of};
 use std::alloc::Global;
 use std::io::Write;
-use std::str;
-use streams::InputFile;
+use streams::{InputFile, hand_on};
 
 /// Writes all that is found about the configuration at a path; whether nothing of it is a fault.
 fn put_all<'a, W: Write>(
     rt: &HostRuntime,
     path: &str,
-    config: &'a Config,
+    config: &Config,
     out: &mut W,
 ) -> Result<bool, Fault<'a>> {
     let addresses = put_addresses(rt, config, out)?;
@@ -23,10 +23,8 @@ fn put_all<'a, W: Write>(
     let tables = put_tables(rt, config, out)?;
     let folders = put_folders(rt, path, config, out)?;
     put_rows(rt, config, out)?;
-    match out.flush() {
-        Ok(()) => Ok(addresses && key && tables && folders),
-        Err(_) => Err(Fault::CannotWrite),
-    }
+    hand_on(out)?;
+    Ok(addresses && key && tables && folders)
 }
 
 /// Writes each fault of a configuration's text, where this was found for the hosts that it names; whether there is none.
@@ -36,27 +34,24 @@ fn put_faults<'a, W: Write>(
     found: &[Option<[u8; 4]>],
     out: &mut W,
 ) -> Result<bool, Fault<'a>> {
-    let Ok(faults) = faults_of(alloc, text, found) else {
-        return Err(Fault::OutOfMemory);
-    };
+    let faults = faults_of(alloc, text, found)?;
     for fault in faults.iter() {
-        if writeln!(out, "fault: {fault}").is_err() {
-            return Err(Fault::CannotWrite);
-        }
+        put_fault(Fault::from(*fault), out)?;
     }
-    match out.flush() {
-        Ok(()) => Ok(faults.is_empty()),
-        Err(_) => Err(Fault::CannotWrite),
-    }
+    hand_on(out)?;
+    Ok(faults.is_empty())
 }
 
-/// How the command ends, once all was written or writing failed, which is told.
-fn end_with<E: Write>(put: Result<bool, Fault<'_>>, err: &mut E) -> End {
-    match put {
-        Ok(true) => End::Done,
-        Ok(false) => End::Input,
-        Err(fault) => fault.tell(err),
+/// Writes what is found about the configuration at a path; whether nothing of it is a fault. Where it has faults itself, these alone.
+fn checked<'a, W: Write>(rt: &HostRuntime, path: &'a str, out: &mut W) -> Result<bool, Fault<'a>> {
+    let bytes = read_text(rt.alloc(), &mut InputFile::at(rt, path), path)?;
+    let text = text_of(&bytes).ok_or(ConfigFault::NotToml)?;
+    let found = find_hosts(rt.alloc(), &Resolver { net: rt }, text)?;
+    if !put_faults(rt.alloc(), text, &found, out)? {
+        return Ok(false);
     }
+    let config = Config::read(rt.alloc(), text, &found)?;
+    put_all(rt, path, &config, out)
 }
 
 /// Tells what is found about the configuration at a path, without touching anything. Where it has faults itself, these: of each key, the
@@ -70,23 +65,8 @@ pub fn check_config<W: Write, E: Write>(
     out: &mut W,
     err: &mut E,
 ) -> End {
-    let mut input = InputFile::at(rt, config);
-    let bytes = match read_text(rt.alloc(), &mut input, config) {
-        Ok(bytes) => bytes,
-        Err(fault) => return fault.tell(err),
-    };
-    let Ok(text) = str::from_utf8(&bytes) else {
-        return ConfigFault::NotToml.tell(err);
-    };
-    let Ok(found) = find_hosts(rt.alloc(), &Resolver { net: rt }, text) else {
-        return Fault::OutOfMemory.tell(err);
-    };
-    let put = put_faults(rt.alloc(), text, &found, out);
-    if !matches!(put, Ok(true)) {
-        return end_with(put, err);
-    }
-    match Config::read(rt.alloc(), text, &found) {
-        Ok(read) => end_with(put_all(rt, config, &read, out), err),
+    match checked(rt, config, out) {
+        Ok(is_well) => End::found(is_well),
         Err(fault) => fault.tell(err),
     }
 }

@@ -1,31 +1,42 @@
 //! The files that a configuration names.
 
 use code_table::CodeTable;
-use command_ends::{Fault, read_table, read_widths};
+use command_ends::Fault;
 use config_check::{elevate_frame, fitting_frame};
 use configuration::Config;
+use inputs::{read_table, read_widths};
+use std::fs;
 use std::io::{ErrorKind, Write};
-use std::{fs, io};
-use streams::InputFile;
+use streams::{CannotWrite, InputFile};
 use widths::Widths;
+
+/// Writes the line of a fault that is found.
+pub(crate) fn put_fault<W: Write>(fault: Fault<'_>, out: &mut W) -> Result<(), CannotWrite> {
+    writeln!(out, "fault: {fault}")?;
+    Ok(())
+}
 
 /// What a file was read as, or the fault that is told of it. Want of memory is none of the file's.
 fn read_or_tell<'a, T: Drop, W: Write>(
-    read: Result<T, Fault<'a>>,
+    read: Result<T, Fault<'_>>,
     out: &mut W,
 ) -> Result<Option<T>, Fault<'a>> {
     match read {
         Ok(held) => Ok(Some(held)),
         Err(Fault::OutOfMemory) => Err(Fault::OutOfMemory),
-        Err(fault) => match writeln!(out, "fault: {fault}") {
-            Ok(()) => Ok(None),
-            Err(_) => Err(Fault::CannotWrite),
-        },
+        Err(fault) => {
+            put_fault(fault, out)?;
+            Ok(None)
+        }
     }
 }
 
 /// Writes what is odd about a code table beside widths.
-fn put_oddities<W: Write>(table: &CodeTable, widths: &Widths, out: &mut W) -> io::Result<()> {
+fn put_oddities<W: Write>(
+    table: &CodeTable,
+    widths: &Widths,
+    out: &mut W,
+) -> Result<(), CannotWrite> {
     if elevate_frame(table).is_none() {
         writeln!(
             out,
@@ -45,7 +56,7 @@ fn put_oddities<W: Write>(table: &CodeTable, widths: &Widths, out: &mut W) -> io
 /// Writes what is wrong with the code table and the widths, and what is odd about them; whether nothing is wrong.
 pub(crate) fn put_tables<'a, W: Write>(
     rt: &HostRuntime,
-    config: &'a Config,
+    config: &Config,
     out: &mut W,
 ) -> Result<bool, Fault<'a>> {
     let mut input = InputFile::at(rt, &config.table);
@@ -55,31 +66,26 @@ pub(crate) fn put_tables<'a, W: Write>(
     let (Some(table), Some(widths)) = (&table, &widths) else {
         return Ok(false);
     };
-    match put_oddities(table, widths, out) {
-        Ok(()) => Ok(true),
-        Err(_) => Err(Fault::CannotWrite),
-    }
+    put_oddities(table, widths, out)?;
+    Ok(true)
 }
 
 /// Writes whether there is a row file yet. It is not opened.
-pub(crate) fn put_rows<'a, W: Write>(
+pub(crate) fn put_rows<W: Write>(
     rt: &HostRuntime,
     config: &Config,
     out: &mut W,
-) -> Result<(), Fault<'a>> {
+) -> Result<(), CannotWrite> {
     let path = config.rows.as_str();
-    let told = match fs::symlink_metadata(rt, path) {
-        Ok(_) => Ok(()),
+    match fs::symlink_metadata(rt, path) {
+        Ok(_) => {}
         Err(error) if error.kind() == ErrorKind::NotFound => {
             writeln!(
                 out,
                 "there is no {path} yet: circuitd create makes it, for a station that never ran"
-            )
+            )?;
         }
-        Err(_) => writeln!(out, "odd: {path} can't be looked at"),
-    };
-    match told {
-        Ok(()) => Ok(()),
-        Err(_) => Err(Fault::CannotWrite),
+        Err(_) => writeln!(out, "odd: {path} can't be looked at")?,
     }
+    Ok(())
 }

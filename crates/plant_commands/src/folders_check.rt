@@ -1,10 +1,10 @@
 //! The folders that a configuration names.
 
-use command_ends::Fault;
 use configuration::{Config, WorkFolders};
 use host_folders::{PlantPaths, why_misplaced, why_no_folder};
 use std::io;
 use std::io::Write;
+use streams::CannotWrite;
 
 /// Writes why a folder does not serve, if it does not; whether it does.
 fn put_folder<W: Write>(rt: &HostRuntime, name: &str, path: &str, out: &mut W) -> io::Result<bool> {
@@ -53,24 +53,18 @@ fn paths_of<'a>(path: &'a str, config: &'a Config, folders: &'a WorkFolders) -> 
 }
 
 /// Writes what is wrong with the folders that the configuration at a path names, and that it is odd to name none; whether nothing is wrong.
-pub(crate) fn put_folders<'a, W: Write>(
+pub(crate) fn put_folders<W: Write>(
     rt: &HostRuntime,
     path: &str,
     config: &Config,
     out: &mut W,
-) -> Result<bool, Fault<'a>> {
-    let told = match &config.folders {
-        Some(folders) => put_both(rt, &paths_of(path, config, folders), out),
-        None => match writeln!(
+) -> Result<bool, CannotWrite> {
+    let Some(folders) = &config.folders else {
+        writeln!(
             out,
             "odd: no folders are named: it only votes, and nothing but a kill ends it"
-        ) {
-            Ok(()) => Ok(true),
-            Err(error) => Err(error),
-        },
+        )?;
+        return Ok(true);
     };
-    match told {
-        Ok(well) => Ok(well),
-        Err(_) => Err(Fault::CannotWrite),
-    }
+    Ok(put_both(rt, &paths_of(path, config, folders), out)?)
 }

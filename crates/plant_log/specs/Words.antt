@@ -3,7 +3,7 @@ use Rattle.std.specs.Prelude.{ℕ, List, ◌++◌, Option, Some, None, codes, de
 use Rattle.ballots.specs.Texts.{ballot_text}
 use Rattle.text_tape.specs.FaultTexts.{error_text}
 use Rattle.refusals.specs.declared.refusal.StepRefusal.{StepRefusal}
-use Rattle.command_ends.specs.RefusalWords.{refusal_text}
+use Rattle.refusals.specs.RefusalWords.{refusal_text}
 use Rattle.folders.specs.FaultWords.{fault_word}
 use Rattle.folders.specs.declared.fault.FolderFault.{FolderFault}
 use Rattle.folders.specs.declared.folders.News.{News}

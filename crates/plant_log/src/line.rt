@@ -4,9 +4,8 @@ ghost use Rattle.std.specs.Prelude.{◌≡◌, Some};
 ghost use Rattle.plant_log.specs.Words.{file_text, line_text, news_text};
 
 use crate::event::LogEvent;
-use command_ends::RefusalText;
 use folders::{FolderFault, News};
-use refusals::StepRefusal;
+use refusals::{RefusalText, StepRefusal};
 use std::fmt;
 
 /// A folder does not serve for a file.

@@ -3,8 +3,9 @@
 ghost use Rattle.std.specs.Prelude.{◌≡◌};
 ghost use Rattle.plant_log.specs.Words.{reason_text};
 
-use command_ends::{Fault, RefusalText};
+use command_ends::Fault;
 use offers::OfferFault;
+use refusals::RefusalText;
 use std::fmt;
 
 /// Why a file is no offer whose name asks for nothing.

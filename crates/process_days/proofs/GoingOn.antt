@@ -5,7 +5,7 @@ use Rattle.std.proofs.lemmas.Bool.{eqb-true, eqb-false, eq-eqb}
 use Rattle.protocol.specs.Ballots.{IsMember}
 use Rattle.protocol.specs.Refusals.{Call}
 use Rattle.protocol.specs.Circuit.{with_at}
-use Rattle.saved_rows.specs.declared.rows.Rows.{Ghosts}
+use Rattle.rows_saved.specs.declared.rows.Rows.{Ghosts}
 use Rattle.station.specs.declared.answer.Answer.{Answer}
 use Rattle.station.specs.declared.station.Station.{Station}
 use Rattle.station.specs.Steps.{tears, IsStep}

@@ -1,7 +1,7 @@
 -- What a person sees of it: the files of the releases.
 use Rattle.std.specs.Prelude.{◌≡◌, ◌++◌, ℕ, List, Option, Some, None, codes, flat_map}
 use Rattle.protocol.specs.Lists.{IsAmong}
-use Rattle.saved_rows.specs.declared.rows.Rows.{Ghosts}
+use Rattle.rows_saved.specs.declared.rows.Rows.{Ghosts}
 use Rattle.station.specs.declared.answer.Release.{Release}
 use Rattle.station.specs.Readiness.{IsNumber}
 use Rattle.folders.specs.Written.{File}

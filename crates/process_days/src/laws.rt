@@ -6,7 +6,7 @@ ghost use Rattle.process_days.specs.Seeing.{DaysFilesAgree, WrittenIsFiled};
 
 use days::laws;
 use driver::Sink;
-use saved_rows::{Rows, Settles};
+use rows_saved::{Rows, Settles};
 use wire::Wire;
 
 /// What drives a station tells of itself as a process does: its log is that of the steps that the station took.

@@ -15,7 +15,7 @@ use Rattle.reel_commands.specs.declared.rows.Lack.{Lack}
 use Rattle.reel_commands.specs.declared.rows.Lack.TheVariants as lacks
 use Rattle.reel_commands.specs.declared.surveying.Survey.{Survey}
 use Rattle.reel_commands.specs.declared.surveying.Surveyed.{Surveyed}
-use Rattle.command_ends.specs.Columns.{on_the_right, on_the_left}
+use Rattle.columns.specs.Columns.{on_the_right, on_the_left}
 
 -- the places at which a frame stands in a tape
 unfoldable pub places_in : ℕ → List ℕ → List ℕ

@@ -67,7 +67,7 @@ fn case_behind(table: &CodeTable, case: Case, frame: u8) -> Case
 
 /// Writes what stands around a place of a tape, each frame as it means where it stands.
 #[tactic(auto, unfolding(crate::specs::Survey::around))]
-pub fn put_around(
+pub(crate) fn put_around(
     text: &mut Vec<u8>,
     table: &CodeTable,
     tape: &[u8],

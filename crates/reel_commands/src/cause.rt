@@ -1,12 +1,17 @@
 //! Why `import` or `survey` did not end well.
 
+ghost use Rattle.std.specs.Prelude.{◌≡◌};
 ghost use Rattle.command_ends.specs.Ends.{EndsBy};
+ghost use Rattle.command_ends.specs.declared.fault.Fault.TheVariants.{OutOfMemory, CannotWrite};
 ghost use Rattle.reel_commands.specs.Ends.{end_in};
+ghost use Rattle.reel_commands.specs.declared.cause.ReelFault.TheVariants.{Other};
 
-use command_ends::{End, Fault};
+use command_ends::{CommandFault, End, Fault, tell};
 use reel::MOST_TAPES;
+use std::alloc::AllocError;
 use std::fmt;
 use std::io::Write;
+use streams::CannotWrite;
 use tape_frames::TapeFault;
 
 /// Why `import` or `survey` did not end well.
@@ -38,6 +43,30 @@ pub enum ReelFault<'a> {
         path: &'a str,
         fault: TapeFault,
     },
+}
+
+impl<'a> From<Fault<'a>> for ReelFault<'a> {
+    ghost from_gives = { λ fault e. e ≡ Other fault };
+
+    fn from(fault: Fault<'a>) -> ReelFault<'a> {
+        ReelFault::Other(fault)
+    }
+}
+
+impl<'a> From<AllocError> for ReelFault<'a> {
+    ghost from_gives = { λ _ e. e ≡ Other OutOfMemory };
+
+    fn from(_error: AllocError) -> ReelFault<'a> {
+        ReelFault::Other(Fault::OutOfMemory)
+    }
+}
+
+impl<'a> From<CannotWrite> for ReelFault<'a> {
+    ghost from_gives = { λ _ e. e ≡ Other CannotWrite };
+
+    fn from(_error: CannotWrite) -> ReelFault<'a> {
+        ReelFault::Other(Fault::CannotWrite)
+    }
 }
 
 /// Writes what is wrong with a tape, in the words of all commands.
@@ -77,7 +106,14 @@ impl<'a> ReelFault<'a> {
     pub fn tell<E: Write>(&self, err: &mut E) -> End
         ensures { EndsBy (end_in self.now) result }
     {
-        let _ = writeln!(err, "{self}");
+        tell(self, err)
+    }
+}
+
+impl<'a> CommandFault for ReelFault<'a> {
+    ghost ends_as = { end_in };
+
+    fn end(&self) -> End {
         match self {
             ReelFault::Other(fault) => fault.end(),
             _ => End::Input,

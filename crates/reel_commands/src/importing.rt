@@ -10,7 +10,7 @@ ghost use Rattle.reel_commands.specs.Importing.{frames_by, WasImported, BreaksOf
 
 use crate::cause::ReelFault;
 use crate::files::{TakenName, TapeFolder};
-use command_ends::{Fault, read_text};
+use inputs::read_text;
 use reel::{Cutting, Levels, MOST_TAPES, RollPiece, frames_in, frames_of, tape_name, tapes_of};
 use std::alloc::Global;
 use std::io::Read;
@@ -41,17 +41,11 @@ fn read_frames<'a, R: Read>(
 ) -> Result<Vec<u8>, ReelFault<'a>>
     ensures { Gives result (λ frames. IfSome (R.remaining input.old) (λ bytes. frames.items ≡ frames_by reel.now bytes)) }
 {
-    let bytes = match read_text(alloc, input, reel.path) {
-        Ok(bytes) => bytes,
-        Err(fault) => return Err(ReelFault::Other(fault)),
-    };
+    let bytes = read_text(alloc, input, reel.path)?;
     if bytes.is_empty() {
         return Err(ReelFault::EmptyReel);
     }
-    match frames_of(alloc, &reel.levels, &bytes) {
-        Ok(frames) => Ok(frames),
-        Err(_) => Err(ReelFault::Other(Fault::OutOfMemory)),
-    }
+    Ok(frames_of(alloc, &reel.levels, &bytes)?)
 }
 
 /// The tapes of frames, of which there is one at least, and no more than have names.
@@ -62,9 +56,7 @@ fn tapes_in<'a>(
 ) -> Result<Vec<RollPiece>, ReelFault<'a>>
     ensures { Gives result (λ tapes. AreTapes cutting.least cutting.trims frames.now tapes.items × (length tapes.items ≤ 999)) }
 {
-    let Ok(tapes) = tapes_of(alloc, frames, cutting) else {
-        return Err(ReelFault::Other(Fault::OutOfMemory));
-    };
+    let tapes = tapes_of(alloc, frames, cutting)?;
     if tapes.is_empty() {
         return Err(ReelFault::NoTape);
     }
@@ -83,9 +75,7 @@ fn look_for<'a, F: TapeFolder>(
 ) -> Result<(), ReelFault<'a>>
     ensures { IfErr result (λ e. IsOfInput (end_in e)) }
 {
-    let Ok(name) = tape_name(alloc, number) else {
-        return Err(ReelFault::Other(Fault::OutOfMemory));
-    };
+    let name = tape_name(alloc, number)?;
     match folder.look(alloc, &name) {
         TakenName::Free => Ok(()),
         TakenName::Taken => Err(ReelFault::Taken { folder: path, name }),
@@ -126,9 +116,7 @@ fn make_one<'a, F: TapeFolder>(
     ensures ok { OnOk result (Makes (F.made folder.old) (F.made folder.new) (record { name = tape_name (tape.entry.before + 1); bytes = tape.entry.frames.now } ∷ [])) }
     ensures err { IfErr result (λ e. (F.made folder.new ≡ F.made folder.old) × IsOfInput (end_in e)) }
 {
-    let Ok(name) = tape_name(alloc, tape.before + 1) else {
-        return Err(ReelFault::Other(Fault::OutOfMemory));
-    };
+    let name = tape_name(alloc, tape.before + 1)?;
     match folder.make(alloc, &name, tape.frames) {
         Ok(()) => Ok(()),
         Err(_) => Err(ReelFault::NotMade {

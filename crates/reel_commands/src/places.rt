@@ -8,7 +8,7 @@ use std::alloc::{AllocError, Global};
 
 /// The places at which a frame stands in a tape.
 #[tactic(auto, unfolding(crate::specs::Survey::places_in))]
-pub fn places_in(alloc: Global, frame: u8, tape: &[u8]) -> Result<Vec<usize>, AllocError>
+pub(crate) fn places_in(alloc: Global, frame: u8, tape: &[u8]) -> Result<Vec<usize>, AllocError>
     ensures { IfOk result (λ places. places.items ≡ places_in frame tape.now) }
 {
     let mut places = Vec::new(alloc);
@@ -21,7 +21,7 @@ pub fn places_in(alloc: Global, frame: u8, tape: &[u8]) -> Result<Vec<usize>, Al
 }
 
 /// The first three of some places.
-pub fn first_three(places: &[usize]) -> &[usize]
+pub(crate) fn first_three(places: &[usize]) -> &[usize]
     ensures { result.now ≡ take 3 places.now }
 {
     match places {
@@ -45,7 +45,7 @@ fn count_in(frame: u8, tape: &[u8]) -> usize
 }
 
 /// How often it comes in tapes.
-pub fn times_in(frame: u8, tapes: &[Surveyed]) -> u128
+pub(crate) fn times_in(frame: u8, tapes: &[Surveyed]) -> u128
     ensures { result ≡ times_in frame tapes.now }
 {
     let mut times: u128 = 0;

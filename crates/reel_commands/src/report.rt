@@ -8,7 +8,8 @@ ghost use Rattle.reel_commands.specs.Report.{len_of, is_long, warning, tape_line
 use crate::cause::ReelFault;
 use crate::importing::Imported;
 use crate::outputs::put_whole;
-use command_ends::{End, Fault, put_digits};
+use columns::put_digits;
+use command_ends::End;
 use reel::{RollPiece, tape_name};
 use std::alloc::{AllocError, Global};
 use std::io::Write;
@@ -105,9 +106,7 @@ pub fn put_import<'a, W: Write>(
 ) -> Result<(), ReelFault<'a>>
     ensures { Gives result (λ _. Appends (W.contents out.old) (W.contents out.new) (import_text done.now)) }
 {
-    let Ok(text) = import_text(alloc, done) else {
-        return Err(ReelFault::Other(Fault::OutOfMemory));
-    };
+    let text = import_text(alloc, done)?;
     put_whole(&text, out)
 }
 

@@ -9,7 +9,7 @@ use crate::around::put_around;
 use crate::places::{first_three, places_in};
 use crate::surveying::Surveyed;
 use code_table::{Case, CodeTable, Meaning};
-use command_ends::{put_digits, put_left, put_number};
+use columns::{put_digits, put_left, put_number};
 use std::alloc::AllocError;
 use tape_frames::holes;
 use widths::Widths;
@@ -40,7 +40,7 @@ fn meaning_word<'a>(meaning: Option<&'a Meaning>) -> &'a [u8]
 
 /// What a frame may lack.
 #[derive(Clone, Copy, PartialEq, Eq)]
-pub enum Lack {
+pub(crate) enum Lack {
     /// The table says nothing of it.
     Meaning,
     /// It means a matrix of which the widths say nothing.
@@ -73,7 +73,7 @@ fn lack_word(first: Option<Lack>, second: Option<Lack>) -> &'static str
 }
 
 /// What a frame lacks by a table and widths: a meaning, or a matrix of it a width.
-pub fn lack_of(table: &CodeTable, widths: &Widths, frame: u8) -> &'static str
+pub(crate) fn lack_of(table: &CodeTable, widths: &Widths, frame: u8) -> &'static str
     ensures { result.now ≡ lack_of (mean table.now) widths.now frame }
 {
     lack_word(
@@ -95,13 +95,13 @@ fn put_holes(text: &mut Vec<u8>, frame: u8) -> Result<(), AllocError>
 
 /// A code table and a width file.
 #[derive(Clone, Copy)]
-pub struct Chart<'a> {
+pub(crate) struct Chart<'a> {
     pub table: &'a CodeTable,
     pub widths: &'a Widths,
 }
 
 /// Writes the row of a frame that comes so often.
-pub fn put_row(
+pub(crate) fn put_row(
     text: &mut Vec<u8>,
     chart: Chart<'_>,
     frame: u8,
@@ -163,7 +163,7 @@ fn put_places(
 }
 
 /// Writes the lines of the first three places of a frame in a tape.
-pub fn put_tape_lines(
+pub(crate) fn put_tape_lines(
     text: &mut Vec<u8>,
     table: &CodeTable,
     frame: u8,

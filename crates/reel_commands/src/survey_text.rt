@@ -8,7 +8,7 @@ use crate::places::times_in;
 use crate::rows::{Chart, lack_of, put_row, put_tape_lines};
 use crate::surveying::{Survey, Surveyed};
 use code_table::CodeTable;
-use command_ends::put_digits;
+use columns::put_digits;
 use std::alloc::{AllocError, Global};
 
 /// Writes the lines of the first places of a frame in each tape.
@@ -88,7 +88,7 @@ fn put_foot(text: &mut Vec<u8>, wanted: usize) -> Result<(), AllocError>
 }
 
 /// The survey of tapes by a table and widths: of each of the 64 frames its row and its first places, and how many are wanted.
-pub fn survey_text(alloc: Global, survey: &Survey) -> Result<Vec<u8>, AllocError>
+pub(crate) fn survey_text(alloc: Global, survey: &Survey) -> Result<Vec<u8>, AllocError>
     ensures { IfOk result (λ text. text.items ≡ survey_text (mean survey.now.table) survey.now.widths survey.now.tapes.items) }
 {
     let mut text = Vec::new(alloc);

@@ -11,7 +11,8 @@ use crate::cause::ReelFault;
 use crate::outputs::put_whole;
 use crate::survey_text::survey_text;
 use code_table::CodeTable;
-use command_ends::{Fault, read_table, read_text, read_widths};
+use command_ends::Fault;
+use inputs::{read_table, read_text, read_widths};
 use std::alloc::{AllocError, Global};
 use std::io::{Read, Write};
 use tape_frames::{Tape, TapeFault};
@@ -78,15 +79,12 @@ impl Survey {
         ensures added { Gives result (λ _. IfSome (R.remaining input.old) (λ bytes. IsAdded path.now bytes self.old.tapes.items self.new.tapes.items)) }
         ensures others { (self.new.table ≡ self.old.table) × (self.new.widths ≡ self.old.widths) }
     {
-        let bytes = match read_text(alloc, input, path) {
-            Ok(bytes) => bytes,
-            Err(fault) => return Err(ReelFault::Other(fault)),
-        };
+        let bytes = read_text(alloc, input, path)?;
         match Tape::from_vec(alloc, bytes) {
-            Ok(tape) => match push(alloc, &mut self.tapes, path, tape) {
-                Ok(()) => Ok(()),
-                Err(_) => Err(ReelFault::Other(Fault::OutOfMemory)),
-            },
+            Ok(tape) => {
+                push(alloc, &mut self.tapes, path, tape)?;
+                Ok(())
+            }
             Err(TapeFault::OutOfMemory) => Err(ReelFault::Other(Fault::OutOfMemory)),
             Err(fault) => Err(ReelFault::Tape { path, fault }),
         }
@@ -97,9 +95,7 @@ impl Survey {
     pub fn write<'a, W: Write>(&self, alloc: Global, out: &mut W) -> Result<(), ReelFault<'a>>
         ensures { Gives result (λ _. Appends (W.contents out.old) (W.contents out.new) (survey_text (mean self.now.table) self.now.widths self.now.tapes.items)) }
     {
-        match survey_text(alloc, self) {
-            Ok(text) => put_whole(&text, out),
-            Err(_) => Err(ReelFault::Other(Fault::OutOfMemory)),
-        }
+        let text = survey_text(alloc, self)?;
+        put_whole(&text, out)
     }
 }

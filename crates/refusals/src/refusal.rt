@@ -2,7 +2,7 @@
 
 use line_check::SetFault;
 use packets::PacketFault;
-use saved_rows::RowsFault;
+use rows_saved::RowsFault;
 
 /// Why a step was refused. The first that holds is answered, in the order in which they stand here, but that
 /// `Store` and `OutOfMemory` come where the store or a growth fails. These two stop the station: nothing is

@@ -11,8 +11,8 @@ use Rattle.streams.proofs.Fronts.{front_of_all}
 use Rattle.protocol.specs.Lists.{IsAmong}
 use Rattle.protocol.specs.Versions.{Version}
 use Rattle.protocol.specs.Circuit.{Datagram, Release, fresh}
-use Rattle.saved_rows.specs.Memory.{MemoryOf}
-use Rattle.saved_rows.specs.contracts.memory.MemoryRowsRows.TheImpl.{ghosts}
+use Rattle.rows_saved.specs.Memory.{MemoryOf}
+use Rattle.rows_saved.specs.contracts.memory.MemoryRowsRows.TheImpl.{ghosts}
 use Rattle.line_check.specs.declared.slug.Slug.{Slug}
 use Rattle.line_check.specs.declared.fault.SetFault.{SetFault}
 use Rattle.world.specs.declared.world.World.{World}

@@ -4,7 +4,7 @@ use Rattle.protocol.specs.Circuit.{Release}
 use Rattle.line_check.specs.declared.slug.Slug.{Slug}
 use Rattle.line_check.specs.declared.fault.SetFault.{SetFault}
 use Rattle.world.specs.declared.step.Outcome.{Outcome}
-use Rattle.command_ends.specs.ReleaseText.{release_text}
+use Rattle.release_texts.specs.ReleaseText.{release_text}
 use Rattle.rehearse_command.specs.Words.{outcome_text}
 
 -- who acted, and how it ended

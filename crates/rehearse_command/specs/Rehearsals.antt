@@ -11,8 +11,8 @@ use Rattle.command_ends.specs.declared.fault.Fault.{Fault}
 use Rattle.code_table.specs.Reading.{read_table}
 use Rattle.widths.specs.Reading.{read_widths}
 use Rattle.protocol.specs.Versions.{Version}
-use Rattle.saved_rows.specs.Memory.{MemoryOf}
-use Rattle.saved_rows.specs.contracts.memory.MemoryRowsRows.TheImpl.{ghosts}
+use Rattle.rows_saved.specs.Memory.{MemoryOf}
+use Rattle.rows_saved.specs.contracts.memory.MemoryRowsRows.TheImpl.{ghosts}
 use Rattle.world.specs.declared.world.World.{World}
 use Rattle.world.specs.Founding.{Given}
 use Rattle.world.specs.Playing.{IsFresh}

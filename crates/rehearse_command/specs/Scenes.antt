@@ -4,8 +4,8 @@ use Rattle.protocol.specs.Versions.{Version}
 use Rattle.protocol.specs.Circuit.{Datagram, Release, StepsTo, fresh}
 use Rattle.protocol.specs.Circuit as circuit
 use Rattle.packets.specs.declared.fault.PacketFault.{PacketFault}
-use Rattle.saved_rows.specs.Memory.{MemoryOf}
-use Rattle.saved_rows.specs.contracts.memory.MemoryRowsRows.TheImpl.{ghosts}
+use Rattle.rows_saved.specs.Memory.{MemoryOf}
+use Rattle.rows_saved.specs.contracts.memory.MemoryRowsRows.TheImpl.{ghosts}
 use Rattle.line_check.specs.declared.slug.Slug.{Slug}
 use Rattle.line_check.specs.declared.fault.SetFault.{SetFault}
 use Rattle.world.specs.declared.world.World.{World}

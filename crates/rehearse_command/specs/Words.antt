@@ -1,12 +1,12 @@
 -- The words for how a step ended.
 use Rattle.std.specs.Prelude.{ℕ, List, ◌++◌, true, false, codes}
-use Rattle.saved_rows.specs.declared.fault.RowsFault.{RowsFault}
-use Rattle.saved_rows.specs.declared.fault.RowsFault.TheVariants as rows
+use Rattle.rows_saved.specs.declared.fault.RowsFault.{RowsFault}
+use Rattle.rows_saved.specs.declared.fault.RowsFault.TheVariants as rows
 use Rattle.refusals.specs.declared.refusal.StepRefusal.{StepRefusal}
 use Rattle.refusals.specs.declared.refusal.StepRefusal.TheVariants as steps
 use Rattle.world.specs.declared.step.Outcome.{Outcome}
 use Rattle.world.specs.declared.step.Outcome.TheVariants as outcomes
-use Rattle.command_ends.specs.RefusalWords.{refusal_text}
+use Rattle.refusals.specs.RefusalWords.{refusal_text}
 use Rattle.step_lines.specs.Notes.{note_text}
 
 -- a store that refuses stops a station, for memory or otherwise

@@ -3,8 +3,8 @@
 ghost use Rattle.std.specs.Prelude.{◌≡◌, Some};
 ghost use Rattle.rehearse_command.specs.Words.{outcome_text, refused_text};
 
-use command_ends::RefusalText;
-use saved_rows::RowsFault;
+use refusals::RefusalText;
+use rows_saved::RowsFault;
 use station::StepRefusal;
 use std::fmt;
 use step_lines::NoteText;
@@ -30,7 +30,7 @@ impl fmt::Display for RefusedText {
 
 /// What became of a member's step.
 #[derive(Clone, Copy)]
-pub struct OutcomeText(pub Outcome);
+pub(crate) struct OutcomeText(pub Outcome);
 
 impl fmt::Display for OutcomeText {
     ghost output = { λ o. Some (outcome_text o.0) };

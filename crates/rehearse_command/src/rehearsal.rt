@@ -10,12 +10,14 @@ ghost use Rattle.rehearse_command.specs.Rehearsals.{BeginsIn, BeginsOn, HasRehea
 
 use crate::scene_lines::{ShownStep, put_scene};
 use code_table::CodeTable;
-use command_ends::{End, Fault, PutFault, ScriptPaths, read_table, read_text, read_widths};
-use saved_rows::MemoryRows;
+use command_ends::{End, Fault, end_with};
+use inputs::{ScriptPaths, read_table, read_text, read_widths};
+use rows_saved::MemoryRows;
 use script_lines::{Order, ScriptFault, is_ignored, order_of};
 use std::alloc::{AllocError, Global};
 use std::io::{Read, Write};
 use std::mem::ManuallyDrop;
+use streams::{PutFault, hand_on};
 use tape_frames::Version;
 use widths::Widths;
 use world::{PlayFault, Step, World, WorldRefusal, circuit_in_memory};
@@ -51,6 +53,50 @@ enum LineStop {
     Unwritten(PutFault),
 }
 
+impl From<AllocError> for LineStop {
+    fn from(error: AllocError) -> LineStop {
+        LineStop::Unwritten(PutFault::from(error))
+    }
+}
+
+impl From<PutFault> for LineStop {
+    fn from(fault: PutFault) -> LineStop {
+        LineStop::Unwritten(fault)
+    }
+}
+
+/// Why the stage is not set.
+impl From<PlayFault> for LineStop {
+    fn from(fault: PlayFault) -> LineStop {
+        match fault {
+            PlayFault::BadCount => LineStop::Refused("bad line"),
+            PlayFault::OutOfMemory => LineStop::Unwritten(PutFault::OutOfMemory),
+        }
+    }
+}
+
+/// Why a step is not taken.
+impl From<WorldRefusal> for LineStop {
+    fn from(refusal: WorldRefusal) -> LineStop {
+        match refusal {
+            WorldRefusal::NoSuchMember => LineStop::Refused("no such member"),
+            WorldRefusal::NoSuchDatagram => LineStop::Refused("no such datagram"),
+            WorldRefusal::OutOfMemory => LineStop::Unwritten(PutFault::OutOfMemory),
+        }
+    }
+}
+
+/// Why a line on a stage asks for nothing.
+impl From<ScriptFault> for LineStop {
+    fn from(fault: ScriptFault) -> LineStop {
+        match fault {
+            ScriptFault::BadLine => LineStop::Refused("bad line"),
+            ScriptFault::BadTape => LineStop::Refused("bad tape"),
+            ScriptFault::OutOfMemory => LineStop::Unwritten(PutFault::OutOfMemory),
+        }
+    }
+}
+
 impl LineStop {
     /// What is told of it, where it ended this line, counted from 1.
     fn at<'a>(self, line: usize) -> Fault<'a>
@@ -58,7 +104,7 @@ impl LineStop {
     {
         match self {
             LineStop::Refused(what) => Fault::script(line, what),
-            LineStop::Unwritten(fault) => Fault::of_writing(fault),
+            LineStop::Unwritten(fault) => Fault::from(fault),
         }
     }
 }
@@ -81,20 +127,15 @@ fn stage_of(setting: MemberSetting<'_>, count: u8, version: Version) -> Result<R
     ensures begins { IfOk result (λ stage. BeginsIn (version_of version) stage.world) }
     ensures stands { IfOk result (λ stage. StandsNew (setting.entry.table.now, setting.entry.widths.now) stage.world) }
 {
-    let Ok(members) = members_of(setting, count) else {
-        return Err(LineStop::Unwritten(PutFault::OutOfMemory));
-    };
-    match circuit_in_memory(setting.alloc, CIRCUIT, version, members) {
-        Ok(world) => Ok(Rehearsal {
-            world,
-            now: 0,
-            text: String::new(setting.alloc),
-            count,
-            is_new: true,
-        }),
-        Err(PlayFault::BadCount) => Err(LineStop::Refused("bad line")),
-        Err(PlayFault::OutOfMemory) => Err(LineStop::Unwritten(PutFault::OutOfMemory)),
-    }
+    let members = members_of(setting, count)?;
+    let world = circuit_in_memory(setting.alloc, CIRCUIT, version, members)?;
+    Ok(Rehearsal {
+        world,
+        now: 0,
+        text: String::new(setting.alloc),
+        count,
+        is_new: true,
+    })
 }
 
 /// The step that a line orders at a moment; `None` where it orders none.
@@ -134,15 +175,6 @@ fn step_of(order: Order, now: u64) -> Option<Step>
     }
 }
 
-/// Why a line is not played whose step a world refuses.
-fn stop_of(refusal: WorldRefusal) -> LineStop {
-    match refusal {
-        WorldRefusal::NoSuchMember => LineStop::Refused("no such member"),
-        WorldRefusal::NoSuchDatagram => LineStop::Refused("no such datagram"),
-        WorldRefusal::OutOfMemory => LineStop::Unwritten(PutFault::OutOfMemory),
-    }
-}
-
 impl Rehearsal {
     /// Sets the stage anew with its members in this version, as long as it is new.
     fn turn_to(&mut self, setting: MemberSetting<'_>, version: Version) -> Result<(), LineStop>
@@ -166,23 +198,17 @@ impl Rehearsal {
         ensures { ShowsStep result (W.contents out.old) self.old (W.contents out.new) self.new }
     {
         let (sent, released) = (self.world.sent().len(), self.world.releases().len());
-        match self.world.step(step) {
-            Ok(seen) => {
-                let (_, new_sent) = self.world.sent().split_at(sent);
-                let (_, new_releases) = self.world.releases().split_at(released);
-                let shown = ShownStep {
-                    seen,
-                    before: sent,
-                    sent: new_sent,
-                    releases: new_releases,
-                };
-                match put_scene(alloc, &mut self.text, &shown, out) {
-                    Ok(()) => Ok(()),
-                    Err(fault) => Err(LineStop::Unwritten(fault)),
-                }
-            }
-            Err(refusal) => Err(stop_of(refusal)),
-        }
+        let seen = self.world.step(step)?;
+        let (_, new_sent) = self.world.sent().split_at(sent);
+        let (_, new_releases) = self.world.releases().split_at(released);
+        let shown = ShownStep {
+            seen,
+            before: sent,
+            sent: new_sent,
+            releases: new_releases,
+        };
+        put_scene(alloc, &mut self.text, &shown, out)?;
+        Ok(())
     }
 
     /// Takes the step that a line orders, and shows what it did.
@@ -212,6 +238,7 @@ fn set_stage(
     match order {
         Ok(Order::Members(count)) => stage_of(setting, count, Version::One),
         Err(ScriptFault::OutOfMemory) => Err(LineStop::Unwritten(PutFault::OutOfMemory)),
+        // Before there is a stage a tape is no fault of its own.
         _ => Err(LineStop::Refused("bad line")),
     }
 }
@@ -230,9 +257,7 @@ fn play_order<W: Write>(
     match order {
         Ok(Order::Wire(version)) => stage.turn_to(setting, version),
         Ok(order) => stage.play(setting.alloc, order, out),
-        Err(ScriptFault::OutOfMemory) => Err(LineStop::Unwritten(PutFault::OutOfMemory)),
-        Err(ScriptFault::BadTape) => Err(LineStop::Refused("bad tape")),
-        Err(ScriptFault::BadLine) => Err(LineStop::Refused("bad line")),
+        Err(fault) => Err(LineStop::from(fault)),
     }
 }
 
@@ -270,9 +295,7 @@ fn play_all<'a, W: Write>(
 ) -> Result<(), Fault<'a>>
     ensures { PlaysScript (setting.entry.table.now, setting.entry.widths.now) result (W.contents out.old) (W.contents out.new) }
 {
-    let Ok(lines) = lines_of(setting.alloc, script) else {
-        return Err(Fault::OutOfMemory);
-    };
+    let lines = lines_of(setting.alloc, script)?;
     let mut stage = None;
     for (index, words) in lines.iter().enumerate() {
         if !is_ignored(words) {
@@ -284,10 +307,8 @@ fn play_all<'a, W: Write>(
     // The process ends with its rehearsal, so the memory of the circuit is not given back piece by piece: that took up to a fifth of
     // the time.
     let _left = ManuallyDrop::new(stage);
-    match out.flush() {
-        Ok(()) => Ok(()),
-        Err(_) => Err(Fault::CannotWrite),
-    }
+    hand_on(out)?;
+    Ok(())
 }
 
 /// What `rehearse` is asked: where its three files are, and what they are read from.
@@ -344,12 +365,10 @@ pub fn rehearse<R: Read + Drop, S: Read + Drop, T: Read + Drop, W: Write, E: Wri
     ensures { HasRehearsed (inputs (R.remaining order.entry.table) (S.remaining order.entry.widths)) result
         (W.contents out.old) (W.contents out.new) }
 {
-    match rehearsed(alloc, order, out) {
-        Ok(()) => End::Done,
-        Err(fault) => {
-            // What the lines before the fault wrote stays.
-            let _ = out.flush();
-            fault.tell(err)
-        }
+    let outcome = rehearsed(alloc, order, out);
+    if outcome.is_err() {
+        // What the lines before the fault wrote stays.
+        let _ = out.flush();
     }
+    end_with(outcome, err)
 }

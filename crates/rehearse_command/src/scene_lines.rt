@@ -1,26 +1,27 @@
 //! What a rehearsal shows of a step: a line for what it did, one for each datagram, and the release.
 
 ghost use Rattle.std.specs.Prelude.{◌≡◌, ◌+◌, ◌≤◌, OnOk, codes, flat_map, length, string_bytes};
-ghost use Rattle.command_ends.specs.EntryText.{entry_text};
-ghost use Rattle.command_ends.specs.ReleaseText.{plain_line};
-ghost use Rattle.command_ends.specs.Writing.{Writes};
+ghost use Rattle.release_texts.specs.EntryText.{entry_text};
+ghost use Rattle.release_texts.specs.ReleaseText.{plain_line};
+ghost use Rattle.streams.specs.Writing.{Writes};
 ghost use Rattle.tape_frames.specs.Entries.{owned_entry};
 ghost use Rattle.rehearse_command.specs.Lines.{outcome_line, released_text};
 ghost use Rattle.rehearse_command.specs.Scenes.{shown_text};
 
 use crate::outcomes::OutcomeText;
-use command_ends::{PrintedRelease, PutFault, entry_text, put_line, put_release, put_set};
+use release_texts::{PrintedRelease, entry_text, put_line, put_release, put_set};
 use station::Datagram;
 use std::alloc::{AllocError, Global};
 use std::io::Write;
 use step_lines::{put_datagrams, release_line};
+use streams::PutFault;
 use tape_frames::Entry;
 use world::{Outcome, ReleaseLog, Seen};
 
 /// A step that is shown: what was seen of it, how many datagrams were sent before it, and the datagrams and the releases
 /// that it added.
 #[derive(Clone, Copy)]
-pub struct ShownStep<'a> {
+pub(crate) struct ShownStep<'a> {
     pub seen: Seen,
     pub before: usize,
     pub sent: &'a [Datagram],
@@ -45,10 +46,8 @@ fn put_outcome<W: Write>(
 ) -> Result<(), PutFault>
     ensures { Writes result (W.contents out.old) (W.contents out.new) (outcome_line member outcome) }
 {
-    match outcome_line(line, member, outcome) {
-        Ok(()) => put_line(line, out),
-        Err(_) => Err(PutFault::OutOfMemory),
-    }
+    outcome_line(line, member, outcome)?;
+    put_line(line, out)
 }
 
 /// Makes `line` the line of a release whose tape sets.
@@ -71,10 +70,10 @@ fn put_released<W: Write>(
     let number = release.number();
     let entry = release.entry();
     match (entry, release.set()) {
-        (Entry::Tape(_), Ok(slugs)) => match set_line(alloc, line, number, entry) {
-            Ok(()) => put_set(line, slugs, out),
-            Err(_) => Err(PutFault::OutOfMemory),
-        },
+        (Entry::Tape(_), Ok(slugs)) => {
+            set_line(alloc, line, number, entry)?;
+            put_set(line, slugs, out)
+        }
         (_, set) => {
             let printed = PrintedRelease {
                 lead: " ",
@@ -105,7 +104,7 @@ fn put_releases<W: Write>(
 /// Writes all that is seen of a step: what it did, and the datagrams and the releases that it added.
 ///
 /// Each line but that of a release whose tape does not set is made in `line`, whose memory serves them all.
-pub fn put_scene<W: Write>(
+pub(crate) fn put_scene<W: Write>(
     alloc: Global,
     line: &mut String,
     step: &ShownStep<'_>,

@@ -8,7 +8,7 @@ use rolls::{Page, RollBody};
 
 /// An ask of a member that waits to be answered.
 #[derive(Clone, Copy, Default)]
-pub struct Ask {
+pub(crate) struct Ask {
     /// The number of the asker's, which the answer repeats.
     pub asked: u32,
     /// The page that is asked for: which numbers of it have a vote. None where how many of each page have one is asked.

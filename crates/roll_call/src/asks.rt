@@ -22,7 +22,7 @@ const QUIET: u64 = 1000;
 
 /// What a member is asked.
 #[derive(Clone, Copy)]
-pub struct Question {
+pub(crate) struct Question {
     /// The member.
     pub to: Member,
     /// The station's number of the ask.

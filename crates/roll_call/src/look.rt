@@ -2,7 +2,7 @@
 
 /// A moment, and what came until then.
 #[derive(Clone, Copy)]
-pub struct RollLook {
+pub(crate) struct RollLook {
     /// The moment, in milliseconds.
     pub moment: u64,
     /// How many packets came and votes were saved, counted over and over from 0.

@@ -18,7 +18,7 @@ const MOST_TRIES: u8 = 6;
 
 /// What a member was asked for last and did not tell yet.
 #[derive(Clone, Copy)]
-pub struct PendingAsk {
+pub(crate) struct PendingAsk {
     /// The station's number of the ask.
     pub asked: u32,
     /// The page, or none where its counts were asked for.

@@ -6,10 +6,10 @@ use Rattle.std.proofs.lemmas.List.{append-nil}
 use Rattle.protocol.specs.Rows.{Row}
 use Rattle.streams.specs.Fronts.{AppendsFront}
 use Rattle.streams.proofs.Fronts.{front_of_all}
-use Rattle.saved_rows.specs.Saved.{Saved}
-use Rattle.saved_rows.specs.declared.identity.Identity.{Identity}
+use Rattle.rows_saved.specs.Saved.{Saved}
+use Rattle.rows_saved.specs.declared.identity.Identity.{Identity}
 use Rattle.acceptor_store.specs.Reading.{IsFrontOf}
-use Rattle.command_ends.specs.declared.fault.PutFault.{PutFault}
+use Rattle.streams.specs.declared.output.PutFault.{PutFault}
 use Rattle.rows_command.specs.RowsText.{row_line, station_line, rows_text, IsFrontPrinted}
 use Rattle.rows_command.specs.Printing.{head_text, Prints, PrintsAll}
 use Rattle.rows_command.proofs.Listings.{begun as front_begun, behind}

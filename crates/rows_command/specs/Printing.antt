@@ -3,9 +3,9 @@ use Rattle.std.specs.Prelude.{◌≡◌, ℕ, List, [], Bool, true, false, Optio
 use Rattle.std.specs.Io.KnownBytes.{Appends}
 use Rattle.protocol.specs.Rows.{Row}
 use Rattle.streams.specs.Fronts.{AppendsFront}
-use Rattle.saved_rows.specs.Saved.{Saved, IsListOf}
-use Rattle.saved_rows.specs.declared.identity.Identity.{Identity}
-use Rattle.command_ends.specs.declared.fault.PutFault.{PutFault}
+use Rattle.rows_saved.specs.Saved.{Saved, IsListOf}
+use Rattle.rows_saved.specs.declared.identity.Identity.{Identity}
+use Rattle.streams.specs.declared.output.PutFault.{PutFault}
 use Rattle.rows_command.specs.declared.printing.RowPrinter.{RowPrinter}
 use Rattle.rows_command.specs.RowsText.{station_line, rows_text}
 

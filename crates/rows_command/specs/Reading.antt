@@ -1,7 +1,7 @@
 -- What becomes of saved rows while a command is at them.
 use Rattle.std.specs.Prelude.{◌≡◌, ℕ, Bool, List, Option, Result, IfErr, IsErr, IsTrue}
 use Rattle.sqlite_trees.specs.declared.store.Store.{Ghosts}
-use Rattle.saved_rows.specs.Saved.{Saved, SameRows}
+use Rattle.rows_saved.specs.Saved.{Saved, SameRows}
 use Rattle.acceptor_store.specs.Sqlite.{SqliteOf, IsKept, IsOpen, MayLeave, saved_of}
 use Rattle.command_ends.specs.Ends.{end_of, IsOfRows}
 use Rattle.command_ends.specs.declared.fault.Fault.{Fault}

@@ -1,16 +1,14 @@
 -- What `rows` writes: whose rows they are, and a line for each. And what `upgrade` writes.
-use Rattle.std.specs.Prelude.{◌≡◌, ◌⊎◌, ℕ, List, ◌++◌, Option, Some, None, codes, decimal, flat_map}
+use Rattle.std.specs.Prelude.{◌≡◌, ◌⊎◌, ℕ, List, ◌++◌, Option, Some, None, Result, OnOk, codes, decimal, flat_map}
 use Rattle.std.specs.Io.KnownBytes.{Appends}
 use Rattle.protocol.specs.Ballots.{Ballot}
 use Rattle.protocol.specs.Rows.{Vote, Row}
 use Rattle.protocol.specs.Versions.{Version, Two}
 use Rattle.ballots.specs.Texts.{ballot_text}
 use Rattle.streams.specs.Fronts.{AppendsFront}
-use Rattle.saved_rows.specs.Saved.{Saved, IsListOf}
-use Rattle.saved_rows.specs.declared.identity.Identity.{Identity}
-use Rattle.command_ends.specs.EntryText.{entry_text}
-use Rattle.command_ends.specs.declared.end.End.{End}
-use Rattle.command_ends.specs.declared.end.End.TheVariants.{Done}
+use Rattle.rows_saved.specs.Saved.{Saved, IsListOf}
+use Rattle.rows_saved.specs.declared.identity.Identity.{Identity}
+use Rattle.release_texts.specs.EntryText.{entry_text}
 
 -- a promise is its ballot, or a mark where there is none
 abbrev pub promise_text : Option Ballot → List ℕ
@@ -50,9 +48,9 @@ pub record IsFrontPrinted (saved : Saved) (station : Identity) (old new : Option
   pub are_all : IsListOf saved rows
   pub wrote : AppendsFront old new (rows_text station rows)
 
--- where it ends well, all of that was written
-abbrev pub PrintsWhereDone : End → Saved → Identity → Option (List ℕ) → Option (List ℕ) → Type 0
-PrintsWhereDone result saved station old new = result ≡ Done → IsPrinted saved station old new
+-- where there was no fault, all of that was written
+abbrev pub PrintsWhereDone : {A E : Type 0} → Result A E → Saved → Identity → Option (List ℕ) → Option (List ℕ) → Type 0
+PrintsWhereDone result saved station old new = OnOk result (IsPrinted saved station old new)
 
 -- nothing was written, or a front of that
 abbrev pub PrintsNoneOrFront : Saved → Identity → Option (List ℕ) → Option (List ℕ) → Type 0

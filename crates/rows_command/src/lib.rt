@@ -1,5 +1,4 @@
-//! The commands over saved rows: `rows`, which writes a line for each, and `upgrade`, which takes them over to the second
-//! layout.
+//! The commands over saved rows: `rows`, which writes a line for each, and `upgrade`, which upgrades them to layout 2.
 #![tactic(auto)]
 
 mod listing;

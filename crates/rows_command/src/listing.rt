@@ -6,15 +6,16 @@ ghost use Rattle.rows_command.specs.RowsText.{PrintsWhereDone};
 ghost use Rattle.rows_command.specs.Printing.{head_text};
 ghost use Rattle.rows_command.specs.Reading.{PrintsRows, PrintsSeen};
 ghost use Rattle.command_ends.specs.Ends.{end_of, IsOfRows};
-ghost use Rattle.command_ends.specs.Writing.{Writes};
+ghost use Rattle.streams.specs.Writing.{Writes};
 
 use crate::printing::{RowPrinter, RowsHead, put_head};
 use acceptor_store::SqliteRows;
-use command_ends::{End, Fault, PutFault};
-use saved_rows::RowsFault;
+use command_ends::Fault;
+use rows_saved::RowsFault;
 use sqlite::Alter;
 use std::alloc::Global;
 use std::io::Write;
+use streams::{PutFault, hand_on};
 
 /// Why it did not come to the last row: a fault of the rows, or one of a line.
 fn ended(seen: Result<bool, RowsFault>, fault: Option<PutFault>) -> Result<(), Fault<'static>>
@@ -26,7 +27,7 @@ fn ended(seen: Result<bool, RowsFault>, fault: Option<PutFault>) -> Result<(), F
     }
     match fault {
         None => Ok(()),
-        Some(fault) => Err(Fault::of_writing(fault)),
+        Some(fault) => Err(Fault::from(fault)),
     }
 }
 
@@ -54,10 +55,8 @@ fn put_end<W: Write>(head: RowsHead, out: &mut W) -> Result<(), PutFault>
     ensures { Writes result (W.contents out.old) (W.contents out.new) (head_text head.station head.begun) }
 {
     put_head(head, out)?;
-    match out.flush() {
-        Ok(()) => Ok(()),
-        Err(_) => Err(PutFault::CannotWrite),
-    }
+    hand_on(out)?;
+    Ok(())
 }
 
 /// Writes `station M of C circuit K`, and then for each row that is saved, in order of the numbers, a line
@@ -65,32 +64,26 @@ fn put_end<W: Write>(head: RowsHead, out: &mut W) -> Result<(), PutFault>
 /// a withdrawal `void` stands in the place of the frames.
 ///
 /// Each line is written as its row is read, so that no list of the rows is kept, and no row is changed. Where a row can't be
-/// read, or memory or the writer fails, a front of the text was written, and `err` has the fault; nothing was where that comes
-/// before the first row.
-pub fn print_rows<S: Alter + Drop, W: Write, E: Write>(
+/// read, or memory or the writer fails, a front of the text was written; nothing was where that comes before the first row.
+pub fn print_rows<S: Alter + Drop, W: Write>(
     alloc: Global,
     rows: &mut SqliteRows<S>,
     out: &mut W,
-    err: &mut E,
-) -> End
+) -> Result<(), Fault<'static>>
     ensures done { IsKept S.Store rows.new → PrintsWhereDone result (saved_of S.Store rows.old) rows.old.identity (W.contents out.old) (W.contents out.new) }
     ensures prints { PrintsRows S.Store rows.old rows.new (W.contents out.old) (W.contents out.new) }
 
     // A fault of the rows, the output or memory ends it, and nothing else.
-    ensures ends { IsOfRows result }
+    ensures fault { IfErr result (λ fault. IsOfRows (end_of fault)) }
 {
     let station = rows.identity();
     let (begun, printed) = print_seen(alloc, rows, out);
-    if let Err(fault) = printed {
-        return fault.tell(err);
-    }
+    printed?;
     let head = RowsHead {
         alloc,
         station,
         begun,
     };
-    match put_end(head, out) {
-        Ok(()) => End::Done,
-        Err(fault) => Fault::of_writing(fault).tell(err),
-    }
+    put_end(head, out)?;
+    Ok(())
 }

@@ -2,17 +2,18 @@
 
 ghost use Rattle.std.specs.Prelude.{◌++◌, IsSome, refl};
 ghost use Rattle.std.proofs.Common.{sym, subst₂};
-ghost use Rattle.command_ends.specs.Writing.{Writes};
+ghost use Rattle.streams.specs.Writing.{Writes};
 ghost use Rattle.rows_command.specs.RowsText.{row_line};
 ghost use Rattle.rows_command.specs.Printing.{head_text, PrintsNone, PrintsOn};
 
 use crate::texts::{row_line, station_line};
 use acceptor_store::RowVisitor;
 use ballots::{Number, Row};
-use command_ends::{PutFault, put_line};
-use saved_rows::Identity;
+use release_texts::put_line;
+use rows_saved::Identity;
 use std::alloc::Global;
 use std::io::Write;
+use streams::PutFault;
 
 /// What is to stand before the rows: whose they are, unless that stands there, and where the memory for a line is from.
 #[derive(Clone, Copy)]
@@ -29,19 +30,15 @@ pub(crate) fn put_head<W: Write>(head: RowsHead, out: &mut W) -> Result<(), PutF
     if head.begun {
         return Ok(());
     }
-    match station_line(head.alloc, head.station) {
-        Ok(line) => put_line(&line, out),
-        Err(_) => Err(PutFault::OutOfMemory),
-    }
+    let line = station_line(head.alloc, head.station)?;
+    put_line(&line, out)
 }
 
 fn put_row<W: Write>(alloc: Global, number: Number, row: &Row, out: &mut W) -> Result<(), PutFault>
     ensures { Writes result (W.contents out.old) (W.contents out.new) (row_line (number, row.now)) }
 {
-    match row_line(alloc, number, row) {
-        Ok(line) => put_line(&line, out),
-        Err(_) => Err(PutFault::OutOfMemory),
-    }
+    let line = row_line(alloc, number, row)?;
+    put_line(&line, out)
 }
 
 /// Writes the line of the next row, and before that of the first whose rows they are.

@@ -5,8 +5,8 @@ ghost use Rattle.ballots.specs.Texts.{ballot_text};
 ghost use Rattle.rows_command.specs.RowsText.{promise_text, vote_text, row_line, station_line};
 
 use ballots::{Ballot, Number, Row, Vote};
-use command_ends::entry_text;
-use saved_rows::Identity;
+use release_texts::entry_text;
+use rows_saved::Identity;
 use std::alloc::{AllocError, Global};
 
 fn ballot_text(alloc: Global, ballot: Ballot) -> Result<String, AllocError>

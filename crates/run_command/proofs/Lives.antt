@@ -7,7 +7,7 @@ use Rattle.station.specs.declared.answer.Answer.{Answer}
 use Rattle.folders.specs.Doings.{Doing, wrote_file, Does, WritesSome}
 use Rattle.folders.specs.Written.{File}
 use Rattle.folders.proofs.Doings.{does_nothing, does_then}
-use Rattle.saved_rows.specs.declared.rows.Rows.{Ghosts}
+use Rattle.rows_saved.specs.declared.rows.Rows.{Ghosts}
 use Rattle.station.specs.declared.station.Station.{Station}
 use Rattle.wire.specs.Passing.{Trace}
 use Rattle.command_ends.specs.declared.end.End.{End}

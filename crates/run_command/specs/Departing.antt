@@ -1,8 +1,8 @@
 -- What is to be done with files, and where those go that leave the offers.
 use Rattle.std.specs.Prelude.{◌≡◌, ◌++◌, ℕ, Bool, true, List, [], Option, Some, None, IfSome, String, codes, string_bytes}
 use Rattle.std.specs.Global.{Global}
-use Rattle.command_ends.specs.EntryText.{entry_text}
-use Rattle.command_ends.specs.ReleaseText.{plain_line}
+use Rattle.release_texts.specs.EntryText.{entry_text}
+use Rattle.release_texts.specs.ReleaseText.{plain_line}
 use Rattle.folders.specs.declared.names.FileRequest.{FileRequest}
 use Rattle.folders.specs.declared.leaving.Place.{Place}
 use Rattle.folders.specs.declared.leaving.Place.TheVariants.{Sent, Lost, Refused, Done}

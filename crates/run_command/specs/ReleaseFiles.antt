@@ -9,7 +9,7 @@ use Rattle.station.specs.Readiness.{slugs_of}
 use Rattle.station.specs.declared.answer.Release.{Release}
 use Rattle.station.specs.declared.answer.Answer.{Answer}
 use Rattle.refusals.specs.declared.refusal.StepRefusal.{StepRefusal}
-use Rattle.command_ends.specs.ReleaseText.{cause_text}
+use Rattle.refusals.specs.CauseWords.{cause_text}
 use Rattle.driver.specs.Events.{Event, asked, took, stored, aside}
 use Rattle.folders.specs.Written.{File}
 

@@ -3,18 +3,18 @@
 
 ghost use Rattle.std.specs.Prelude.{◌≡◌, [], IfOk, codes, string_bytes};
 ghost use Rattle.tape_frames.specs.Entries.{lent_entry};
-ghost use Rattle.command_ends.specs.EntryText.{entry_text};
-ghost use Rattle.command_ends.specs.ReleaseText.{plain_line};
+ghost use Rattle.release_texts.specs.EntryText.{entry_text};
+ghost use Rattle.release_texts.specs.ReleaseText.{plain_line};
 ghost use Rattle.run_command.specs.Departing.{IsBeside, IsReason, TellsDeparture, left_event, place_of};
 ghost use Rattle.run_command.specs.Working.{Departs, MayDepart};
 
 use crate::plant::Papers;
 use crate::status::note_left;
-use command_ends::entry_text;
 use driver::Log;
 use folders::{FolderFault, Folders, Leaving, Place, name_of};
 use offers::{FoundOffer, OfferFault};
 use plant_log::{LogEvent, ReasonText, Told, Trouble};
+use release_texts::entry_text;
 use std::alloc::{AllocError, Global};
 use std::io::Write;
 use tape_frames::EntryRef;

@@ -81,9 +81,7 @@ impl<F: Folders, S: StatusFile> Desk for PlantDesk<'_, '_, '_, F, S> {
         log: &mut Log<'_, E>,
     ) -> Result<(), Fault<'static>> {
         let alloc = self.plant.papers.journal.alloc;
-        if keep_files(alloc, &step.answer.release, &mut self.plant.waits).is_err() {
-            return Err(Fault::OutOfMemory);
-        }
+        keep_files(alloc, &step.answer.release, &mut self.plant.waits)?;
         self.plant.papers.note(step, log);
         Ok(())
     }

@@ -50,7 +50,7 @@ impl Papers {
             }
         };
         tell_news(self.journal.alloc, listing.news.as_slice(), log.err);
-        match self.looking.take(listing, now) {
+        match self.looking.push(listing, now) {
             Some(Ok(seen)) => self.take_seen(seen, now, log),
             Some(Err(_)) => {
                 let told = &mut self.journal.told;

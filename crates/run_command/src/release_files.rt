@@ -1,13 +1,13 @@
 //! Releases as files.
 
 ghost use Rattle.std.specs.Prelude.{◌≡◌, ◌++◌, OnOk, IfOk, codes, string_bytes};
-ghost use Rattle.command_ends.specs.ReleaseText.{cause_text};
+ghost use Rattle.refusals.specs.CauseWords.{cause_text};
 ghost use Rattle.station.specs.Readiness.{slugs_of};
 ghost use Rattle.run_command.specs.ReleaseFiles.{file, galley_text, files_of};
 
-use command_ends::CauseText;
 use folders::{NamedFile, file_name};
 use line_check::{SetFault, Slug, galley};
+use refusals::CauseText;
 use station::Release;
 use std::alloc::{AllocError, Global};
 use tape_frames::Entry;

@@ -9,23 +9,22 @@ use crate::desk::PlantDesk;
 use crate::plant::{Manner, Papers, Plant};
 use code_table::CodeTable;
 use command_ends::{End, Fault};
-use driver::{Driver, NewerLayouts};
+use driver::{Driver, Machine, NewerLayouts};
 use folders::{FolderFault, Folders, STOP};
 use gone_out::{Known, Origin};
 use log_terms::Loudness;
 use plant_care::{Care, CareStart, begin};
 use plant_log::tell_fault;
 use plant_status::{StationId, StatusFile};
-use saved_rows::{Rows, Settles};
-use station::{Station, StepRefusal};
+use rows_saved::{Rows, Settles};
+use station::StepRefusal;
 use std::alloc::Global;
 use std::io::Write;
 use wire::Wire;
 
 /// On which terms a station is run.
 #[derive(Drop)]
-pub struct Terms<'a, E: Write, S: StatusFile + Drop> {
-    pub alloc: Global,
+pub struct Terms<S: StatusFile + Drop> {
     /// Whose station it is.
     pub own: Origin,
     /// The numbers that have a saved row; not known of a station without folders, which catches up with nothing.
@@ -41,8 +40,6 @@ pub struct Terms<'a, E: Write, S: StatusFile + Drop> {
     /// Which station its status file tells of, where it has one, and where that lies.
     pub status: Option<StationId>,
     pub file: S,
-    /// What it tells goes there. That the writer fails is ignored.
-    pub err: &'a mut E,
 }
 
 /// Takes away a file that ended the run before; one that can't be is told, and passed over.
@@ -57,38 +54,34 @@ fn remove_stop<F: Folders, E: Write>(alloc: Global, folders: &mut F, err: &mut E
 
 /// With what a plant begins that catches up.
 #[derive(Drop)]
-struct Outset<'a, E: Write, S: StatusFile + Drop> {
-    alloc: Global,
+struct Outset<S: StatusFile + Drop> {
     manner: Manner,
     /// By which code table texts among the offers become tapes; by none where no text may be offered.
     texts: Option<CodeTable>,
     care: Box<Care>,
     /// Where its status lies.
     file: S,
-    err: &'a mut E,
     /// Whether faults alone are told.
     is_quiet: bool,
 }
 
 /// Takes a file away that ended the run before, and drives the station until its run is over.
-fn drive<R: Settles, N: Wire, F: Folders, E: Write, S: StatusFile + Drop>(
-    station: &mut Station<R>,
-    wire: &mut N,
-    folders: &mut F,
-    outset: Outset<'_, E, S>,
+fn drive<R: Settles, N: Wire + Drop, F: Folders + Drop, E: Write, S: StatusFile + Drop>(
+    machine: &mut Machine<R, N, F>,
+    outset: Outset<S>,
+    err: &mut E,
 ) -> End
-    ensures { RunsUpTo outset.entry.texts result R.Rows R.Settles.is_settled N.passed F.doings station.old station.new wire.old wire.new folders.old folders.new }
+    ensures { RunsUpTo outset.texts result R.Rows R.Settles.is_settled N.passed F.doings machine.old machine.new }
 {
     let Outset {
-        alloc,
         manner,
         texts,
         care,
         mut file,
-        err,
         is_quiet,
     } = outset;
-    remove_stop(alloc, folders, err);
+    let alloc = machine.alloc;
+    remove_stop(alloc, &mut machine.outside, err);
     let waits = Vec::new(alloc);
     let papers = Papers::new(alloc, manner, care);
     let mut plant = Plant {
@@ -96,35 +89,33 @@ fn drive<R: Settles, N: Wire, F: Folders, E: Write, S: StatusFile + Drop>(
         texts,
         papers,
     };
-    let desk = PlantDesk::new(folders, &mut plant, &mut file);
+    let desk = PlantDesk::new(&mut machine.outside, &mut plant, &mut file);
     let mut newer = NewerLayouts::new();
-    let mut driver = Driver::new(station, wire, desk, &mut newer);
+    let mut driver = Driver::new(&mut machine.station, &mut machine.wire, desk, &mut newer);
     driver.run(alloc, err, is_quiet)
 }
 
-/// Runs a station over the folders of its plant, until a file `stop` lies among the offers, or the station stops, the network
-/// fails, or there is no memory for the files of a release; `err` has the fault. A file `stop` that lies there at the start is
-/// taken away.
+/// Runs a station over the folders of its plant, which its machine has outside, until a file `stop` lies among the offers, or the station
+/// stops, the network fails, or there is no memory for the files of a release. A file `stop` that lies there at the start is taken away.
+/// `err` has the fault, and what is told on the way; that it can't be written is ignored.
 ///
 /// Steps of the station share a save. Once what they saved is stored, what they hand out is sent, and what they release is written among
 /// the releases, or waits to be where the folder does not take it. What went out before is read of the folders, and what is missing is
 /// caught up with. What lies among the offers is taken up once it is whole, a text as the tape that it becomes, and leaves them once its
 /// number is released, or where it is no offer. A folder that does not serve is told, and the station goes on.
-pub fn run_station<R: Settles, N: Wire, F: Folders, E: Write, S: StatusFile + Drop>(
-    station: &mut Station<R>,
-    wire: &mut N,
-    folders: &mut F,
-    terms: Terms<'_, E, S>,
+pub fn run_station<R: Settles, N: Wire + Drop, F: Folders + Drop, E: Write, S: StatusFile + Drop>(
+    machine: &mut Machine<R, N, F>,
+    terms: Terms<S>,
+    err: &mut E,
 ) -> End
-    ensures was_kept { R.kept station.new.rows → R.kept station.old.rows }
-    ensures runs { RunsUpTo terms.entry.texts result R.Rows R.Settles.is_settled N.passed F.doings station.old station.new wire.old wire.new folders.old folders.new }
-    ensures goes_on { result ≡ Done → station.new.stopped ≡ false }
+    ensures was_kept { R.kept machine.new.station.rows → R.kept machine.old.station.rows }
+    ensures runs { RunsUpTo terms.texts result R.Rows R.Settles.is_settled N.passed F.doings machine.old machine.new }
+    ensures goes_on { result ≡ Done → machine.new.station.stopped ≡ false }
 {
-    let alloc = terms.alloc;
     let loudness = terms.loudness;
     let is_quiet = loudness == Loudness::Faults;
     let start = CareStart {
-        alloc,
+        alloc: machine.alloc,
         own: terms.own,
         known: terms.known,
         catches_up: terms.catches_up,
@@ -135,20 +126,18 @@ pub fn run_station<R: Settles, N: Wire, F: Folders, E: Write, S: StatusFile + Dr
         loudness,
         status: terms.status,
     };
-    if station.stopped() {
-        return Fault::of_step(StepRefusal::Stopped).tell(terms.err);
+    if machine.station.stopped() {
+        return Fault::of_step(StepRefusal::Stopped).tell(err);
     }
-    let Ok(care) = begin(start, folders, terms.err) else {
-        return Fault::OutOfMemory.tell(terms.err);
+    let Ok(care) = begin(start, &mut machine.outside, err) else {
+        return Fault::OutOfMemory.tell(err);
     };
     let outset = Outset {
-        alloc,
         manner,
         texts: terms.texts,
         care,
         file: terms.file,
-        err: terms.err,
         is_quiet,
     };
-    drive(station, wire, folders, outset)
+    drive(machine, outset, err)
 }

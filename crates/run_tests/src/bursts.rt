@@ -1,12 +1,13 @@
 //! Many files at once, and much traffic: nothing is lost, few are under way, and a look comes whatever waits.
 
-use crate::plant::{RUN, Run, count_filed, station_of, terms};
+use crate::plant::{RUN, Run, count_filed, machine_of, station_of, terms};
 use crate::stage::Held::{Flood, Nothing};
 use crate::stage::Name::{Seek12, Stop, Tape12};
 use crate::stage::What::{Burst, Laid};
 use crate::stage::{Act, Stage};
-use crate::wires::{Flooded, Threesome, Ticking};
+use crate::wires::{Flooded, Threesome};
 use command_ends::End;
+use driver::Machine;
 use log_terms::Loudness;
 use run_command::run_station;
 use std::alloc::Global;
@@ -63,21 +64,22 @@ struct Came {
 /// A run of one of three stations at which this is laid. The others take in one datagram each in so many turns.
 fn three(alloc: Global, acts: &'static [Act], slowness: u32) -> Option<Came> {
     let run = Run { members: 3, ..RUN };
-    let mut station = station_of(alloc, &run)?;
-    let mut wire = Threesome::new(alloc, slowness)?;
-    let mut stage = Stage::new(alloc, acts);
+    let terms = terms(Loudness::All)?;
+    let station = station_of(alloc, &run)?;
+    let wire = Threesome::new(alloc, slowness)?;
+    let mut machine = Machine {
+        alloc,
+        station,
+        wire,
+        outside: Stage::new(alloc, acts),
+    };
     let mut err = Vec::new(alloc);
-    let end = run_station(
-        &mut station,
-        &mut wire,
-        &mut stage,
-        terms(alloc, Loudness::All, &mut err)?,
-    );
+    let end = run_station(&mut machine, terms, &mut err);
     Some(Came {
         end,
         err,
-        filed: count_filed(&stage.folders),
-        others: wire.released()?,
+        filed: count_filed(&machine.outside.folders),
+        others: machine.wire.released()?,
     })
 }
 
@@ -135,21 +137,17 @@ const NONE: Told = Told {
 
 /// The lines of a run of one of three stations, among which nobody answers, at which seventeen stories are laid.
 fn unanswered(alloc: Global) -> Option<Vec<u8>> {
-    let run = Run { members: 3, ..RUN };
-    let mut station = station_of(alloc, &run)?;
-    let mut wire = Ticking {
-        moment: 0,
-        tick: 5,
-        until: 16_000,
+    let run = Run {
+        members: 3,
+        acts: &[Act(1, Burst(17))],
+        quarters: 64,
+        ..RUN
     };
-    let mut stage = Stage::new(alloc, &[Act(1, Burst(17))]);
+    let terms = terms(Loudness::All)?;
+    let mut machine = machine_of(alloc, &run)?;
+    machine.wire.tick = 5;
     let mut err = Vec::new(alloc);
-    let _ = run_station(
-        &mut station,
-        &mut wire,
-        &mut stage,
-        terms(alloc, Loudness::All, &mut err)?,
-    );
+    let _ = run_station(&mut machine, terms, &mut err);
     Some(err)
 }
 
@@ -179,23 +177,22 @@ fn given_up_leaves_the_window(rt: HostRuntime) {
 
 /// Whether a run on a wire that is full of datagrams sees the file that ends it, and tells that some found no place.
 fn hears(alloc: Global) -> Option<bool> {
-    let mut station = station_of(alloc, &RUN)?;
-    let mut wire = Flooded {
+    let terms = terms(Loudness::All)?;
+    let mut machine = Machine {
         alloc,
-        moment: 0,
-        left: 4_000,
-        lost: Some(7),
+        station: station_of(alloc, &RUN)?,
+        wire: Flooded {
+            alloc,
+            moment: 0,
+            left: 4_000,
+            lost: Some(7),
+        },
+        outside: Stage::new(alloc, &[Act(3, Laid(Stop, Nothing))]),
     };
-    let mut stage = Stage::new(alloc, &[Act(3, Laid(Stop, Nothing))]);
     let mut err = Vec::new(alloc);
-    let end = run_station(
-        &mut station,
-        &mut wire,
-        &mut stage,
-        terms(alloc, Loudness::All, &mut err)?,
-    );
+    let end = run_station(&mut machine, terms, &mut err);
     let told = err.as_slice() == "socket: 7 datagrams found no place in memory\n".as_bytes();
-    Some(end == End::Done && told && wire.left > 3_000)
+    Some(end == End::Done && told && machine.wire.left > 3_000)
 }
 
 #[test]

@@ -3,6 +3,7 @@
 use crate::plant::terms;
 use ballots::Member;
 use command_ends::End;
+use driver::Machine;
 use folders::NoFolders;
 use log_terms::Loudness;
 use run_command::run_station;
@@ -46,20 +47,20 @@ impl Wire for Repeating {
 
 /// What is told where so many come, and nothing but faults is told.
 fn told(alloc: Global, count: u32) -> Option<Vec<u8>> {
+    let terms = terms(Loudness::Faults)?;
     let rows = rows_with(alloc, Version::One, None)?;
-    let mut station = station_over(alloc, 1, 3, rows)?;
-    let mut wire = Repeating {
+    let mut machine = Machine {
         alloc,
-        moment: 0,
-        left: count,
+        station: station_over(alloc, 1, 3, rows)?,
+        wire: Repeating {
+            alloc,
+            moment: 0,
+            left: count,
+        },
+        outside: NoFolders,
     };
     let mut err = Vec::new(alloc);
-    let end = run_station(
-        &mut station,
-        &mut wire,
-        &mut NoFolders,
-        terms(alloc, Loudness::Faults, &mut err)?,
-    );
+    let end = run_station(&mut machine, terms, &mut err);
     (end == End::Socket).then_some(err)
 }
 

@@ -1,8 +1,7 @@
 //! What a plant does about a vote of its own that was released nowhere, and what it keeps of what went out.
 
-use crate::plant::{RUN, Run, Saved, holds, own, station_of, terms};
+use crate::plant::{RUN, Run, Saved, holds, machine_of, own, terms};
 use crate::stage::Stage;
-use crate::wires::Ticking;
 use ballots::Number;
 use command_ends::End;
 use gone_out::{Known, head, record};
@@ -61,21 +60,17 @@ fn lay(alloc: Global, stage: &mut Stage, bytes: &[u8]) -> Result<(), AllocError>
 fn told(alloc: Global, kept: Kept, folders: &str) -> Option<Vec<u8>> {
     let run = Run {
         saved: Saved::Vote,
+        quarters: 40,
         ..RUN
     };
-    let mut station = station_of(alloc, &run)?;
-    let mut wire = Ticking {
-        moment: 0,
-        tick: 25,
-        until: 10_000,
-    };
-    let mut stage = Stage::new(alloc, &[]);
-    lay(alloc, &mut stage, bytes_of(alloc, kept)?.as_slice()).ok()?;
-    let mut err = Vec::new(alloc);
-    let mut terms = terms(alloc, Loudness::Usual, &mut err)?;
+    let mut terms = terms(Loudness::Usual)?;
     terms.known = known(alloc);
-    let end = run_station(&mut station, &mut wire, &mut stage, terms);
-    let is_right = end == End::Socket && holds(alloc, &stage.folders, folders);
+    let bytes = bytes_of(alloc, kept)?;
+    let mut machine = machine_of(alloc, &run)?;
+    lay(alloc, &mut machine.outside, bytes.as_slice()).ok()?;
+    let mut err = Vec::new(alloc);
+    let end = run_station(&mut machine, terms, &mut err);
+    let is_right = end == End::Socket && holds(alloc, &machine.outside.folders, folders);
     is_right.then_some(err)
 }
 

@@ -1,19 +1,16 @@
 //! In which order a run does what it does with its folders.
 
-use crate::plant::{place_word, terms};
+use crate::plant::{RUN, Run, machine_of, place_word, terms};
+use crate::stage::Act as Happens;
 use crate::stage::Held::{Flood, Harvest, Nothing};
 use crate::stage::Name::{Stop, Tape12};
 use crate::stage::What::Laid;
-use crate::stage::{Act as Happens, Stage};
-use crate::wires::Ticking;
 use command_ends::End;
 use folders::Act;
 use log_terms::Loudness;
 use run_command::run_station;
-use station_fixtures::{rows_with, station_over};
 use std::alloc::Global;
 use std::io::Write;
-use tape_frames::Version;
 
 /// Writes a line for something that was done, unless a file was found; whether there was memory for it.
 fn put_act(act: &Act, text: &mut Vec<u8>) -> bool {
@@ -31,33 +28,22 @@ fn put_act(act: &Act, text: &mut Vec<u8>) -> bool {
 /// What was done with the folders of a plant in a run of a circuit of one, in which a tape is laid there, then
 /// another one of its number, and then `stop`.
 fn done(alloc: Global) -> Option<Vec<u8>> {
-    let rows = rows_with(alloc, Version::Two, None)?;
-    let mut station = station_over(alloc, 1, 1, rows)?;
-    let mut stage = Stage::new(
-        alloc,
-        &[
+    let run = Run {
+        acts: &[
             Happens(1, Laid(Tape12, Flood)),
             Happens(10, Laid(Tape12, Harvest)),
             Happens(20, Laid(Stop, Nothing)),
         ],
-    );
-    let mut wire = Ticking {
-        moment: 0,
-        tick: 25,
-        until: 15_000,
+        ..RUN
     };
+    let terms = terms(Loudness::Faults)?;
+    let mut machine = machine_of(alloc, &run)?;
     let mut err = Vec::new(alloc);
-    if run_station(
-        &mut station,
-        &mut wire,
-        &mut stage,
-        terms(alloc, Loudness::Faults, &mut err)?,
-    ) != End::Done
-    {
+    if run_station(&mut machine, terms, &mut err) != End::Done {
         return None;
     }
     let mut text = Vec::new(alloc);
-    for act in stage.folders.acts() {
+    for act in machine.outside.folders.acts() {
         if !put_act(act, &mut text) {
             return None;
         }

@@ -5,12 +5,13 @@ use crate::wires::Ticking;
 use ballots::Member;
 use code_table::CodeTable;
 use command_ends::End;
+use driver::Machine;
 use folders::{Act as Doing, MemoryFolders, Place};
 use gone_out::Origin;
 use log_terms::Loudness;
 use plant_status::NoStatus;
+use rows_saved::MemoryRows;
 use run_command::{Terms, run_station};
-use saved_rows::MemoryRows;
 use station::Station;
 use station_fixtures::{rows_with, rows_with_vote, station_over};
 use std::alloc::Global;
@@ -154,14 +155,9 @@ pub fn own() -> Option<Origin> {
     })
 }
 
-/// The terms of a run that tells this writer, and takes no texts.
-pub fn terms(
-    alloc: Global,
-    loudness: Loudness,
-    err: &mut Vec<u8>,
-) -> Option<Terms<'_, Vec<u8>, NoStatus>> {
+/// The terms of a run that takes no texts.
+pub fn terms(loudness: Loudness) -> Option<Terms<NoStatus>> {
     Some(Terms {
-        alloc,
         own: own()?,
         known: None,
         texts: None,
@@ -170,51 +166,44 @@ pub fn terms(
         status: None,
         file: NoStatus,
         loudness,
-        err,
     })
 }
 
-/// The same terms, where texts become tapes by this table, if by any.
-pub fn terms_by(
-    alloc: Global,
-    texts: Option<CodeTable>,
-    err: &mut Vec<u8>,
-) -> Option<Terms<'_, Vec<u8>, NoStatus>> {
-    Some(Terms {
+/// The terms of a run in which texts become tapes by this table, if by any.
+pub fn terms_by(texts: Option<CodeTable>) -> Option<Terms<NoStatus>> {
+    let mut terms = terms(Loudness::All)?;
+    terms.texts = texts;
+    Some(terms)
+}
+
+/// The station of a run, on a wire on which nothing comes, and what happens to its folders.
+pub fn machine_of(alloc: Global, run: &Run) -> Option<Machine<MemoryRows, Ticking, Stage>> {
+    Some(Machine {
         alloc,
-        own: own()?,
-        known: None,
-        texts,
-        renamed: false,
-        catches_up: true,
-        status: None,
-        file: NoStatus,
-        loudness: Loudness::All,
-        err,
+        station: station_of(alloc, run)?,
+        wire: Ticking {
+            moment: 0,
+            tick: 25,
+            until: run.quarters.saturating_mul(250),
+        },
+        outside: Stage::new(alloc, run.acts),
     })
 }
 
-/// Whether a run ends and tells as it has to.
-fn ends(alloc: Global, stage: &mut Stage, run: &Run) -> bool {
-    let Some(mut station) = station_of(alloc, run) else {
-        return false;
-    };
-    let mut wire = Ticking {
-        moment: 0,
-        tick: 25,
-        until: run.quarters.saturating_mul(250),
-    };
+/// Whether a run on these terms comes to what it has to.
+pub fn comes_to(alloc: Global, terms: Terms<NoStatus>, run: &Run) -> Option<bool> {
+    let mut machine = machine_of(alloc, run)?;
     let mut err = Vec::new(alloc);
-    let Some(mut terms) = terms(alloc, run.loudness, &mut err) else {
-        return false;
-    };
-    terms.renamed = run.renamed;
-    let end = run_station(&mut station, &mut wire, stage, terms);
-    end == run.end && err.as_slice() == run.err.as_bytes()
+    let end = run_station(&mut machine, terms, &mut err);
+    let is_told = end == run.end && err.as_slice() == run.err.as_bytes();
+    Some(is_told && holds(alloc, &machine.outside.folders, run.folders))
 }
 
 /// Whether a run comes to what it has to.
 pub fn is_true(alloc: Global, run: &Run) -> bool {
-    let mut stage = Stage::new(alloc, run.acts);
-    ends(alloc, &mut stage, run) && holds(alloc, &stage.folders, run.folders)
+    let Some(mut terms) = terms(run.loudness) else {
+        return false;
+    };
+    terms.renamed = run.renamed;
+    comes_to(alloc, terms, run) == Some(true)
 }

@@ -1,11 +1,10 @@
 //! Files that are replaced, or taken away, while they are under way; three files of one number; and names that ask for nothing.
 
-use crate::plant::{RUN, Run, is_true, station_of, terms};
+use crate::plant::{RUN, Run, is_true, machine_of, terms};
+use crate::stage::Act;
 use crate::stage::Held::{Flood, Harvest, Nothing, Why};
 use crate::stage::Name::{Seek14, Stop, Tape12, Tape14, Withdraw14};
 use crate::stage::What::{Laid, Strays, Taken};
-use crate::stage::{Act, Stage};
-use crate::wires::Ticking;
 use command_ends::End;
 use log_terms::Loudness;
 use run_command::run_station;
@@ -83,25 +82,18 @@ fn three_wishes(rt: HostRuntime) {
 
 /// How many lines are told where so many files lie there whose names ask for nothing, beside a story; and the last.
 fn among_strays(alloc: Global) -> Option<(usize, bool)> {
-    let mut station = station_of(alloc, &RUN)?;
-    let mut wire = Ticking {
-        moment: 0,
-        tick: 25,
-        until: 15_000,
+    let run = Run {
+        acts: &[
+            Act(1, Strays(40)),
+            Act(1, Laid(Tape12, Flood)),
+            Act(20, Laid(Stop, Nothing)),
+        ],
+        ..RUN
     };
-    let acts = &[
-        Act(1, Strays(40)),
-        Act(1, Laid(Tape12, Flood)),
-        Act(20, Laid(Stop, Nothing)),
-    ];
-    let mut stage = Stage::new(alloc, acts);
+    let terms = terms(Loudness::All)?;
+    let mut machine = machine_of(alloc, &run)?;
     let mut err = Vec::new(alloc);
-    let end = run_station(
-        &mut station,
-        &mut wire,
-        &mut stage,
-        terms(alloc, Loudness::All, &mut err)?,
-    );
+    let end = run_station(&mut machine, terms, &mut err);
     let text = str::from_utf8(&err).ok()?;
     let refused = text
         .lines()

@@ -7,9 +7,10 @@ use crate::stage::What::Laid;
 use crate::stage::{Act, Stage};
 use crate::wires::Ticking;
 use command_ends::End;
+use driver::Machine;
 use log_terms::Loudness;
+use rows_saved::{Balky, Grouped};
 use run_command::run_station;
-use saved_rows::{Balky, Grouped};
 use station_fixtures::{rows_with, station_over};
 use std::alloc::Global;
 use tape_frames::Version;
@@ -24,21 +25,20 @@ fn came_to(alloc: Global, is_refused: bool) -> Option<(End, usize)> {
     if is_refused {
         rows.arm(false);
     }
-    let mut station = station_over(alloc, 1, 1, Grouped::new(alloc, rows))?;
-    let mut stage = Stage::new(alloc, ACTS);
-    let mut wire = Ticking {
-        moment: 0,
-        tick: 25,
-        until: 15_000,
+    let terms = terms(Loudness::Faults)?;
+    let mut machine = Machine {
+        alloc,
+        station: station_over(alloc, 1, 1, Grouped::new(alloc, rows))?,
+        wire: Ticking {
+            moment: 0,
+            tick: 25,
+            until: 15_000,
+        },
+        outside: Stage::new(alloc, ACTS),
     };
     let mut err = Vec::new(alloc);
-    let end = run_station(
-        &mut station,
-        &mut wire,
-        &mut stage,
-        terms(alloc, Loudness::Faults, &mut err)?,
-    );
-    Some((end, count_filed(&stage.folders)))
+    let end = run_station(&mut machine, terms, &mut err);
+    Some((end, count_filed(&machine.outside.folders)))
 }
 
 /// The tape and its galley, by the step that votes for it; where that can't be stored, neither.

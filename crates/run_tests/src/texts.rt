@@ -1,14 +1,12 @@
 //! Texts among the offers.
 
-use crate::plant::{RUN, Run, Saved, holds, station_of, terms_by};
+use crate::plant::{RUN, Run, Saved, comes_to, terms_by};
+use crate::stage::Act;
 use crate::stage::Held::{FloodText, LastLine, Nothing};
 use crate::stage::Name::{Stop, Text12};
 use crate::stage::What::{Laid, Letters};
-use crate::stage::{Act, Stage};
-use crate::wires::Ticking;
 use code_table::CodeTable;
 use fixtures::CODES;
-use run_command::run_station;
 use std::alloc::Global;
 use tape_frames::Version;
 
@@ -39,29 +37,12 @@ fn table_of(alloc: Global, texts: Texts) -> Option<CodeTable> {
     }
 }
 
-/// Whether a run ends and tells as it has to, where texts become tapes by this table.
-fn ends(alloc: Global, stage: &mut Stage, run: &Run, texts: Option<CodeTable>) -> bool {
-    let Some(mut station) = station_of(alloc, run) else {
-        return false;
-    };
-    let mut wire = Ticking {
-        moment: 0,
-        tick: 25,
-        until: run.quarters.saturating_mul(250),
-    };
-    let mut err = Vec::new(alloc);
-    let Some(terms) = terms_by(alloc, texts, &mut err) else {
-        return false;
-    };
-    let end = run_station(&mut station, &mut wire, stage, terms);
-    end == run.end && err.as_slice() == run.err.as_bytes()
-}
-
 /// Whether a run comes to what it has to.
 fn is_true(alloc: Global, texts: Texts, run: &Run) -> bool {
-    let table = table_of(alloc, texts);
-    let mut stage = Stage::new(alloc, run.acts);
-    ends(alloc, &mut stage, run, table) && holds(alloc, &stage.folders, run.folders)
+    match terms_by(table_of(alloc, texts)) {
+        Some(terms) => comes_to(alloc, terms, run) == Some(true),
+        None => false,
+    }
 }
 
 /// A text is released as the tape that it becomes, and sent; where another stands by another table, it is lost. One that becomes no tape is

@@ -1,7 +1,7 @@
 //! Wires of the tests.
 
 use ballots::Member;
-use saved_rows::MemoryRows;
+use rows_saved::MemoryRows;
 use station::{Answer, Datagram, Station};
 use station_fixtures::{rows_with, station_over};
 use std::alloc::Global;

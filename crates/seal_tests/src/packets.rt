@@ -46,7 +46,7 @@ fn taken(alloc: Global, gathering: &mut Gathering, bytes: &[u8]) -> Option<Optio
     let keys = keys();
     let own = Member::new(2)?;
     match open(&keys, own, bytes) {
-        Ok(piece) => gathering.take(alloc, &keys, &piece).ok(),
+        Ok(piece) => gathering.push(alloc, &keys, &piece).ok(),
         Err(_) => None,
     }
 }

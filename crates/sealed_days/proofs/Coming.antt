@@ -5,7 +5,7 @@ use Rattle.std.proofs.lemmas.Bool.{eqb-true}
 use Rattle.std.specs.declared.net.socket_addr.SocketAddr.{SocketAddr}
 use Rattle.protocol.specs.Ballots.{IsMember}
 use Rattle.protocol.specs.Refusals.{Call, Offering, Seeking, Falling_due, Receiving, Recalling}
-use Rattle.saved_rows.specs.declared.rows.Rows.{Ghosts}
+use Rattle.rows_saved.specs.declared.rows.Rows.{Ghosts}
 use Rattle.pace.specs.declared.share.Incoming.{Incoming}
 use Rattle.seals.specs.Sealing.{label_of}
 use Rattle.seals.specs.Opening.{IsKeyAt, Opens}

@@ -3,7 +3,7 @@
 ghost use Rattle.sealed_days.specs.Keyed.{SealedLogsAgree, SealedOrdersAreInTurn, SealedPacketsCame};
 
 use process_days::laws;
-use saved_rows::Settles;
+use rows_saved::Settles;
 use wire::Socket;
 
 /// Where no tag is made without the key, each packet that the door of a member lets in was handed out to that member before, in the day,

@@ -104,7 +104,7 @@ impl SealedDoor {
         ensures admits { AdmitsPart self.old.keys self.old.own piece.now self.old.gathering self.new.gathering result }
         ensures keeps { KeepsDoor self.old self.new }
     {
-        match self.gathering.take(alloc, &self.keys, piece) {
+        match self.gathering.push(alloc, &self.keys, piece) {
             Ok(Some(packet)) => named(packet, piece.label.from(), self.own),
             Ok(None) => Brought::Part,
             Err(_) => Brought::Lost,

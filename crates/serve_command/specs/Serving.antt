@@ -4,19 +4,19 @@ use Rattle.std.specs.Io.KnownBytes.{Appends}
 use Rattle.streams.specs.Fronts.{AppendsFront}
 use Rattle.protocol.specs.Entries.{Entry, Tape, Void, Taped}
 use Rattle.protocol.specs.Refusals.{Offering, Seeking}
-use Rattle.saved_rows.specs.declared.rows.Rows.{Ghosts}
+use Rattle.rows_saved.specs.declared.rows.Rows.{Ghosts}
 use Rattle.tape_frames.specs.Entries.{owned_entry}
 use Rattle.station.specs.declared.answer.Answer.{Answer}
 use Rattle.station.specs.declared.answer.Release.{Release}
 use Rattle.refusals.specs.declared.refusal.StepRefusal.{StepRefusal}
 use Rattle.station.specs.Readiness.{slugs_of}
 use Rattle.wire.specs.Passing.{Trace}
-use Rattle.command_ends.specs.ReleaseText.{release_text}
+use Rattle.release_texts.specs.ReleaseText.{release_text}
 use Rattle.command_ends.specs.declared.end.End.{End}
 use Rattle.command_ends.specs.declared.end.End.TheVariants.{Done}
 use Rattle.driver.specs.Events.{Event, asked, took, stored, aside}
-use Rattle.driver.specs.Driving.{Fate, Post, known, post, Drove, AtClock, Then, IsTurn}
-use Rattle.serve_command.specs.declared.serve_loop.Machine.{Machine}
+use Rattle.driver.specs.Driving.{Fate, known, post_in, Drove, AtClock, Then, IsTurn}
+use Rattle.driver.specs.declared.machine.Machine.{Machine}
 use Rattle.serve_command.specs.declared.serve_loop.ServeTask.{ServeTask}
 
 -- a release is written as its line, and its galley where its tape sets
@@ -47,15 +47,11 @@ prints contents = record {
   front = λ old new log. AppendsFront (contents old) (contents new) (flat_map writing log);
 }
 
--- the station and the wire of a machine, and the output behind them
-abbrev pub post_of : {R N W : Type 0} → Machine R N → W → Post R N W
-post_of machine out = post machine.station machine.wire out
-
--- what `serve` did up to this end by events of this form, on a machine and its output as they were and as they are: rows that are kept in the
--- end were kept before, and a station that has stopped ends otherwise than well
+-- what `serve` did up to this end by events of this form, on a machine with its output, as it was and as it is: rows that are kept in the end
+-- were kept before, and a station that has stopped ends otherwise than well
 pub record ServesBy {R N W : Type 0} (Form : List Event → Type 0) (end : End) (rows : Ghosts R) (is_settled : R → Type 0) (passed : N → Trace)
-    (contents : W → Option (List ℕ)) (old new : Machine R N) (before after : W) : Type 0 where
-  pub done : Drove (known rows is_settled passed (prints contents)) (post_of old before) (post_of new after) end Form
+    (contents : W → Option (List ℕ)) (old new : Machine R N W) : Type 0 where
+  pub done : Drove (known rows is_settled passed (prints contents)) (post_in old) (post_in new) end Form
   pub was_kept : rows.kept new.station.rows → rows.kept old.station.rows
   pub goes_on : end ≡ Done → new.station.stopped ≡ false
 

@@ -4,4 +4,4 @@
 mod printer;
 mod serve_loop;
 
-pub use serve_loop::{Machine, ServeTask, ServeTurn, serve_run, serve_turn};
+pub use serve_loop::{ServeTask, ServeTurn, serve_run, serve_turn};

@@ -2,17 +2,19 @@
 
 ghost use Rattle.std.specs.Prelude.{◌≡◌, option_copied};
 ghost use Rattle.station.specs.Readiness.{slugs_of};
-ghost use Rattle.command_ends.specs.ReleaseText.{lent};
-ghost use Rattle.command_ends.specs.Writing.{Writes};
+ghost use Rattle.release_texts.specs.ReleaseText.{lent};
+ghost use Rattle.streams.specs.Writing.{Writes};
 ghost use Rattle.serve_command.specs.Serving.{release_of, printing};
 ghost use Rattle.serve_command.specs.Printed.{Printed, PrintedFront, printed};
 
-use command_ends::{Fault, PrintedRelease, PutFault, put_release};
+use command_ends::Fault;
 use driver::{HeardDatagram, Log, Outlet, Sink, TakenStep};
 use line_check::{SetFault, Slug};
+use release_texts::{PrintedRelease, put_release};
 use station::Release;
 use std::alloc::Global;
 use std::io::Write;
+use streams::{PutFault, hand_on};
 
 /// What setting the entry of a release gave, its slugs lent.
 fn lent_slugs(release: &Release) -> Result<&[Slug], SetFault>
@@ -36,10 +38,8 @@ fn announce<W: Write>(alloc: Global, release: &Release, out: &mut W) -> Result<(
         set: lent_slugs(release),
     };
     put_release(alloc, &printed, out)?;
-    match out.flush() {
-        Ok(()) => Ok(()),
-        Err(_) => Err(PutFault::CannotWrite),
-    }
+    hand_on(out)?;
+    Ok(())
 }
 
 /// The same, if there is one.
@@ -76,15 +76,13 @@ impl<W: Write> Sink for Printer<'_, W> {
 }
 
 impl<W: Write> Outlet for Printer<'_, W> {
-    fn take<E: Write>(
+    fn print<E: Write>(
         &mut self,
         step: &TakenStep,
         _log: &mut Log<'_, E>,
     ) -> Result<(), Fault<'static>> {
-        match announce_any(self.alloc, step.answer.release.as_ref(), self.out) {
-            Ok(()) => Ok(()),
-            Err(fault) => Err(Fault::of_writing(fault)),
-        }
+        announce_any(self.alloc, step.answer.release.as_ref(), self.out)?;
+        Ok(())
     }
 
     ghost free = { λ _ _. tt };

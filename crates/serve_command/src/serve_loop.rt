@@ -1,41 +1,17 @@
 //! The command `serve`: what a station is asked, and its turns.
 
 ghost use Rattle.std.specs.Prelude.{◌≡◌};
-ghost use Rattle.driver.specs.Events.{ended};
 ghost use Rattle.driver.specs.Driving.{DroveUpTo, IsTurn};
 ghost use Rattle.serve_command.specs.Serving.{ServesBy, IsOffer, IsWithdrawal, IsSearch, IsLaterAsking, IsAsking, AreTurns, IsRun};
 
 use crate::printer::Printer;
-use command_ends::{End, Fault};
-use driver::{Call, Driver, Log, NewerLayouts, Outlet};
-use saved_rows::{Rows, Settles};
-use station::{Station, StepRefusal};
-use std::alloc::Global;
+use command_ends::{End, Fault, end_with};
+use driver::{Call, Driver, Log, Machine, NewerLayouts, Outlet};
+use rows_saved::{Rows, Settles};
+use station::StepRefusal;
 use std::io::Write;
 use tape_frames::Tape;
 use wire::Wire;
-
-/// A station on a wire.
-#[derive(Drop)]
-pub struct Machine<R: Settles, N: Wire + Drop> {
-    alloc: Global,
-    pub station: Station<R>,
-    pub wire: N,
-}
-
-impl<R: Settles, N: Wire + Drop> Machine<R, N> {
-    /// This station on this wire.
-    pub fn new(alloc: Global, station: Station<R>, wire: N) -> Machine<R, N>
-        ensures station { result.station ≡ station }
-        ensures wire { result.wire ≡ wire }
-    {
-        Machine {
-            alloc,
-            station,
-            wire,
-        }
-    }
-}
 
 /// One turn: its moment in milliseconds, and when newer layouts were told last.
 #[derive(Drop)]
@@ -44,39 +20,28 @@ pub struct ServeTurn<'a> {
     pub newer: &'a mut NewerLayouts,
 }
 
-/// How what was done up to this result ends. A fault is told.
-fn end_after<E: Write>(done: Result<(), Fault<'static>>, err: &mut E) -> End
-    ensures { result ≡ ended done.entry }
-{
-    match done {
-        Ok(()) => End::Done,
-        Err(fault) => fault.tell(err),
-    }
-}
-
 /// One turn of a station at a moment in milliseconds: it takes in one datagram at most, and then sees to what is due.
 ///
-/// What the station hands out is sent, and a release is written, once what it saved is stored. A datagram that it refuses is passed over, a
-/// datagram that can't be sent is lost and told, and so are, once a second at most, those of strangers. One of a layout that the station does not read is told
-/// once a minute at most. The turn ends otherwise than by `Done` where the wire fails to receive, the station stops, or the output
-/// can't be written; `err` has the fault.
-pub fn serve_turn<R: Settles, N: Wire + Drop, W: Write, E: Write>(
-    machine: &mut Machine<R, N>,
+/// What the station hands out is sent, and a release is written to the machine's output, once what it saved is stored. A datagram that it
+/// refuses is passed over, a datagram that can't be sent is lost and told, and so are, once a second at most, those of strangers. One of a
+/// layout that the station does not read is told once a minute at most. The turn ends otherwise than by `Done` where the wire fails to
+/// receive, the station stops, or the output can't be written; `err` has the fault.
+pub fn serve_turn<R: Settles, N: Wire + Drop, W: Write + Drop, E: Write>(
+    machine: &mut Machine<R, N, W>,
     turn: ServeTurn<'_>,
-    out: &mut W,
     err: &mut E,
 ) -> End
-    ensures { ServesBy (IsTurn turn.entry.at) result R.Rows R.Settles.is_settled N.passed W.contents machine.old machine.new out.old out.new }
+    ensures { ServesBy (IsTurn turn.entry.at) result R.Rows R.Settles.is_settled N.passed W.contents machine.old machine.new }
 {
     let ServeTurn { at, newer } = turn;
     let printer = Printer {
         alloc: machine.alloc,
-        out,
+        out: &mut machine.outside,
     };
     let mut log = Log { err, quiet: false };
     let mut driver = Driver::new(&mut machine.station, &mut machine.wire, printer, newer);
     let done = driver.turn_at(at, &mut log);
-    end_after(done, log.err)
+    end_with(done, log.err)
 }
 
 /// What a station under `serve` does: what it is asked, as far as it is given, and how many turns it takes then.
@@ -193,14 +158,13 @@ fn ask_and_turn<R: Settles, N: Wire, S: Outlet, E: Write>(
 /// that does not end well.
 ///
 /// An offer, a withdrawal or a search that the station refuses ends it, and so does that it has stopped; `err` has the
-/// word. A station at version 1 refuses each withdrawal.
-pub fn serve_run<R: Settles, N: Wire + Drop, W: Write, E: Write>(
-    machine: &mut Machine<R, N>,
+/// word. A station at version 1 refuses each withdrawal. Releases are written to the machine's output.
+pub fn serve_run<R: Settles, N: Wire + Drop, W: Write + Drop, E: Write>(
+    machine: &mut Machine<R, N, W>,
     task: ServeTask,
-    out: &mut W,
     err: &mut E,
 ) -> End
-    ensures { ServesBy (IsRun task) result R.Rows R.Settles.is_settled N.passed W.contents machine.old machine.new out.old out.new }
+    ensures { ServesBy (IsRun task) result R.Rows R.Settles.is_settled N.passed W.contents machine.old machine.new }
 {
     if machine.station.stopped() {
         return Fault::of_step(StepRefusal::Stopped).tell(err);
@@ -208,12 +172,10 @@ pub fn serve_run<R: Settles, N: Wire + Drop, W: Write, E: Write>(
     let mut newer = NewerLayouts::new();
     let printer = Printer {
         alloc: machine.alloc,
-        out,
+        out: &mut machine.outside,
     };
     let mut log = Log { err, quiet: false };
     let mut driver = Driver::new(&mut machine.station, &mut machine.wire, printer, &mut newer);
-    match ask_and_turn(&mut driver, task, &mut log) {
-        Ok(()) => End::Done,
-        Err(fault) => fault.tell(log.err),
-    }
+    let done = ask_and_turn(&mut driver, task, &mut log);
+    end_with(done, log.err)
 }

@@ -4,7 +4,7 @@ use crate::plant::{OFFER, Plant, RELEASE, Run};
 use ballots::Member;
 use command_ends::End;
 use driver::NewerLayouts;
-use saved_rows::MemoryRows;
+use rows_saved::MemoryRows;
 use wire::{Address, UdpWire};
 
 /// A socket at a free port of this machine, and the address of a member there.
@@ -64,7 +64,7 @@ fn take_a_turn<'a>(posts: &mut [Post<'a>], newer: &mut NewerLayouts) -> bool {
 fn all_have_printed<'a>(posts: &[Post<'a>], out: &str) -> bool {
     posts
         .iter()
-        .all(|post| post.out.as_slice() == out.as_bytes())
+        .all(|post| post.machine.outside.as_slice() == out.as_bytes())
 }
 
 /// Whether each turn ended well, up to the one after which all have printed this, or 300.

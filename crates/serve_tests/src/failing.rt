@@ -5,7 +5,7 @@ use crate::stories::{Story, bench_of, is_true, taken};
 use crate::wires::Manner;
 use ballots::Number;
 use command_ends::End;
-use saved_rows::MemoryRows;
+use rows_saved::MemoryRows;
 use station_fixtures::ballot;
 use std::alloc::Global;
 use tape_frames::Version;

@@ -5,7 +5,7 @@ use crate::wires::{Manner, Scripted};
 use ballots::Member;
 use command_ends::End;
 use driver::{Driver, NewerLayouts};
-use saved_rows::{Balky, Grouped, MemoryRows};
+use rows_saved::{Balky, Grouped, MemoryRows};
 use station::Station;
 use station_fixtures::{rows_with, station_over};
 use std::alloc::Global;

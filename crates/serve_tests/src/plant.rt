@@ -1,10 +1,10 @@
 //! A station at work, and the steps that it is driven by.
 
 use command_ends::End;
-use driver::NewerLayouts;
+use driver::{Machine, NewerLayouts};
 use fixtures::{Given, frames_of};
-use saved_rows::Settles;
-use serve_command::{Machine, ServeTask, ServeTurn, serve_run, serve_turn};
+use rows_saved::Settles;
+use serve_command::{ServeTask, ServeTurn, serve_run, serve_turn};
 use station_fixtures::station_over;
 use std::alloc::Global;
 use tape_frames::{Tape, TapeFault};
@@ -89,36 +89,36 @@ fn offer_of(alloc: Global, run: &Run) -> Result<Option<(u32, Tape)>, TapeFault> 
 /// A station, its wire, and what it has printed.
 #[derive(Drop)]
 pub struct Plant<R: Settles, N: Wire + Drop> {
-    alloc: Global,
-    pub machine: Machine<R, N>,
-    pub out: Vec<u8>,
+    pub machine: Machine<R, N, Vec<u8>>,
     pub err: Vec<u8>,
 }
 
 impl<R: Settles, N: Wire + Drop> Plant<R, N> {
     pub fn new(alloc: Global, me: u8, members: u8, rows: R, wire: N) -> Option<Plant<R, N>> {
         let station = station_over(alloc, me, members, rows)?;
-        Some(Plant {
+        let machine = Machine {
             alloc,
-            machine: Machine::new(alloc, station, wire),
-            out: Vec::new(alloc),
-            err: Vec::new(alloc),
-        })
+            station,
+            wire,
+            outside: Vec::new(alloc),
+        };
+        let err = Vec::new(alloc);
+        Some(Plant { machine, err })
     }
 
     /// How a run ends. What it prints stands in place of what was printed before.
     fn end_of(&mut self, run: &Run) -> End {
-        self.out.clear();
+        self.machine.outside.clear();
         self.err.clear();
-        let Ok(task) = task_of(self.alloc, run) else {
+        let Ok(task) = task_of(self.machine.alloc, run) else {
             return End::Memory;
         };
-        serve_run(&mut self.machine, task, &mut self.out, &mut self.err)
+        serve_run(&mut self.machine, task, &mut self.err)
     }
 
     /// Whether this text and these faults have been printed, and no more.
     pub fn has_printed(&self, out: &str, err: &str) -> bool {
-        self.out.as_slice() == out.as_bytes() && self.err.as_slice() == err.as_bytes()
+        self.machine.outside.as_slice() == out.as_bytes() && self.err.as_slice() == err.as_bytes()
     }
 
     /// Whether a run ends and prints as it has to.
@@ -130,6 +130,6 @@ impl<R: Settles, N: Wire + Drop> Plant<R, N> {
     pub fn turn(&mut self, newer: &mut NewerLayouts) -> End {
         let at = self.machine.wire.now();
         let turn = ServeTurn { at, newer };
-        serve_turn(&mut self.machine, turn, &mut self.out, &mut self.err)
+        serve_turn(&mut self.machine, turn, &mut self.err)
     }
 }

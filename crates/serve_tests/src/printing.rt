@@ -5,8 +5,9 @@ use crate::stories::{Story, is_true};
 use crate::wires::{Manner, Scripted};
 use crate::writers::{Held, Slow};
 use command_ends::End;
-use saved_rows::MemoryRows;
-use serve_command::{Machine, serve_run};
+use driver::Machine;
+use rows_saved::MemoryRows;
+use serve_command::serve_run;
 use station_fixtures::station_over;
 use std::alloc::Global;
 use std::io::Write;
@@ -48,16 +49,14 @@ fn what_comes_from_the_wire(rt: HostRuntime) {
     assert!(rt; is_true(rt.alloc(), &COMING));
 }
 
-/// Whether this run of a station ends as it has to over a writer, on a wire on which nothing comes.
-fn ends<W: Write>(
-    alloc: Global,
-    machine: &mut Machine<MemoryRows, Scripted>,
+/// Whether this run of a station ends as it has to over its writer, on a wire on which nothing comes.
+fn ends<W: Write + Drop>(
+    machine: &mut Machine<MemoryRows, Scripted, W>,
     run: &Run,
-    writer: &mut W,
 ) -> Option<bool> {
-    let task = task_of(alloc, run).ok()?;
-    let mut err = Vec::new(alloc);
-    let end = serve_run(machine, task, writer, &mut err);
+    let task = task_of(machine.alloc, run).ok()?;
+    let mut err = Vec::new(machine.alloc);
+    let end = serve_run(machine, task, &mut err);
     Some(end == run.end && err.as_slice() == run.err.as_bytes())
 }
 
@@ -65,8 +64,13 @@ fn ends<W: Write>(
 fn ends_over<W: Write>(alloc: Global, run: &Run, writer: &mut W) -> Option<bool> {
     let station = station_over(alloc, 1, 1, MemoryRows::new(alloc))?;
     let wire = Scripted::new(alloc, Manner::Whole);
-    let mut machine = Machine::new(alloc, station, wire);
-    ends(alloc, &mut machine, run, writer)
+    let mut machine = Machine {
+        alloc,
+        station,
+        wire,
+        outside: writer,
+    };
+    ends(&mut machine, run)
 }
 
 /// The story, and no turn.

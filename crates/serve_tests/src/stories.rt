@@ -2,7 +2,7 @@
 
 use crate::plant::{Plant, Run};
 use crate::wires::{Manner, Scripted};
-use saved_rows::{Balky, MemoryRows};
+use rows_saved::{Balky, MemoryRows};
 use station_fixtures::rows_with;
 use std::alloc::Global;
 use tape_frames::Version;

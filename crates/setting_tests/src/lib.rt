@@ -2,13 +2,13 @@
 #![tactic(auto)]
 
 #[cfg(test)]
+mod bounded;
+#[cfg(test)]
 mod drawings;
 #[cfg(test)]
 mod failing;
 #[cfg(test)]
 mod files;
-#[cfg(test)]
-mod inputs;
 #[cfg(test)]
 mod lines;
 #[cfg(test)]

@@ -17,7 +17,7 @@ use widths::Widths;
 
 /// What a frame did.
 #[derive(Clone, Copy, PartialEq, Eq)]
-pub enum Taken {
+pub(crate) enum Taken {
     /// The line goes on.
     Kept,
     /// The line is sent to be cast.
@@ -28,7 +28,7 @@ pub enum Taken {
 
 /// The case and the rail that hold, and the line since the last cut.
 #[derive(Drop)]
-pub struct Assembler {
+pub(crate) struct Assembler {
     pub case: Case,
     pub rail: Rail,
     pub items: Vec<Item>,
@@ -52,7 +52,7 @@ impl Assembler {
     }
 
     /// Takes in the next frame, which is looked up once: it selects the same case whichever case holds.
-    pub fn take(
+    pub fn push(
         &mut self,
         table: &CodeTable,
         widths: &Widths,

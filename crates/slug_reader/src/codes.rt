@@ -11,7 +11,7 @@ use code_table::Meaning;
 use widths::Widths;
 
 /// The rail that a rail code selects.
-pub fn rail_of(meaning: &Meaning) -> Option<Rail>
+pub(crate) fn rail_of(meaning: &Meaning) -> Option<Rail>
     ensures { result ≡ rail_of (Some meaning.now) }
 {
     match meaning {
@@ -22,7 +22,7 @@ pub fn rail_of(meaning: &Meaning) -> Option<Rail>
 }
 
 /// The quad that a quad code asks for its line.
-pub fn quad_of(meaning: &Meaning) -> Option<Quad>
+pub(crate) fn quad_of(meaning: &Meaning) -> Option<Quad>
     ensures { result ≡ quad_of (Some meaning.now) }
 {
     match meaning {
@@ -34,14 +34,14 @@ pub fn quad_of(meaning: &Meaning) -> Option<Quad>
 }
 
 /// Whether the line is sent to be cast.
-pub fn is_elevate(meaning: &Meaning) -> bool
+pub(crate) fn is_elevate(meaning: &Meaning) -> bool
     ensures { result ≡ is_elevate (Some meaning.now) }
 {
     matches!(meaning, Meaning::Elevate)
 }
 
 /// What goes into the line, if anything, where this rail holds.
-pub fn item_of(widths: &Widths, rail: Rail, meaning: &Meaning) -> Result<Option<Item>, Flaw>
+pub(crate) fn item_of(widths: &Widths, rail: Rail, meaning: &Meaning) -> Result<Option<Item>, Flaw>
     ensures { IsItemOrFlaw widths.now rail (Some meaning.now) result }
 {
     match meaning {

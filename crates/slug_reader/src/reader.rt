@@ -96,7 +96,7 @@ impl<'a> Reader<'a> {
         if self.is_full() {
             return Err(ReadFault::TooLong { at });
         }
-        match self.assembler.take(self.table, self.widths, frame) {
+        match self.assembler.push(self.table, self.widths, frame) {
             Err(_) => Err(ReadFault::OutOfMemory),
             Ok(Taken::Flawed(flaw)) => Err(flaw.at(at)),
             Ok(Taken::Kept) => {

@@ -6,9 +6,9 @@ use Rattle.protocol.specs.Marks.{Mark}
 use Rattle.protocol.specs.Turn.{Event}
 use Rattle.protocol.specs.Refusals.{Call}
 use Rattle.protocol.specs.Circuit.{Datagram}
-use Rattle.saved_rows.specs.Saved.{Rises}
-use Rattle.saved_rows.specs.declared.fault.RowsFault.{RowsFault}
-use Rattle.saved_rows.specs.declared.rows.Rows.{Ghosts}
+use Rattle.rows_saved.specs.Saved.{Rises}
+use Rattle.rows_saved.specs.declared.fault.RowsFault.{RowsFault}
+use Rattle.rows_saved.specs.declared.rows.Rows.{Ghosts}
 use Rattle.node_core.specs.Standing.{StandsFor}
 use Rattle.station.specs.declared.answer.Answer.{Answer}
 use Rattle.station.specs.declared.station.Station.{Station}

@@ -11,7 +11,7 @@ use Rattle.protocol.specs.Marks.{Mark, Began, Promised, Proposed, Denied, Heard,
 use Rattle.protocol.specs.Limits.{most_sent}
 use Rattle.protocol.specs.Fitting as fitting
 use Rattle.protocol.specs.Fitting.{Fits, VoteFits, MarkFits, MarksFit, EventFits, TurnsFit}
-use Rattle.saved_rows.specs.Saved.{RowFits}
+use Rattle.rows_saved.specs.Saved.{RowFits}
 use Rattle.node_core.specs.Standing.{Core, StandsFor, seat_of}
 use Rattle.node_core.specs.Turns.{event_value, note_value, sent, is_quiet, HandsNothing, IsRowAfter}
 use Rattle.node_core.specs.Calls.{RefusesToStart, RefusesEvent, Refuses, TookTurn}

@@ -9,8 +9,8 @@ use Rattle.protocol.specs.Packets.{Packet}
 use Rattle.protocol.specs.Versions.{Version}
 use Rattle.protocol.specs.Marks.{Mark}
 use Rattle.protocol.specs.Turn as said
-use Rattle.saved_rows.specs.Saved.{Saved, SameRows, WithRow, with_row}
-use Rattle.saved_rows.specs.declared.fault.RowsFault.{RowsFault}
+use Rattle.rows_saved.specs.Saved.{Saved, SameRows, WithRow, with_row}
+use Rattle.rows_saved.specs.declared.fault.RowsFault.{RowsFault}
 use Rattle.node_core.specs.Standing.{StandsFor, IsSameSeat, seat_of}
 use Rattle.node_core.specs.Turns.{event_value, note_value, is_quiet, Stirs, HandsNothing, IsTurn, IsRowAfter}
 use Rattle.node_core.specs.declared.event.Event.{Event}

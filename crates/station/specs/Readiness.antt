@@ -9,8 +9,8 @@ use Rattle.protocol.specs.Rows.{Row}
 use Rattle.protocol.specs.Packets.{Packet}
 use Rattle.protocol.specs.Versions.{Version}
 use Rattle.protocol.specs.Circuit.{Datagram}
-use Rattle.saved_rows.specs.Saved.{WithRow, IsEither}
-use Rattle.saved_rows.specs.declared.fault.RowsFault.{RowsFault}
+use Rattle.rows_saved.specs.Saved.{WithRow, IsEither}
+use Rattle.rows_saved.specs.declared.fault.RowsFault.{RowsFault}
 use Rattle.tape_frames.specs.Entries.{owned_entry}
 use Rattle.packets.specs.Grammar.{Spells, SpellsAlike}
 use Rattle.packets.specs.Reading.{packet_in}

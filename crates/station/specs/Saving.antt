@@ -2,8 +2,8 @@
 use Rattle.std.specs.Prelude.{◌≡◌, ◌≤◌, ℕ, Option, IfSome, Result, IfOk, IfErr, length, true, false}
 use Rattle.protocol.specs.Rows.{Row}
 use Rattle.protocol.specs.Versions.{Version}
-use Rattle.saved_rows.specs.Saved.{HasPromise, Rises}
-use Rattle.saved_rows.specs.declared.rows.Rows.{Ghosts}
+use Rattle.rows_saved.specs.Saved.{HasPromise, Rises}
+use Rattle.rows_saved.specs.declared.rows.Rows.{Ghosts}
 use Rattle.node_core.specs.Turns.{sent}
 use Rattle.node_core.specs.declared.turn.Turn.{Turn}
 use Rattle.refusals.specs.declared.refusal.StepRefusal.{StepRefusal}

@@ -1,7 +1,7 @@
 -- What a station saved, stored.
 use Rattle.std.specs.Prelude.{◌≡◌, true, false, Result, Ok, Err}
-use Rattle.saved_rows.specs.Saved.{SameRows, Rises}
-use Rattle.saved_rows.specs.declared.rows.Rows.{Ghosts}
+use Rattle.rows_saved.specs.Saved.{SameRows, Rises}
+use Rattle.rows_saved.specs.declared.rows.Rows.{Ghosts}
 use Rattle.refusals.specs.declared.refusal.StepRefusal.{StepRefusal}
 use Rattle.refusals.specs.declared.refusal.StepRefusal.TheVariants.{Store, Stopped}
 use Rattle.station.specs.declared.station.Station.{Station}

@@ -7,7 +7,7 @@ use Rattle.protocol.specs.Versions.{Version, One, Two}
 use Rattle.protocol.specs.Marks.{Mark}
 use Rattle.protocol.specs.Fitting.{MarksFit, BodyFits}
 use Rattle.protocol.specs.Limits.{most_sent}
-use Rattle.saved_rows.specs.Saved.{RowFits}
+use Rattle.rows_saved.specs.Saved.{RowFits}
 use Rattle.node_core.specs.Standing.{Core, StandsFor, IsSameSeat}
 use Rattle.node_core.specs.Turns.{HandsNothing, is_quiet, note_value, sent}
 use Rattle.node_core.specs.declared.turn.Turn.{Turn}

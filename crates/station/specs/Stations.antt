@@ -4,9 +4,9 @@ use Rattle.protocol.specs.Entries.{Entry, Void, Taped}
 use Rattle.protocol.specs.Rows.{Row}
 use Rattle.protocol.specs.Versions.{Version, fits}
 use Rattle.protocol.specs.Refusals.{Setup}
-use Rattle.saved_rows.specs.Saved.{Saved}
-use Rattle.saved_rows.specs.declared.fault.RowsFault.{RowsFault}
-use Rattle.saved_rows.specs.declared.rows.Rows.{Ghosts}
+use Rattle.rows_saved.specs.Saved.{Saved}
+use Rattle.rows_saved.specs.declared.fault.RowsFault.{RowsFault}
+use Rattle.rows_saved.specs.declared.rows.Rows.{Ghosts}
 use Rattle.code_table.specs.Tables.{Places, mean}
 use Rattle.widths.specs.Widths.{WidthFile}
 use Rattle.packets.specs.Reading.{packet_at}

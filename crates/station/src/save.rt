@@ -5,7 +5,7 @@ ghost use Rattle.std.specs.List.{AllZip};
 ghost use Rattle.code_table.specs.Tables.{mean};
 ghost use Rattle.line_check.specs.Sets.{Sets};
 ghost use Rattle.tape_frames.specs.Entries.{owned_entry, version_of};
-ghost use Rattle.saved_rows.specs.Saved.{HasPromise, RowFits, Rises};
+ghost use Rattle.rows_saved.specs.Saved.{HasPromise, RowFits, Rises};
 ghost use Rattle.station.specs.Speaking.{AllFit};
 ghost use Rattle.station.specs.Stations.{StaysMade, sight};
 ghost use Rattle.station.specs.Readiness.{Carries, IsReleased, IsNumbered, RowSaved, RowBalked, SaysTheSameAt, WasChecked, slugs_of};
@@ -20,7 +20,7 @@ use line_check::{SetError, SetFault, Slug, set};
 use node_core::{Outgoing, Turn};
 use packets::encode_beside;
 use refusals::StepRefusal;
-use saved_rows::{Rows, RowsFault, Settles};
+use rows_saved::{Rows, RowsFault, Settles};
 use std::alloc::{AllocError, Global};
 use tape_frames::{Entry, Tape, Version};
 

@@ -5,7 +5,7 @@ ghost use Rattle.protocol.specs.Versions.{fits};
 ghost use Rattle.protocol.specs.Marks.{Mark};
 ghost use Rattle.protocol.specs.Refusals.{names_stranger, is_of_stranger};
 ghost use Rattle.protocol.specs.Fitting.{BodyFits, EventFits};
-ghost use Rattle.saved_rows.specs.Saved.{RowFits};
+ghost use Rattle.rows_saved.specs.Saved.{RowFits};
 ghost use Rattle.tape_frames.specs.Entries.{version_of, lent_entry};
 ghost use Rattle.packets.specs.Bodies.{said};
 ghost use Rattle.packets.specs.Reading.{packet_at};

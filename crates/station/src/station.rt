@@ -14,7 +14,7 @@ use ballots::{Ballot, Member, Number};
 use code_table::CodeTable;
 use line_check::Setting;
 use node_core::NodeCore;
-use saved_rows::Rows;
+use rows_saved::Rows;
 use std::alloc::Global;
 use widths::Widths;
 

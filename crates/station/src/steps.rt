@@ -7,7 +7,7 @@ ghost use Rattle.protocol.specs.Refusals.{Offering, Seeking, Falling_due, Receiv
 ghost use Rattle.protocol.specs.Fitting.{EventFits};
 ghost use Rattle.protocol.specs.Limits.{most_sent};
 ghost use Rattle.tape_frames.specs.Entries.{lent_entry};
-ghost use Rattle.saved_rows.specs.Saved.{Rises};
+ghost use Rattle.rows_saved.specs.Saved.{Rises};
 ghost use Rattle.node_core.specs.Standing.{OfItsMarks};
 ghost use Rattle.node_core.specs.Calls.{MayCome};
 ghost use Rattle.node_core.specs.Turns.{event_value};
@@ -23,7 +23,7 @@ use crate::station::Station;
 use ballots::{Member, Number};
 use node_core::{CoreRefusal, Event};
 use refusals::StepRefusal;
-use saved_rows::Rows;
+use rows_saved::Rows;
 use tape_frames::{Entry, EntryRef, Tape};
 
 impl<R: Rows> Station<R> {

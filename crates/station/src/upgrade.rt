@@ -4,7 +4,7 @@ ghost use Rattle.station.specs.Upgrading.{IsUpgrade};
 
 use crate::station::Station;
 use refusals::StepRefusal;
-use saved_rows::Rows;
+use rows_saved::Rows;
 
 impl<R: Rows> Station<R> {
     /// Goes over to version 2 with all its saved rows, also while it is stopped, and starts again there: it forgets what

@@ -4,7 +4,7 @@ use ballots::{Ballot, Member, Number, Row, Vote};
 use code_table::CodeTable;
 use fixtures::{CODES, FLOOD, WIDTHS};
 use line_check::Setting;
-use saved_rows::{MemoryRows, Rows};
+use rows_saved::{MemoryRows, Rows};
 use station::{Membership, Station};
 use std::alloc::Global;
 use tape_frames::{Entry, Tape, Version};

@@ -3,7 +3,7 @@
 ghost use Rattle.std.specs.Prelude.{◌+◌};
 
 use ballots::{Number, Row};
-use saved_rows::{Balky, Rows, RowsFault};
+use rows_saved::{Balky, Rows, RowsFault};
 use tape_frames::Version;
 
 /// Rows whose next reading can be made to be refused, for any reason.

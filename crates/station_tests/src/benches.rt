@@ -5,7 +5,7 @@ use crate::turns::{Act, Ends, Handed, Open, Turn};
 use ballots::{Number, Row};
 use fixtures::{Given, WIDTHS, frames_of};
 use line_check::Setting;
-use saved_rows::{Balky, MemoryRows, Rows};
+use rows_saved::{Balky, MemoryRows, Rows};
 use station::{Answer, BadMember, Datagram, Membership, Release, Station, StepRefusal};
 use station_fixtures::{
     Noted, Unread, ballot, is_given, is_note, rows_with, setting, station_over,

@@ -2,7 +2,7 @@
 
 use crate::datagrams::Message;
 use fixtures::Given;
-use saved_rows::RowsFault;
+use rows_saved::RowsFault;
 use station::StepRefusal;
 use station_fixtures::Noted;
 use tape_frames::Version;

@@ -6,7 +6,7 @@ use crate::turns::Act::{Due, Offer, Receive, Refuse, Restart, Seek};
 use crate::turns::Ends::{Always, Done, Refused};
 use crate::turns::{OFFER, Open, QUIET, STOPPED, Turn};
 use fixtures::Given::Flood;
-use saved_rows::RowsFault;
+use rows_saved::RowsFault;
 use station::StepRefusal;
 use station_fixtures::Noted::{Began, Idle, Promised};
 

@@ -9,7 +9,7 @@ use crate::turns::Ends::{Always, Done, Refused};
 use crate::turns::{OFFER, Open, QUIET, RELEASED, STOPPED, TOO_OLD, Turn, WITHDRAWN};
 use fixtures::Given::{Flood, Longest};
 use packets::PacketFault;
-use saved_rows::RowsFault;
+use rows_saved::RowsFault;
 use station::StepRefusal;
 use station_fixtures::Noted::{Began, Idle, Promised, Proposed};
 use tape_frames::Version;

@@ -1,14 +1,11 @@
 //! The command `status`.
 
-ghost use Rattle.std.specs.Prelude.{◌≡◌, if◌then◌else◌};
-ghost use Rattle.command_ends.specs.declared.end.End.TheVariants.{Done, Input};
-
 use crate::fault::{StatusFault, end_of_config};
 use crate::file::status_at;
 use crate::json::json_of;
 use crate::shown::shown;
 use crate::watching::{FRESH, watch};
-use command_ends::End;
+use command_ends::{End, Fault};
 use configuration::{Config, ConfigInput, NoLookUp, read_config};
 use plant_status::{Health, Status, ages_of, health_of, seconds_now};
 use std::io::{IsTerminal, Write};
@@ -91,13 +88,6 @@ pub(crate) fn print<W: Write>(
     Ok(is_well)
 }
 
-/// How the command ends by whether a station is well.
-fn end_by(is_well: bool) -> End
-    ensures { result ≡ (if is_well then Done else Input) }
-{
-    if is_well { End::Done } else { End::Input }
-}
-
 /// Which file has the status of the station of a configuration, if it names one.
 fn status_path(config: &Config) -> Option<&str> {
     match &config.folders {
@@ -121,7 +111,7 @@ fn status_of<W: Write, E: Write>(
         Shape::Lines | Shape::Json => print(rt, asked, out),
     };
     match told {
-        Ok(is_well) => end_by(is_well),
+        Ok(is_well) => End::found(is_well),
         Err(fault) => fault.tell(asked.path, err),
     }
 }
@@ -143,17 +133,16 @@ pub fn status<W: Write, E: Write>(
 ) -> End {
     let shape = order.shape;
     if matches!(shape, Shape::Watched) && !rt.stdout().is_terminal() {
-        let _ = writeln!(err, "usage: --watch is for a terminal");
-        return End::Usage;
+        return Fault::Usage("--watch is for a terminal").tell(err);
     }
     // Which hosts the stations are on is not asked.
     let file = ConfigInput {
         path: order.config,
         input: InputFile::at(rt, order.config),
     };
-    let config = match read_config(rt.alloc(), &NoLookUp, file, err) {
+    let config = match read_config(rt.alloc(), &NoLookUp, file) {
         Ok(config) => config,
-        Err(end) => return end_of_config(end),
+        Err(fault) => return end_of_config(fault.tell(err)),
     };
     let Some(path) = status_path(&config) else {
         return StatusFault::Unnamed.tell("", err);

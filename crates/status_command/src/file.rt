@@ -1,8 +1,9 @@
 //! The status file.
 
 use crate::fault::StatusFault;
-use command_ends::{Fault, read_text};
+use command_ends::Fault;
 use configuration::Config;
+use inputs::read_text;
 use plant_status::{Status, read};
 use std::io::ErrorKind;
 use std::{fs, str};

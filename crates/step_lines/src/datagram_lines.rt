@@ -1,15 +1,16 @@
 //! The lines of datagrams.
 
 ghost use Rattle.std.specs.Prelude.{◌≡◌, ◌+◌, ◌≤◌, Some, OnOk, length, string_bytes};
-ghost use Rattle.command_ends.specs.Writing.{Writes};
+ghost use Rattle.streams.specs.Writing.{Writes};
 ghost use Rattle.step_lines.specs.Datagrams.{datagram_line, datagrams_text, kind_word, packet_line, route_text};
 
-use command_ends::{PutFault, put_line};
 use packets::{BodyRef, PacketRef, decode};
+use release_texts::put_line;
 use station::Datagram;
 use std::alloc::AllocError;
 use std::fmt;
 use std::io::Write;
+use streams::PutFault;
 use tape_frames::Version;
 
 /// The word for a packet's kind.
@@ -67,10 +68,8 @@ fn put_datagram<W: Write>(
     let Ok(packet) = decode(datagram.bytes(), Version::Two) else {
         return Ok(());
     };
-    match packet_line(line, k, &packet) {
-        Ok(()) => put_line(line, out),
-        Err(_) => Err(PutFault::OutOfMemory),
-    }
+    packet_line(line, k, &packet)?;
+    put_line(line, out)
 }
 
 /// Writes the datagrams that a step sent, before which so many were sent.

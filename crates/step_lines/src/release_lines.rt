@@ -1,7 +1,7 @@
 //! The line of a release whose tape sets.
 
 ghost use Rattle.std.specs.Prelude.{◌≡◌, OnOk, codes, string_bytes};
-ghost use Rattle.command_ends.specs.ReleaseText.{plain_line};
+ghost use Rattle.release_texts.specs.ReleaseText.{plain_line};
 
 use std::alloc::AllocError;
 

@@ -1,6 +1,5 @@
 -- Fronts of a text, written one after the other.
-use Rattle.std.proofs.Common.{◌≡◌, ℕ, ◌+◌, ◌≤◌, List, ◌++◌, length, take, drop, Option, Some, None, refl, sym, ap, ◌∙◌, inl, inr, arith}
-use Rattle.std.specs.Prelude.{IfSome}
+use Rattle.std.proofs.Common.{◌≡◌, ℕ, ◌+◌, ◌≤◌, List, ◌++◌, length, take, drop, Option, refl, sym, ap, ◌∙◌, inl, inr, arith}
 use Rattle.std.specs.Io.KnownBytes.{Appends}
 use Rattle.std.proofs.KnownBytes.{Appends-trans}
 use Rattle.std.proofs.lemmas.Bool.{cases_lt}
@@ -32,10 +31,3 @@ front_more x y z front text more all p q e =
 -- all of a text is a front of it
 pub front_of_all : (x y : Option (List ℕ)) (text : List ℕ) → Appends x y text → AppendsFront x y text
 front_of_all x y text p = (length text, rw (take_all (length text) text (omega arith)) p)
-
--- all of what was asked for is a front of what was read, where that is known
-pub whole_front : (x y : Option (List ℕ)) (known : Option (List ℕ)) (items : List ℕ) (f : List ℕ → List ℕ) → IfSome known (λ xs. items ≡ xs) → Appends x y (f items) → IfSome known (λ xs. AppendsFront x y (f xs))
-whole_front x y None items f e p = tt
-whole_front x y (Some xs) items f e p =
-    let q : Appends x y (f xs) = rw (← e) p in
-    (length (f xs), rw (take_all (length (f xs)) (f xs) (omega arith)) q)

@@ -7,4 +7,4 @@ mod output;
 
 pub use input::{InputFault, MAX_INPUT, read_input};
 pub use opened_files::InputFile;
-pub use output::{CannotWrite, put_all, put_parts};
+pub use output::{CannotWrite, PutFault, hand_on, put_all, put_parts, put_whole};

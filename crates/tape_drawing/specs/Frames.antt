@@ -1,4 +1,4 @@
--- The frames of a line: where each is drawn, with its holes and what it means. Rows have 40 frames of 18 units each.
+-- The frames of a line: where each is drawn, with its holes and what it means.
 use Rattle.std.specs.Prelude.{◌≡◌, ◌<◌, ◌≤◌, ◌^◌, length, ℕ, ◌+◌, ◌-◌, ◌%◌, min, List, [], ◌∷◌, ◌++◌, decimal, flat_map, ◌==◌, if◌then◌else◌}
 use Rattle.tape_frames.specs.Frames.{most_frames, AreFrames}
 use Rattle.code_table.specs.Tables.{mean}
@@ -8,16 +8,17 @@ use Rattle.slug_reader.specs.Meanings.{Meanings, frame_at, case_at, meaning_at}
 use Rattle.tape_drawing.specs.declared.elements.Point.{Point}
 use Rattle.tape_drawing.specs.declared.elements.Style.TheVariants as styles
 use Rattle.tape_drawing.specs.declared.frames.Strip.{Strip}
+use Rattle.tape_drawing.specs.Lengths.{frame_middle, row_frames}
 use Rattle.tape_drawing.specs.Shapes.{Shape, Paper, Frame, Words}
 use Rattle.tape_drawing.specs.Layout.{corner}
 
 -- the paper of a row, at its first frame, as wide as the frames of the row: the k-th of a line of so many
 abbrev pub paper_shapes : ℕ → ℕ → Point → List Shape
-paper_shapes k frames at = if k % 40 == 0 then Paper at.x at.y (min (frames - k) 40) ∷ [] else []
+paper_shapes k frames at = if k % row_frames == 0 then Paper at.x at.y (min (frames - k) row_frames) ∷ [] else []
 
 -- the position of every tenth frame of the tape, from 0, above it
 abbrev pub position_shapes : ℕ → Point → List Shape
-position_shapes i at = if i % 10 == 0 then Words styles.Position (at.x + 9) (at.y - 2) (decimal i) ∷ [] else []
+position_shapes i at = if i % 10 == 0 then Words styles.Position (at.x + frame_middle) (at.y - 2) (decimal i) ∷ [] else []
 
 -- what stands above the k-th frame of a line: the paper of its row, and its position
 abbrev pub above_shapes : ℕ → ℕ → ℕ → ℕ → List Shape
@@ -25,7 +26,7 @@ above_shapes from frames top k = paper_shapes k frames (corner top k) ++ positio
 
 -- that frame alone
 abbrev pub kth_frame : Meanings → List ℕ → ℕ → ℕ → ℕ → Shape
-kth_frame means tape from top k = Frame ((corner top k).x + 9) (corner top k).y (from + k) (frame_at tape (from + k)) (meaning_at means tape (from + k))
+kth_frame means tape from top k = Frame ((corner top k).x + frame_middle) (corner top k).y (from + k) (frame_at tape (from + k)) (meaning_at means tape (from + k))
 
 -- the k-th frame of a line of so many that begins at a position, below an upper edge
 abbrev pub frame_shapes : Meanings → List ℕ → ℕ → ℕ → ℕ → ℕ → List Shape

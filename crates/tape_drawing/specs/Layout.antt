@@ -1,4 +1,4 @@
--- The layout: where what stands. A page is 840 units wide; a slug and 40 frames of 18 units are 720, from 60 on.
+-- The layout: where what stands. A slug is as wide as a whole row of frames.
 use Rattle.std.specs.Prelude.{◌≡◌, ◌≤◌, ◌<◌, ℕ, ◌+◌, ◌-◌, ◌*◌, ◌/◌, ◌%◌, min, max, List, [], ◌∷◌, Option, Some, None, sum_by}
 use Rattle.widths.specs.Widths.{WidthFile}
 use Rattle.slug_reader.specs.declared.line.Line.{Line}
@@ -10,18 +10,19 @@ use Rattle.line_fit.specs.declared.verdict.LineFit.{LineFit}
 use Rattle.tape_drawing.specs.declared.elements.Point.{Point}
 use Rattle.tape_drawing.specs.declared.layout.Spot.{Spot}
 use Rattle.tape_drawing.specs.declared.layout.Stretch.{Stretch}
+use Rattle.tape_drawing.specs.Lengths.{margin, measure_width, frame_width, row_frames, row_height, paper_top, cast_height, note_height, head_height, least_type, greatest_type}
 
--- the upper left corner of the paper of the k-th frame of a line, whose upper edge is at `top`: a row is 87 units high
+-- the upper left corner of the paper of the k-th frame of a line, whose upper edge is at `top`
 abbrev pub corner : ℕ → ℕ → Point
-corner top k = record { x = 60 + 18 * (k % 40); y = top + 87 * (k / 40) + 12 }
+corner top k = record { x = margin + frame_width * (k % row_frames); y = top + row_height * (k / row_frames) + paper_top }
 
 -- how high the rows of so many frames are
 abbrev pub rows_height : ℕ → ℕ
-rows_height frames = 87 * ((frames + 39) / 40)
+rows_height frames = row_height * ((frames + (row_frames - 1)) / row_frames)
 
 -- the edge that lies so many units of the measure from the left of a slug, rounded down to a whole user unit
 abbrev pub edge : ℕ → ℕ → ℕ
-edge measure units = 60 + units * 720 / measure
+edge measure units = margin + units * measure_width / measure
 
 -- how far the right edge of a stretch lies from its left edge
 abbrev pub across : Stretch → ℕ
@@ -29,14 +30,14 @@ across s = edge s.measure (s.from + s.width) - edge s.measure s.from
 
 -- the size of the type in user units, so that its em is that of the widths; no more than the height of a slug
 abbrev pub type_size : WidthFile → ℕ
-type_size widths = max 6 (min 44 (widths.em * 720 / widths.measure))
+type_size widths = max least_type (min greatest_type (widths.em * measure_width / widths.measure))
 
 -- how high what stands below the frames of a line is: what is cast of it, or where nothing can be drawn a note
 abbrev pub height_below : Verdict → Option Line → ℕ
-height_below (Sets slug) line = 64
-height_below Nothing line = 18
-height_below (Faulty fault) None = 18
-height_below (Faulty fault) (Some line) = 64
+height_below (Sets slug) line = cast_height
+height_below Nothing line = note_height
+height_below (Faulty fault) None = note_height
+height_below (Faulty fault) (Some line) = cast_height
 
 -- how many slugs a verdict has
 abbrev pub slugs_in : Verdict → ℕ
@@ -75,7 +76,7 @@ after spot (fit ∷ fits) = after (next spot fit) fits
 
 -- where the first line begins, below the head
 abbrev pub first_spot : Spot
-first_spot = record { number = 1; slug = 1; faults = 0; from = 0; top = 96 }
+first_spot = record { number = 1; slug = 1; faults = 0; from = 0; top = head_height }
 
 -- a spot lies no lower than the frames before it need
 pub record IsWithin (end : ℕ) (spot : Spot) : Type 0 where
@@ -85,7 +86,7 @@ pub record IsWithin (end : ℕ) (spot : Spot) : Type 0 where
   pub number : spot.number ≤ spot.from + 1
   pub slug : spot.slug ≤ spot.from + 1
   pub faults : spot.faults ≤ spot.from
-  pub top : spot.top ≤ 96 + 151 * spot.from
+  pub top : spot.top ≤ head_height + (row_height + cast_height) * spot.from
 
 -- left, items and right of a slug add up to the measure
 abbrev pub IsFull : ℕ → Slug → Type 0

@@ -1,3 +1,4 @@
+pub mod Lengths
 pub mod Meanings
 pub mod Styles
 pub mod Shapes

@@ -23,6 +23,7 @@ use Rattle.tape_drawing.specs.declared.layout.Spot.{Spot}
 use Rattle.tape_drawing.specs.declared.lines.DrawingPlan.{DrawingPlan}
 use Rattle.tape_drawing.specs.declared.lines.Reached.{Reached}
 use Rattle.tape_drawing.specs.declared.lines.Taped.{Taped}
+use Rattle.tape_drawing.specs.Lengths.{margin, note_height}
 use Rattle.tape_drawing.specs.Shapes.{Shape, Bar, Mark, Words, Open, Close}
 use Rattle.tape_drawing.specs.Layout.{corner, rows_height, frames_in, line_height, next, after, first_spot, IsFilled, IsWithin, AreLines}
 use Rattle.tape_drawing.specs.Frames.{strip_shapes}
@@ -63,13 +64,13 @@ unset_pieces widths top fault line =
 
 -- what is drawn of a line with these items and this fault: the bar of a slug, and them
 abbrev pub unset_shapes : WidthFile → ℕ → SetFault → List Item → List Shape
-unset_shapes widths top fault line = Bar 60 top ∷ unset_pieces widths top fault line
+unset_shapes widths top fault line = Bar margin top ∷ unset_pieces widths top fault line
 
 -- what stands below the frames of a line: its slug; what there is of one that does not set; or that there is nothing to cast
 abbrev pub foot_shapes : WidthFile → ℕ → ℕ → Verdict → Option Line → List Shape
 foot_shapes widths number top (Sets slug) line = slug_shapes widths.measure top number slug
-foot_shapes widths number top Nothing line = Words styles.Note 60 (top + 11) (codes "nothing to cast") ∷ []
-foot_shapes widths number top (Faulty fault) None = Words styles.Fault 60 (top + 11) (fault_words fault) ∷ []
+foot_shapes widths number top Nothing line = Words styles.Note margin (top + 11) (codes "nothing to cast") ∷ []
+foot_shapes widths number top (Faulty fault) None = Words styles.Fault margin (top + 11) (fault_words fault) ∷ []
 foot_shapes widths number top (Faulty fault) (Some line) = unset_shapes widths top fault line.items
 
 -- the mark of a fault, in a line that begins at this position and below this edge
@@ -107,12 +108,12 @@ lines_shapes page means widths tape spot (fit ∷ fits) =
 
 -- how high the frames behind the last cut are, with room for a mark behind them, and what is said of them
 abbrev pub rest_height : ℕ → ℕ
-rest_height frames = rows_height (frames + 1) + 18
+rest_height frames = rows_height (frames + 1) + note_height
 
 -- what is said of the frames behind the last cut
 abbrev pub rest_words : ℕ → Option SetFault → Shape
-rest_words top None = Words styles.Note 60 (top + 11) (codes "nothing to cast")
-rest_words top (Some fault) = Words styles.Fault 60 (top + 11) (fault_words fault)
+rest_words top None = Words styles.Note margin (top + 11) (codes "nothing to cast")
+rest_words top (Some fault) = Words styles.Fault margin (top + 11) (fault_words fault)
 
 -- the frames behind the last cut, where there are any
 abbrev pub rest_shapes : DrawingForm → Meanings → List ℕ → Spot → Option SetFault → List Shape

@@ -8,6 +8,7 @@ use Rattle.tape_drawing.specs.declared.elements.Style.{Style}
 use Rattle.tape_drawing.specs.declared.page.DrawingForm.{DrawingForm}
 use Rattle.tape_drawing.specs.declared.page.DrawingForm.TheVariants as pages
 use Rattle.tape_drawing.specs.Meanings.{meaning_word, mark_style, mark_word}
+use Rattle.tape_drawing.specs.Lengths.{measure_width, frame_width, frame_middle, paper_height, feed_top, outline_height, slug_height}
 use Rattle.tape_drawing.specs.Styles.{style_lead}
 
 -- an element of a drawing. By their upper left corner: the paper of a row of so many frames, with its feed holes; the box of a
@@ -124,23 +125,25 @@ close_text pages.Html = codes "</svg>\n"
 -- the paper of so many frames
 unfoldable pub sheet_text : ℕ → ℕ → ℕ → List ℕ
 sheet_text x y frames =
-    pair_text (codes "<rect class='p' x='") x (codes "' y='") y ++ (pair_text (codes "' width='") (18 * frames) (codes "' height='") 58 ++ codes "'/>\n")
+    pair_text (codes "<rect class='p' x='") x (codes "' y='") y ++ (pair_text (codes "' width='") (frame_width * frames) (codes "' height='") paper_height ++ codes "'/>\n")
 
 -- their feed holes: a stroke whose dashes are points
 unfoldable pub feed_text : ℕ → ℕ → ℕ → List ℕ
 feed_text x y frames =
-    pair_text (codes "<path class='d' d='M") (x + 9) (codes " ") (y + 29) ++ (pair_text (codes "h") (18 * frames - 9) (codes "v") 0 ++ codes "'/>\n")
+    pair_text (codes "<path class='d' d='M") (x + frame_middle) (codes " ") (y + feed_top) ++ (pair_text (codes "h") (frame_width * frames - frame_middle) (codes "v") 0 ++ codes "'/>\n")
 
 -- the text of an element
 unfoldable pub shape_text : Shape → List ℕ
 shape_text (Paper x y frames) = sheet_text x y frames ++ feed_text x y frames
 shape_text (Frame x y at frame meaning) = frame_text x y at frame meaning
 shape_text (Box look x y width) =
-    pair_text (box_lead look) x (codes "' y='") y ++ (pair_text (codes "' width='") width (codes "' height='") 46 ++ codes "'/>\n")
-shape_text (Bar x y) = pair_text (codes "<rect class='k' x='") x (codes "' y='") y ++ codes "' width='720' height='46'/>\n"
+    pair_text (box_lead look) x (codes "' y='") y ++ (pair_text (codes "' width='") width (codes "' height='") slug_height ++ codes "'/>\n")
+shape_text (Bar x y) =
+    pair_text (codes "<rect class='k' x='") x (codes "' y='") y ++ (pair_text (codes "' width='") measure_width (codes "' height='") slug_height ++ codes "'/>\n")
 shape_text (Gap x y width) =
-    pair_text (codes "<rect class='a' x='") x (codes "' y='") y ++ (pair_text (codes "' width='") width (codes "' height='") 46 ++ codes "'/>\n")
-shape_text (Mark x y) = pair_text (codes "<rect class='f' x='") x (codes "' y='") y ++ codes "' width='18' height='74'/>\n"
+    pair_text (codes "<rect class='a' x='") x (codes "' y='") y ++ (pair_text (codes "' width='") width (codes "' height='") slug_height ++ codes "'/>\n")
+shape_text (Mark x y) =
+    pair_text (codes "<rect class='f' x='") x (codes "' y='") y ++ (pair_text (codes "' width='") frame_width (codes "' height='") outline_height ++ codes "'/>\n")
 shape_text (Words style x y words) = words_text style x y words
 shape_text (Fitted style x y length words) = fitted_text style x y length words
 shape_text (Open page number y height) = open_text page number y height

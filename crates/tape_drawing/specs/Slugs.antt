@@ -1,4 +1,4 @@
--- What is cast of a line: where each piece is drawn, and how wide. The measure is 720 units wide.
+-- What is cast of a line: where each piece is drawn, and how wide.
 use Rattle.std.specs.Prelude.{◌≡◌, ℕ, ◌+◌, ◌*◌, ◌-◌, ◌/◌, min, List, [], ◌∷◌, ◌++◌, Bool, decimal, length, sum_by, nat_lt, nat_le, ◌==◌, if◌then◌else◌}
 use Rattle.slug_reader.specs.declared.item.Rail.{Rail}
 use Rattle.slug_reader.specs.declared.item.Rail.TheVariants as rails
@@ -13,6 +13,7 @@ use Rattle.tape_drawing.specs.declared.elements.Look.TheVariants as looks
 use Rattle.tape_drawing.specs.declared.elements.Style.{Style}
 use Rattle.tape_drawing.specs.declared.elements.Style.TheVariants as styles
 use Rattle.tape_drawing.specs.declared.layout.Stretch.{Stretch}
+use Rattle.tape_drawing.specs.Lengths.{margin, right_edge}
 use Rattle.tape_drawing.specs.Shapes.{Shape, Box, Bar, Gap, Words, Fitted, text_of}
 use Rattle.tape_drawing.specs.Layout.{edge, across}
 
@@ -106,12 +107,12 @@ AddsItems measure top band line old new to =
 -- a slug: its bar, the blank on its left, its pieces, and the blank on its right
 abbrev pub pieces_shapes : ℕ → ℕ → Slug → List Shape
 pieces_shapes measure top slug =
-    Bar 60 top ∷ (blank_shapes (stretch measure top 0 slug.left)
+    Bar margin top ∷ (blank_shapes (stretch measure top 0 slug.left)
     ++ (sorts_shapes measure top slug.left slug.items ++ blank_shapes (stretch measure top (slug.left + sum_by sort_width slug.items) slug.right)))
 
 -- the gap between the end of a line and the measure, where there is one
 abbrev pub gap_shapes : ℕ → ℕ → ℕ → List Shape
-gap_shapes measure top end = if nat_le measure end then [] else Gap (edge measure end) top (780 - edge measure end) ∷ []
+gap_shapes measure top end = if nat_le measure end then [] else Gap (edge measure end) top (right_edge - edge measure end) ∷ []
 
 -- the pieces of a line that does not set, and the gap behind them
 abbrev pub filled_shapes : ℕ → ℕ → ℕ → List Item → List Shape

@@ -1,17 +1,21 @@
 //! The elements of a drawing, each added to its text.
 
 ghost use Rattle.std.specs.Prelude.{◌≡◌, ◌≤◌, ◌<◌, ◌++◌, ◌^◌, OnOk, decimal, codes};
+ghost use Rattle.tape_drawing.specs.Lengths.{row_frames};
 ghost use Rattle.tape_drawing.specs.Styles.{style_lead};
 ghost use Rattle.tape_drawing.specs.Shapes.{pair_text, count_text, words_end, sheet_text, feed_text, box_lead, group_text, view_text, shape_text, Paper, Box, Bar, Gap, Mark, Words, Fitted, Open, Close};
 
 use crate::escaping::add_escaped;
+use crate::lengths::{
+    FEED_TOP, FRAME_MIDDLE, FRAME_WIDTH, MEASURE_WIDTH, OUTLINE_HEIGHT, PAPER_HEIGHT, SLUG_HEIGHT,
+};
 use crate::page::DrawingForm;
 use itoa::Buffer;
 use std::alloc::AllocError;
 
 /// How a piece of a line is drawn.
 #[derive(Clone, Copy, PartialEq, Eq)]
-pub enum Look {
+pub(crate) enum Look {
     /// A matrix.
     Matrix,
     /// A spaceband.
@@ -81,7 +85,7 @@ pub struct Room {
 
 /// From where to where a line reaches down.
 #[derive(Clone, Copy)]
-pub struct Extent {
+pub(crate) struct Extent {
     pub top: u64,
     pub height: u64,
 }
@@ -122,33 +126,49 @@ pub fn add_pair(
 /// Adds the paper of so many frames.
 #[tactic(auto, unfolding(crate::specs::Shapes::sheet_text))]
 fn add_sheet(text: &mut Vec<u8>, at: Point, frames: u64) -> Result<(), AllocError>
-    requires { frames ≤ 40 }
+    requires { frames ≤ row_frames }
     ensures { OnOk result (text.new.items ≡ text.old.items ++ sheet_text at.x at.y frames) }
 {
     add_pair(text, "<rect class='p' x='", "' y='", (at.x, at.y))?;
-    add_pair(text, "' width='", "' height='", (18 * frames, 58))?;
+    add_pair(
+        text,
+        "' width='",
+        "' height='",
+        (FRAME_WIDTH * frames, PAPER_HEIGHT),
+    )?;
     text.extend_from_slice(b"'/>\n")
 }
 
 /// Adds the paper of a row of so many frames, and its feed holes.
 #[tactic(auto, unfolding(crate::specs::Shapes::shape_text, crate::specs::Shapes::feed_text))]
 pub fn add_paper(text: &mut Vec<u8>, at: Point, frames: u64) -> Result<(), AllocError>
-    requires { (1 ≤ frames) × (frames ≤ 40) × (at.x ≤ 2 ^ 40) × (at.y ≤ 2 ^ 41) }
+    requires { (1 ≤ frames) × (frames ≤ row_frames) × (at.x ≤ 2 ^ 40) × (at.y ≤ 2 ^ 41) }
     ensures { OnOk result (text.new.items ≡ text.old.items ++ shape_text (Paper at.x at.y frames)) }
 {
     add_sheet(text, at, frames)?;
-    add_pair(text, "<path class='d' d='M", " ", (at.x + 9, at.y + 29))?;
-    add_pair(text, "h", "v", (18 * frames - 9, 0))?;
+    add_pair(
+        text,
+        "<path class='d' d='M",
+        " ",
+        (at.x + FRAME_MIDDLE, at.y + FEED_TOP),
+    )?;
+    add_pair(text, "h", "v", (FRAME_WIDTH * frames - FRAME_MIDDLE, 0))?;
     text.extend_from_slice(b"'/>\n")
 }
 
 /// Adds the outline of a faulty frame.
 #[tactic(auto, unfolding(crate::specs::Shapes::shape_text))]
-pub fn add_mark(text: &mut Vec<u8>, at: Point) -> Result<(), AllocError>
+pub(crate) fn add_mark(text: &mut Vec<u8>, at: Point) -> Result<(), AllocError>
     ensures { OnOk result (text.new.items ≡ text.old.items ++ shape_text (Mark at.x at.y)) }
 {
     add_pair(text, "<rect class='f' x='", "' y='", (at.x, at.y))?;
-    text.extend_from_slice(b"' width='18' height='74'/>\n")
+    add_pair(
+        text,
+        "' width='",
+        "' height='",
+        (FRAME_WIDTH, OUTLINE_HEIGHT),
+    )?;
+    text.extend_from_slice(b"'/>\n")
 }
 
 /// What begins the element of a box of this look.
@@ -166,30 +186,41 @@ fn box_lead(look: Look) -> &'static str
 
 /// Adds the box of a piece of a line.
 #[tactic(auto, unfolding(crate::specs::Shapes::shape_text))]
-pub fn add_box(text: &mut Vec<u8>, look: Look, at: Point, width: u64) -> Result<(), AllocError>
+pub(crate) fn add_box(
+    text: &mut Vec<u8>,
+    look: Look,
+    at: Point,
+    width: u64,
+) -> Result<(), AllocError>
     ensures { OnOk result (text.new.items ≡ text.old.items ++ shape_text (Box look at.x at.y width)) }
 {
     add_pair(text, box_lead(look), "' y='", (at.x, at.y))?;
-    add_pair(text, "' width='", "' height='", (width, 46))?;
+    add_pair(text, "' width='", "' height='", (width, SLUG_HEIGHT))?;
     text.extend_from_slice(b"'/>\n")
 }
 
 /// Adds the bar of a slug, as wide as the measure.
 #[tactic(auto, unfolding(crate::specs::Shapes::shape_text))]
-pub fn add_bar(text: &mut Vec<u8>, at: Point) -> Result<(), AllocError>
+pub(crate) fn add_bar(text: &mut Vec<u8>, at: Point) -> Result<(), AllocError>
     ensures { OnOk result (text.new.items ≡ text.old.items ++ shape_text (Bar at.x at.y)) }
 {
     add_pair(text, "<rect class='k' x='", "' y='", (at.x, at.y))?;
-    text.extend_from_slice(b"' width='720' height='46'/>\n")
+    add_pair(
+        text,
+        "' width='",
+        "' height='",
+        (MEASURE_WIDTH, SLUG_HEIGHT),
+    )?;
+    text.extend_from_slice(b"'/>\n")
 }
 
 /// Adds the gap of a loose line.
 #[tactic(auto, unfolding(crate::specs::Shapes::shape_text))]
-pub fn add_gap(text: &mut Vec<u8>, at: Point, width: u64) -> Result<(), AllocError>
+pub(crate) fn add_gap(text: &mut Vec<u8>, at: Point, width: u64) -> Result<(), AllocError>
     ensures { OnOk result (text.new.items ≡ text.old.items ++ shape_text (Gap at.x at.y width)) }
 {
     add_pair(text, "<rect class='a' x='", "' y='", (at.x, at.y))?;
-    add_pair(text, "' width='", "' height='", (width, 46))?;
+    add_pair(text, "' width='", "' height='", (width, SLUG_HEIGHT))?;
     text.extend_from_slice(b"'/>\n")
 }
 
@@ -280,7 +311,7 @@ fn add_view(text: &mut Vec<u8>, number: u64, extent: Extent) -> Result<(), Alloc
 
 /// Adds what begins the elements of a line: with its number, its upper edge and its height.
 #[tactic(auto, unfolding(crate::specs::Shapes::shape_text))]
-pub fn add_open(
+pub(crate) fn add_open(
     text: &mut Vec<u8>,
     page: DrawingForm,
     number: u64,
@@ -296,7 +327,7 @@ pub fn add_open(
 
 /// Adds what ends them.
 #[tactic(auto, unfolding(crate::specs::Shapes::shape_text))]
-pub fn add_close(text: &mut Vec<u8>, page: DrawingForm) -> Result<(), AllocError>
+pub(crate) fn add_close(text: &mut Vec<u8>, page: DrawingForm) -> Result<(), AllocError>
     ensures { OnOk result (text.new.items ≡ text.old.items ++ shape_text (Close page)) }
 {
     match page {

@@ -10,6 +10,7 @@ ghost use Rattle.tape_drawing.specs.Frames.{paper_shapes, position_shapes, above
 use crate::elements::{Point, Room, Style, add_count, add_fitted, add_pair, add_paper, add_words};
 use crate::escaping::add_escaped;
 use crate::layout::corner;
+use crate::lengths::{FRAME_MIDDLE, ROW_FRAMES};
 use crate::meanings::{mark_style, mark_word, meaning_word, next_case};
 use code_table::{Case, CodeTable, Meaning};
 use itoa::Buffer;
@@ -18,7 +19,7 @@ use tape_frames::holes;
 
 /// The frames of a line, as they stand on its tape.
 #[derive(Clone, Copy)]
-pub struct Strip<'a> {
+pub(crate) struct Strip<'a> {
     /// What says what they mean.
     pub table: &'a CodeTable,
     /// The frames of the whole tape.
@@ -149,10 +150,10 @@ fn add_row(text: &mut Vec<u8>, k: usize, frames: usize, at: Point) -> Result<(),
     requires { (k < frames) × (at.x ≤ 2 ^ 40) × (at.y ≤ 2 ^ 41) }
     ensures { OnOk result (text.new.items ≡ text.old.items ++ text_of (paper_shapes k frames at)) }
 {
-    if k % 40 != 0 {
+    if k % ROW_FRAMES as usize != 0 {
         return Ok(());
     }
-    add_paper(text, at, (frames - k).min(40) as u64)
+    add_paper(text, at, ((frames - k) as u64).min(ROW_FRAMES))
 }
 
 /// Adds the position of every tenth frame.
@@ -165,7 +166,7 @@ fn add_position(text: &mut Vec<u8>, position: usize, at: Point) -> Result<(), Al
     }
     let mut digits = Buffer::new();
     let place = Point {
-        x: at.x + 9,
+        x: at.x + FRAME_MIDDLE,
         y: at.y - 2,
     };
     add_words(
@@ -204,7 +205,7 @@ fn add_frame_alone(
         position: position as u64,
         frame: strip.tape[position],
         at: Point {
-            x: at.x + 9,
+            x: at.x + FRAME_MIDDLE,
             y: at.y,
         },
     };
@@ -224,7 +225,11 @@ fn add_kth(text: &mut Vec<u8>, case: Case, strip: &Strip<'_>, k: usize) -> Resul
 
 /// Adds the frames of a line, from left to right in rows, each with what it means in the case that holds there; and answers
 /// the case that holds behind them.
-pub fn add_strip(text: &mut Vec<u8>, case: Case, strip: &Strip<'_>) -> Result<Case, AllocError>
+pub(crate) fn add_strip(
+    text: &mut Vec<u8>,
+    case: Case,
+    strip: &Strip<'_>,
+) -> Result<Case, AllocError>
     requires strip { IsStrip strip.now }
     requires case { case ≡ case_at (mean strip.now.table.now) strip.now.tape.now strip.now.from }
     ensures text { OnOk result (text.new.items ≡ text.old.items ++ text_of (strip_in strip.now)) }

@@ -5,13 +5,17 @@ ghost use Rattle.tape_frames.specs.Frames.{most_frames};
 ghost use Rattle.tape_drawing.specs.Layout.{corner, rows_height, edge, across, type_size, height_below, slugs_in, faults_in, frames_in, line_height, next, after, first_spot, IsWithin, AreLines};
 
 use crate::elements::Point;
+use crate::lengths::{
+    CAST_HEIGHT, FRAME_WIDTH, GREATEST_TYPE, HEAD_HEIGHT, LEAST_TYPE, MARGIN, MEASURE_WIDTH,
+    NOTE_HEIGHT, PAPER_TOP, ROW_FRAMES, ROW_HEIGHT,
+};
 use line_fit::{LineFit, Verdict};
 use slug_reader::Line;
 use widths::Widths;
 
 /// Where a line begins.
 #[derive(Clone, Copy)]
-pub struct Spot {
+pub(crate) struct Spot {
     /// Its number, from 1: that of the text.
     pub number: u64,
     /// The number that its slug has, where it has one: that of the galley.
@@ -26,7 +30,7 @@ pub struct Spot {
 
 /// A stretch of a line to the scale of a measure, and the upper edge of what is cast of the line. Widths are in units.
 #[derive(Clone, Copy)]
-pub struct Stretch {
+pub(crate) struct Stretch {
     pub measure: u64,
     pub top: u64,
     pub from: u64,
@@ -34,35 +38,35 @@ pub struct Stretch {
 }
 
 /// The upper left corner of the paper of the k-th frame of a line whose upper edge is here.
-pub fn corner(top: u64, k: u64) -> Point
+pub(crate) fn corner(top: u64, k: u64) -> Point
     requires { (top ≤ 2 ^ 40) × (k ≤ 2 ^ 32) }
     ensures value { result ≡ corner top k }
     ensures small { (result.x ≤ 1000) × (12 ≤ result.y) × (result.y ≤ 2 ^ 41) }
 {
     Point {
-        x: 60 + 18 * (k % 40),
-        y: top + 87 * (k / 40) + 12,
+        x: MARGIN + FRAME_WIDTH * (k % ROW_FRAMES),
+        y: top + ROW_HEIGHT * (k / ROW_FRAMES) + PAPER_TOP,
     }
 }
 
 /// How high the rows of so many frames are.
-pub fn rows_height(frames: u64) -> u64
+pub(crate) fn rows_height(frames: u64) -> u64
     requires { frames ≤ 2 ^ 40 }
     ensures { result ≡ rows_height frames }
 {
-    87 * ((frames + 39) / 40)
+    ROW_HEIGHT * ((frames + (ROW_FRAMES - 1)) / ROW_FRAMES)
 }
 
-/// The edge that lies so many units from the left of a slug, in user units: the measure is 720 of them wide.
-pub fn edge(measure: u64, units: u64) -> u64
+/// The edge that lies so many units from the left of a slug, in user units.
+pub(crate) fn edge(measure: u64, units: u64) -> u64
     requires { (1 ≤ measure) × (units ≤ 2 ^ 40) }
     ensures { result ≡ edge measure units }
 {
-    60 + units * 720 / measure
+    MARGIN + units * MEASURE_WIDTH / measure
 }
 
 /// How far the right edge of a stretch lies from its left edge.
-pub fn across(stretch: Stretch) -> u64
+pub(crate) fn across(stretch: Stretch) -> u64
     requires { (1 ≤ stretch.measure) × (stretch.from ≤ 2 ^ 39) × (stretch.width ≤ 2 ^ 39) }
     ensures { result ≡ across stretch }
 {
@@ -70,12 +74,12 @@ pub fn across(stretch: Stretch) -> u64
 }
 
 /// The size of the type: its em is that of the widths, but no higher than a slug.
-pub fn type_size(widths: &Widths) -> u64
+pub(crate) fn type_size(widths: &Widths) -> u64
     ensures { result ≡ type_size widths.now }
 {
-    (u64::from(widths.em()) * 720 / u64::from(widths.measure()))
-        .min(44)
-        .max(6)
+    (u64::from(widths.em()) * MEASURE_WIDTH / u64::from(widths.measure()))
+        .min(GREATEST_TYPE)
+        .max(LEAST_TYPE)
 }
 
 /// How high what stands below the frames of a line is.
@@ -84,11 +88,11 @@ fn height_below(verdict: &Verdict, line: &Option<Line>) -> u64
     ensures small { result ≤ 64 }
 {
     match verdict {
-        Verdict::Sets(_) => 64,
-        Verdict::Nothing => 18,
+        Verdict::Sets(_) => CAST_HEIGHT,
+        Verdict::Nothing => NOTE_HEIGHT,
         Verdict::Faulty(_) => match line {
-            Some(_) => 64,
-            None => 18,
+            Some(_) => CAST_HEIGHT,
+            None => NOTE_HEIGHT,
         },
     }
 }
@@ -114,7 +118,7 @@ fn faults_in(verdict: &Verdict) -> u8
 }
 
 /// How many frames a line has that begins at a position, with the code that cuts it.
-pub fn frames_in(from: u64, fit: &LineFit) -> u64
+pub(crate) fn frames_in(from: u64, fit: &LineFit) -> u64
     requires { from ≤ fit.now.cut_at }
     ensures value { result ≡ frames_in from fit.now }
     ensures small { result ≤ 2 ^ 32 }
@@ -123,7 +127,7 @@ pub fn frames_in(from: u64, fit: &LineFit) -> u64
 }
 
 /// How high a line is.
-pub fn line_height(from: u64, fit: &LineFit) -> u64
+pub(crate) fn line_height(from: u64, fit: &LineFit) -> u64
     requires { (from ≤ fit.now.cut_at) × (fit.now.cut_at ≤ 2 ^ 39) }
     ensures value { result ≡ line_height from fit.now }
     ensures small { result ≤ 2 ^ 46 }
@@ -132,7 +136,7 @@ pub fn line_height(from: u64, fit: &LineFit) -> u64
 }
 
 /// Where the line begins that follows another.
-pub fn next(spot: Spot, fit: &LineFit) -> Spot
+pub(crate) fn next(spot: Spot, fit: &LineFit) -> Spot
     requires { (spot.from ≤ fit.now.cut_at) × (spot.top ≤ 2 ^ 40) × (spot.number ≤ 2 ^ 40) × (spot.slug ≤ 2 ^ 40) × (spot.faults ≤ 2 ^ 40) × (fit.now.cut_at ≤ 2 ^ 39) }
     ensures { result ≡ next spot fit.now }
 {
@@ -146,7 +150,7 @@ pub fn next(spot: Spot, fit: &LineFit) -> Spot
 }
 
 /// Where the first line begins, below the head.
-pub fn first_spot() -> Spot
+pub(crate) fn first_spot() -> Spot
     ensures { result ≡ first_spot }
 {
     Spot {
@@ -154,12 +158,12 @@ pub fn first_spot() -> Spot
         slug: 1,
         faults: 0,
         from: 0,
-        top: 96,
+        top: HEAD_HEIGHT,
     }
 }
 
 /// Where the line begins that follows these, of a tape with so many frames whose slugs have this measure.
-pub fn after(fits: &[LineFit], measure: u64, end: usize) -> Spot
+pub(crate) fn after(fits: &[LineFit], measure: u64, end: usize) -> Spot
     requires { (end ≤ most_frames) × AreLines measure end 0 fits.now }
     ensures value { result ≡ after first_spot fits.now }
     ensures within { IsWithin end result }

@@ -7,6 +7,7 @@ mod escaping;
 mod frames;
 pub mod laws;
 mod layout;
+mod lengths;
 mod lines;
 mod meanings;
 mod page;

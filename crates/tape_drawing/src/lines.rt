@@ -7,6 +7,7 @@ ghost use Rattle.slug_reader.specs.Meanings.{case_at};
 ghost use Rattle.line_check.specs.Galley.{kind_text};
 ghost use Rattle.line_fit.specs.Fitting.{fault_in};
 ghost use Rattle.tape_drawing.specs.Shapes.{text_of, shape_text, Words};
+ghost use Rattle.tape_drawing.specs.Lengths.{margin};
 ghost use Rattle.tape_drawing.specs.Layout.{IsFull, IsFilled, IsWithin, after, first_spot};
 ghost use Rattle.tape_drawing.specs.Lines.{cause_words, fault_words, band_in, kind_words, slug_shapes, unset_pieces, unset_shapes, foot_shapes, mark_shapes, number_style, number_shape, taped_shapes, rest_height, rest_words, rest_shapes, HoldsHere, IsTaped, IsLineOf, IsBehindLines, AreLinesOf, line_by, lines_by, tape_by};
 
@@ -15,6 +16,7 @@ use crate::elements::{
 };
 use crate::frames::{Strip, add_strip};
 use crate::layout::{Spot, corner, first_spot, frames_in, line_height, next, rows_height};
+use crate::lengths::{MARGIN, NOTE_HEIGHT};
 use crate::page::DrawingForm;
 use crate::slugs::{Bed, add_filled, add_pieces};
 use code_table::{Case, CodeTable};
@@ -27,7 +29,7 @@ use widths::Widths;
 
 /// What is drawn, and what it is drawn by.
 #[derive(Clone, Copy)]
-pub struct DrawingPlan<'a> {
+pub(crate) struct DrawingPlan<'a> {
     pub alloc: Global,
     pub page: DrawingForm,
     pub table: &'a CodeTable,
@@ -195,11 +197,11 @@ fn add_fault(
     below: Below,
     fault: SetFault,
 ) -> Result<(), AllocError>
-    ensures { OnOk result (text.new.items ≡ text.old.items ++ shape_text (Words Style.Fault 60 (below.top + 11) (fault_words fault))) }
+    ensures { OnOk result (text.new.items ≡ text.old.items ++ shape_text (Words Style.Fault margin (below.top + 11) (fault_words fault))) }
 {
     let words = fault_words(plan.alloc, fault)?;
     let at = Point {
-        x: 60,
+        x: MARGIN,
         y: below.top + 11,
     };
     add_words(text, Style::Fault, at, &words)
@@ -207,10 +209,10 @@ fn add_fault(
 
 /// Adds that there is nothing to cast.
 fn add_nothing(text: &mut Vec<u8>, below: Below) -> Result<(), AllocError>
-    ensures { OnOk result (text.new.items ≡ text.old.items ++ shape_text (Words Style.Note 60 (below.top + 11) (codes "nothing to cast"))) }
+    ensures { OnOk result (text.new.items ≡ text.old.items ++ shape_text (Words Style.Note margin (below.top + 11) (codes "nothing to cast"))) }
 {
     let at = Point {
-        x: 60,
+        x: MARGIN,
         y: below.top + 11,
     };
     add_words(text, Style::Note, at, b"nothing to cast")
@@ -241,7 +243,7 @@ fn add_unset(
     ensures { OnOk result (text.new.items ≡ text.old.items ++ text_of (unset_shapes plan.now.widths.now below.top unset.now.fault unset.now.items.now)) }
 {
     let at = Point {
-        x: 60,
+        x: MARGIN,
         y: below.top,
     };
     add_bar(text, at)?;
@@ -276,7 +278,7 @@ fn add_foot(
 }
 
 /// The fault of a verdict, where it has one.
-pub fn fault_in(verdict: &Verdict) -> Option<SetFault>
+pub(crate) fn fault_in(verdict: &Verdict) -> Option<SetFault>
     ensures { result ≡ fault_in verdict.now }
 {
     match verdict {
@@ -419,11 +421,11 @@ fn add_lines(
 }
 
 /// How high the frames behind the last elevate code are, with room for a mark behind them.
-pub fn rest_height(frames: u64) -> u64
+pub(crate) fn rest_height(frames: u64) -> u64
     requires { frames ≤ 2 ^ 30 }
     ensures { result ≡ rest_height frames }
 {
-    rows_height(frames + 1) + 18
+    rows_height(frames + 1) + NOTE_HEIGHT
 }
 
 /// Adds what is said of the frames behind the last elevate code.
@@ -481,7 +483,7 @@ fn add_rest(
 
 /// Adds all that is drawn of a tape: its lines, and what stands behind the last.
 #[tactic(auto, using(crate::proofs::Sequences::text_append))]
-pub fn add_tape(
+pub(crate) fn add_tape(
     text: &mut Vec<u8>,
     plan: &DrawingPlan<'_>,
     fitting: &Fitting,

@@ -85,7 +85,7 @@ pub fn mark_style(meaning: Option<&Meaning>) -> Style
 }
 
 /// The case that holds behind a frame.
-pub fn next_case(table: &CodeTable, case: Case, frame: u8) -> Case
+pub(crate) fn next_case(table: &CodeTable, case: Case, frame: u8) -> Case
     ensures value { result ≡ unwrap_or (case_of (mean table.now case frame)) case }
     ensures alike { case_of (mean table.now case frame) ≡ case_of (mean table.now Case.Unshift frame) }
 {

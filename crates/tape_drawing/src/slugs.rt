@@ -10,6 +10,7 @@ ghost use Rattle.tape_drawing.specs.Slugs.{is_over, look_in, type_style, box_sha
 
 use crate::elements::{Look, Point, Room, Style, add_bar, add_box, add_fitted, add_gap, add_words};
 use crate::layout::{Stretch, across, edge};
+use crate::lengths::{MARGIN, RIGHT_EDGE};
 use code_table::Name;
 use itoa::Buffer;
 use line_check::{Slug, Sort};
@@ -18,7 +19,7 @@ use std::alloc::AllocError;
 
 /// Where what is cast of a line is laid.
 #[derive(Clone, Copy)]
-pub struct Bed {
+pub(crate) struct Bed {
     /// The measure, in units.
     pub measure: u64,
     /// The upper edge, in user units.
@@ -236,7 +237,7 @@ fn add_items(text: &mut Vec<u8>, bed: Bed, band: u16, items: &[Item]) -> Result<
 
 /// Adds a slug: its bar, the blank on its left, its pieces, and the blank on its right.
 #[tactic(auto, using(crate::proofs::Sequences::text_append))]
-pub fn add_pieces(text: &mut Vec<u8>, bed: Bed, slug: &Slug) -> Result<(), AllocError>
+pub(crate) fn add_pieces(text: &mut Vec<u8>, bed: Bed, slug: &Slug) -> Result<(), AllocError>
     requires { (1 ≤ bed.measure) × (bed.measure ≤ 65535) × IsFull bed.measure slug.now × (bed.top ≤ 2 ^ 59) }
     ensures { OnOk result (text.new.items ≡ text.old.items ++ text_of (pieces_shapes bed.measure bed.top slug.now)) }
 {
@@ -247,7 +248,13 @@ pub fn add_pieces(text: &mut Vec<u8>, bed: Bed, slug: &Slug) -> Result<(), Alloc
         from: 0,
         width: left,
     };
-    add_bar(text, Point { x: 60, y: bed.top })?;
+    add_bar(
+        text,
+        Point {
+            x: MARGIN,
+            y: bed.top,
+        },
+    )?;
     add_blank(text, Drawn { stretch: before })?;
     let from = add_sorts(text, bed, left, slug.items.as_slice())?;
     let after = Stretch {
@@ -271,12 +278,17 @@ fn add_gap_behind(text: &mut Vec<u8>, bed: Bed, end: u64) -> Result<(), AllocErr
         x: edge(bed.measure, end),
         y: bed.top,
     };
-    add_gap(text, at, 780 - edge(bed.measure, end))
+    add_gap(text, at, RIGHT_EDGE - edge(bed.measure, end))
 }
 
 /// Adds what stands in a line whose bands have this width, and the gap behind it.
 #[tactic(auto, using(crate::proofs::Sequences::text_append))]
-pub fn add_filled(text: &mut Vec<u8>, bed: Bed, band: u16, items: &[Item]) -> Result<(), AllocError>
+pub(crate) fn add_filled(
+    text: &mut Vec<u8>,
+    bed: Bed,
+    band: u16,
+    items: &[Item],
+) -> Result<(), AllocError>
     requires { (1 ≤ bed.measure) × (bed.measure ≤ 65535) × (length items.now ≤ most_frames) × (bed.top ≤ 2 ^ 59) }
     ensures { OnOk result (text.new.items ≡ text.old.items ++ text_of (filled_shapes bed.measure bed.top band items.now)) }
 {

@@ -5,7 +5,7 @@ ghost use Rattle.tape_drawing.specs.Texts.{style_head, style_tail, svg_lead, svg
 
 /// How what is drawn looks, as far as the size of the type.
 #[tactic(auto, unfolding(crate::specs::Texts::style_head))]
-pub fn style_head() -> &'static str
+pub(crate) fn style_head() -> &'static str
     ensures { result.now ≡ style_head }
 {
     "\
@@ -37,7 +37,7 @@ path{fill:none;stroke:#1a1a1a;stroke-width:6;stroke-linecap:round}\n\
 
 /// How what is drawn looks, behind the size of the type.
 #[tactic(auto, unfolding(crate::specs::Texts::style_tail))]
-pub fn style_tail() -> &'static str
+pub(crate) fn style_tail() -> &'static str
     ensures { result.now ≡ style_tail }
 {
     "\
@@ -56,7 +56,7 @@ pub fn svg_lead() -> &'static str
 
 /// Behind the style of a document: what spacebands are filled with, and the ground.
 #[tactic(auto, unfolding(crate::specs::Texts::svg_style_end))]
-pub fn svg_style_end() -> &'static str
+pub(crate) fn svg_style_end() -> &'static str
     ensures { result.now ≡ svg_style_end }
 {
     "\
@@ -68,7 +68,7 @@ pub fn svg_style_end() -> &'static str
 
 /// What the marks of functions stand for.
 #[tactic(auto, unfolding(crate::specs::Texts::first_legend))]
-pub fn first_legend() -> &'static str
+pub(crate) fn first_legend() -> &'static str
     ensures { result.now ≡ first_legend }
 {
     "SB spaceband | SH shift | UN unshift | EL elevate, which ends a line | RT return | UR upper rail, set bold | LR lower rail"
@@ -76,7 +76,7 @@ pub fn first_legend() -> &'static str
 
 /// What the others stand for.
 #[tactic(auto, unfolding(crate::specs::Texts::second_legend))]
-pub fn second_legend() -> &'static str
+pub(crate) fn second_legend() -> &'static str
     ensures { result.now ≡ second_legend }
 {
     "QL QC QR quad left, center, right | TH EN EM thin, en, em space | IG ignored | at the left the lines of the text and the slugs of the galley"
@@ -98,7 +98,7 @@ pub fn page_lead() -> &'static str
 
 /// How a page looks round its drawings, and what begins its heading.
 #[tactic(auto, unfolding(crate::specs::Texts::page_style_end))]
-pub fn page_style_end() -> &'static str
+pub(crate) fn page_style_end() -> &'static str
     ensures { result.now ≡ page_style_end }
 {
     "\
@@ -118,7 +118,7 @@ main>svg{display:block;width:100%;min-width:640px;break-inside:avoid;overflow:hi
 
 /// What the marks stand for, in a page.
 #[tactic(auto, unfolding(crate::specs::Texts::page_legend))]
-pub fn page_legend() -> &'static str
+pub(crate) fn page_legend() -> &'static str
     ensures { result.now ≡ page_legend }
 {
     "\
@@ -129,7 +129,7 @@ QL QC QR quad left, center, right | TH EN EM thin, en, em space | IG ignored | a
 
 /// What begins the drawings of a page.
 #[tactic(auto, unfolding(crate::specs::Texts::page_main))]
-pub fn page_main() -> &'static str
+pub(crate) fn page_main() -> &'static str
     ensures { result.now ≡ page_main }
 {
     "\

@@ -2,7 +2,7 @@
 //! has it built in a minute.
 #![tactic(auto)]
 
-use command_ends::ScriptPaths;
+use inputs::ScriptPaths;
 use rehearse_command::{RehearsalOrder, rehearse};
 use std::process::ExitCode;
 use streams::InputFile;

@@ -12,7 +12,7 @@ use text_words::Word;
 
 /// What a word adds to a tape.
 #[derive(Clone, Copy)]
-pub struct Added {
+pub(crate) struct Added {
     /// The case code before the frame, where the case that holds has none for the word.
     pub turn: Option<u8>,
     /// The frame of the word.
@@ -31,7 +31,7 @@ fn other_case(case: Case) -> Case
 
 /// The frames of a meaning where the case holds.
 #[tactic(auto, unfolding(crate::specs::Codes::adds))]
-pub fn frames_of(codes: &Codes<'_>, case: Case, meaning: &Meaning) -> Option<Added>
+pub(crate) fn frames_of(codes: &Codes<'_>, case: Case, meaning: &Meaning) -> Option<Added>
     ensures { result ≡ adds (mean codes.now) case (Word.Means meaning.now) }
 {
     if let Some(frame) = codes.frame_of(case, meaning) {
@@ -48,7 +48,7 @@ pub fn frames_of(codes: &Codes<'_>, case: Case, meaning: &Meaning) -> Option<Add
 
 /// What a word adds to a tape where the case holds, if it has a code.
 #[tactic(auto, unfolding(crate::specs::Codes::adds))]
-pub fn adds(codes: &Codes<'_>, case: Case, word: &Word) -> Option<Added>
+pub(crate) fn adds(codes: &Codes<'_>, case: Case, word: &Word) -> Option<Added>
     ensures { result ≡ adds (mean codes.now) case word.now }
 {
     match word {
@@ -61,7 +61,7 @@ pub fn adds(codes: &Codes<'_>, case: Case, word: &Word) -> Option<Added>
 }
 
 /// Adds a frame to a tape, and goes over to the case that holds behind it.
-pub fn push_frame(
+pub(crate) fn push_frame(
     codes: &Codes<'_>,
     case: &mut Case,
     frames: &mut Vec<u8>,
@@ -77,7 +77,7 @@ pub fn push_frame(
 }
 
 /// Adds the frames of a word.
-pub fn push_added(
+pub(crate) fn push_added(
     codes: &Codes<'_>,
     case: &mut Case,
     frames: &mut Vec<u8>,

@@ -59,7 +59,7 @@ fn is_meant(table: &CodeTable, case: Case, meaning: &Meaning, frame: u8) -> bool
 }
 
 /// The case that a frame selects for those after it.
-pub fn selected_by(table: &CodeTable, frame: u8) -> Option<Case>
+pub(crate) fn selected_by(table: &CodeTable, frame: u8) -> Option<Case>
     ensures { result ≡ selected_by (mean table.now) frame }
 {
     table.meaning(Case::Unshift, frame)?.selects()
@@ -76,7 +76,7 @@ fn is_turn(table: &CodeTable, case: Case, frame: u8) -> bool
 }
 
 /// The least frame with the meaning in the case.
-pub fn frame_of(table: &CodeTable, case: Case, meaning: &Meaning) -> Option<u8>
+pub(crate) fn frame_of(table: &CodeTable, case: Case, meaning: &Meaning) -> Option<u8>
     ensures { result ≡ frame_of (mean table.now) case meaning.now }
 {
     for frame in 0..64u8 {
@@ -88,7 +88,7 @@ pub fn frame_of(table: &CodeTable, case: Case, meaning: &Meaning) -> Option<u8>
 }
 
 /// The least frame that selects the case.
-pub fn turn_to(table: &CodeTable, case: Case) -> Option<u8>
+pub(crate) fn turn_to(table: &CodeTable, case: Case) -> Option<u8>
     ensures { result ≡ turn_to (mean table.now) case }
 {
     for turn in 0..64u8 {

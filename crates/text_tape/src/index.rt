@@ -16,7 +16,7 @@ const KEYS: u8 = 127;
 
 /// A code table, with the least frames of the functions and of the matrices whose names are one byte. Clauses see the table.
 #[derive(Drop)]
-pub struct Codes<'a> {
+pub(crate) struct Codes<'a> {
     table: &'a CodeTable,
     /// The least frames of the keys in each case.
     unshift: Vec<Option<u8>>,

@@ -32,14 +32,14 @@ struct PunchKeys<'a> {
 
 /// What stops the punch at a word.
 #[derive(Clone, Copy)]
-pub enum Stop {
+pub(crate) enum Stop {
     Cause(PunchCause),
     OutOfMemory,
 }
 
 /// Where it stops.
 #[derive(Clone, Copy)]
-pub struct Stopped {
+pub(crate) struct Stopped {
     pub at: usize,
     pub stop: Stop,
 }

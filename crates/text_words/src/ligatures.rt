@@ -66,7 +66,7 @@ fn greater(a: usize, b: usize) -> usize
 }
 
 /// How many bytes the longest of the ligatures takes of the text; 0 where it begins with none.
-pub fn longest_len(ligatures: &[Name], text: &[u8]) -> usize
+pub(crate) fn longest_len(ligatures: &[Name], text: &[u8]) -> usize
     ensures value { result ≡ longest_len ligatures.now text.now }
     ensures within { result ≤ length text.now }
 {

@@ -19,14 +19,14 @@ fn matrix_of(name: &[u8]) -> Option<Meaning>
 }
 
 /// The matrix of this name, as a word.
-pub fn matrix_word(name: &[u8]) -> Option<Word>
+pub(crate) fn matrix_word(name: &[u8]) -> Option<Word>
     ensures { result ≡ matrix_word name.now }
 {
     Some(Word::Means(matrix_of(name)?))
 }
 
 /// What a byte says by itself.
-pub fn byte_word(byte: u8) -> Option<Word>
+pub(crate) fn byte_word(byte: u8) -> Option<Word>
     ensures { result ≡ byte_word byte }
 {
     match byte {
@@ -97,7 +97,7 @@ fn meaning_of(name: &[u8]) -> Option<Meaning>
 
 /// What a name in braces says.
 #[tactic(auto, unfolding(crate::specs::Words::named_word))]
-pub fn named_word(name: &[u8]) -> Option<Word>
+pub(crate) fn named_word(name: &[u8]) -> Option<Word>
     requires { IsTrue (is_in_braces name.now) }
     ensures { result ≡ named_word name.now }
 {

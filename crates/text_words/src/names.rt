@@ -34,7 +34,7 @@ fn inner_len(text: &[u8]) -> usize
 }
 
 /// How long the name is that begins behind an open brace, where that is closed.
-pub fn name_len(behind: &[u8]) -> Option<usize>
+pub(crate) fn name_len(behind: &[u8]) -> Option<usize>
     ensures within { IfSome result (λ len. len < length behind.now) }
     ensures name { IfSome result (λ len. IsTrue (is_in_braces (take len behind.now))) }
     ensures closed { IfSome result (λ len. slice_index behind.now len ≡ 125) }
@@ -61,7 +61,7 @@ fn all_inner(text: &[u8]) -> bool
 }
 
 /// Whether a name may stand in braces.
-pub fn is_in_braces(name: &[u8]) -> bool
+pub(crate) fn is_in_braces(name: &[u8]) -> bool
     ensures { result ≡ is_in_braces name.now }
 {
     match name {
@@ -72,7 +72,7 @@ pub fn is_in_braces(name: &[u8]) -> bool
 
 /// The text of a name in braces.
 #[tactic(auto, using(crate::proofs::Naming::in_braces_utf8))]
-pub fn text_of(name: &[u8]) -> &str
+pub(crate) fn text_of(name: &[u8]) -> &str
     requires { IsTrue (is_in_braces name.now) }
     ensures { result.now ≡ name.now }
 {

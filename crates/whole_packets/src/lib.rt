@@ -22,7 +22,7 @@ pub fn gather_all(
 {
     let mut gathering = Gathering::new(alloc);
     for piece in pieces {
-        let taken = gathering.take(alloc, keys, piece)?;
+        let taken = gathering.push(alloc, keys, piece)?;
         if let Some(packet) = taken {
             return Ok(Some(packet));
         }

@@ -28,7 +28,7 @@ fn compare_names(entry: &MatrixWidth, name: &[u8]) -> Ordering
 
 /// The width at the name among entries in byte order of their names.
 #[tactic(auto, using(crate::proofs::Places::in_range))]
-pub fn width_among(entries: &[MatrixWidth], name: &[u8]) -> Option<u16>
+pub(crate) fn width_among(entries: &[MatrixWidth], name: &[u8]) -> Option<u16>
     requires names { IsInNameOrder entries.now }
     requires widths { AllByRecursion (λ entry. IsWidth entry.width) entries.now }
     ensures value { result ≡ width_among entries.now name.now }
@@ -41,7 +41,7 @@ pub fn width_among(entries: &[MatrixWidth], name: &[u8]) -> Option<u16>
 }
 
 /// The same entries once more.
-pub fn copied(alloc: Global, entries: &[MatrixWidth]) -> Result<Vec<MatrixWidth>, AllocError>
+pub(crate) fn copied(alloc: Global, entries: &[MatrixWidth]) -> Result<Vec<MatrixWidth>, AllocError>
     ensures { IfOk result (λ v. v.items ≡ entries.now) }
 {
     let mut copies = Vec::with_capacity(alloc, entries.len())?;

@@ -27,7 +27,7 @@ fn read_entry(place: usize, name: &str, value: &Value) -> Result<MatrixWidth, Wi
 }
 
 /// The matrices of a table in byte order of their names.
-pub fn read_matrix(alloc: Global, table: &Table) -> Result<Vec<MatrixWidth>, WidthFault>
+pub(crate) fn read_matrix(alloc: Global, table: &Table) -> Result<Vec<MatrixWidth>, WidthFault>
     ensures ok { IfOk result (λ entries. read_matrix (table_view table.now) ≡ Ok entries.items) }
     ensures names { IfOk result (λ entries. IsInNameOrder entries.items) }
     ensures widths { IfOk result (λ entries. AllByRecursion (λ entry. IsWidth entry.width) entries.items) }

@@ -12,11 +12,11 @@ use toml::{Table, Value};
 const MOST_MEASURE: u16 = 65535;
 
 /// The greatest width of what stands in a line.
-pub const MOST_WIDTH: u16 = 999;
+pub(crate) const MOST_WIDTH: u16 = 999;
 
 /// The width of a line, and the widths of bands and fixed spaces.
 #[derive(Clone, Copy)]
-pub struct Measures {
+pub(crate) struct Measures {
     pub measure: u16,
     pub band_min: u16,
     pub band_max: u16,
@@ -27,7 +27,7 @@ pub struct Measures {
 
 /// The number of the value: whole, and from 1 to the most.
 #[tactic(auto, unfolding(crate::specs::Numbers::number_of, crate::specs::Numbers::in_range))]
-pub fn number_of(key: WidthKey, most: u16, value: &Value) -> Result<u16, WidthFault>
+pub(crate) fn number_of(key: WidthKey, most: u16, value: &Value) -> Result<u16, WidthFault>
     ensures value { result ≡ number_of key most (view value.now) }
     ensures range { IfOk result (λ number. (1 ≤ number) × (number ≤ most)) }
 {
@@ -60,7 +60,7 @@ fn number_at(file: &Table, key: WidthKey, name: &str, most: u16) -> Result<u16, 
 
 /// The six measures.
 #[tactic(auto, unfolding(crate::specs::Numbers::measures_in))]
-pub fn measures_in(file: &Table) -> Result<Measures, WidthFault>
+pub(crate) fn measures_in(file: &Table) -> Result<Measures, WidthFault>
     ensures value { result ≡ measures_in (table_view file.now) }
     ensures ranges { IfOk result (λ measures. AreMeasures measures) }
 {
@@ -76,7 +76,7 @@ pub fn measures_in(file: &Table) -> Result<Measures, WidthFault>
 
 /// The table of the matrices.
 #[tactic(auto, unfolding(crate::specs::Numbers::matrix_in))]
-pub fn matrix_in(file: &Table) -> Result<&Table, WidthFault>
+pub(crate) fn matrix_in(file: &Table) -> Result<&Table, WidthFault>
     ensures { MatchResult result (λ table. matrix_in (table_view file.now) ≡ Ok (table_view table.now)) (λ e. matrix_in (table_view file.now) ≡ Err e) }
 {
     match value_at(file, "matrix") {

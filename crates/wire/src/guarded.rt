@@ -129,7 +129,7 @@ impl<'a, C: Clock, D: Door, S: Socket> GuardedWire<'a, C, D, S> {
     fn take_one(&mut self) -> io::Result<()>
         ensures keeps { Keeps S.came D.brings self.old self.new }
     {
-        let (length, sender) = self.socket.take(&mut self.room)?;
+        let (length, sender) = self.socket.receive_from(&mut self.room)?;
         let brought = self.door.admit(self.alloc, sender, &self.room[..length]);
         keep(brought, sender, &mut self.waiting, &mut self.untold);
         Ok(())

@@ -21,7 +21,7 @@ pub trait Socket: Drop {
 
     /// Waits for a datagram as long as it does for one, and takes it into the room, cut where it is longer: how long it is there, and its
     /// sender.
-    fn take(&self, room: &mut [u8]) -> io::Result<(usize, SocketAddr)>
+    fn receive_from(&self, room: &mut [u8]) -> io::Result<(usize, SocketAddr)>
         ensures { IfOk result (λ r. (r.0 ≤ length room.new) × came self.now r.1 (take r.0 room.new)) };
 
     /// Sends a datagram to a station, and answers whether it took it.
@@ -46,7 +46,7 @@ impl Socket for UdpSocket {
 
     ghost given = { λ _ _ _ _. Unit {0} };
 
-    fn take(&self, room: &mut [u8]) -> io::Result<(usize, SocketAddr)> {
+    fn receive_from(&self, room: &mut [u8]) -> io::Result<(usize, SocketAddr)> {
         self.recv_from(room)
     }
 

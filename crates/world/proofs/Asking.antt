@@ -7,16 +7,16 @@ use Rattle.std.proofs.lemmas.Option.{slice_get-get_or}
 use Rattle.protocol.specs.Entries.{Entry, Void, Taped}
 use Rattle.protocol.specs.Versions.{Version}
 use Rattle.protocol.specs.Marks.{Mark}
-use Rattle.protocol.specs.Refusals.{Call, Offering, Seeking, Falling_due, Receiving, Recalling}
+use Rattle.protocol.specs.Refusals.{Call, Receiving}
 use Rattle.protocol.specs.Circuit as circuit
 use Rattle.protocol.specs.Circuit.{Datagram, Task, Missing, task_of, delivery, datagram_at, member_missing, datagram_missing}
 use Rattle.packets.specs.declared.fault.PacketFault.{PacketFault}
 use Rattle.line_check.specs.Laws.{OneSetting}
 use Rattle.line_check.specs.declared.fault.SetFault.{SetFault}
-use Rattle.saved_rows.specs.Saved.{Saved, Rises}
-use Rattle.saved_rows.specs.declared.balky.Balky.{Balky}
-use Rattle.saved_rows.specs.declared.fault.RowsFault.{RowsFault}
-use Rattle.saved_rows.specs.declared.rows.Rows.{Ghosts}
+use Rattle.rows_saved.specs.Saved.{Saved, Rises}
+use Rattle.rows_saved.specs.declared.balky.Balky.{Balky}
+use Rattle.rows_saved.specs.declared.fault.RowsFault.{RowsFault}
+use Rattle.rows_saved.specs.declared.rows.Rows.{Ghosts}
 use Rattle.node_core.specs.Standing.{StandsFor as CoreStandsFor}
 use Rattle.station.specs.declared.station.Station.{Station}
 use Rattle.station.specs.declared.answer.Answer.{Answer}
@@ -26,6 +26,8 @@ use Rattle.refusals.specs.declared.refusal.StepRefusal.TheVariants.{Stopped, Bad
 use Rattle.station.specs.Stations.{Sight, sight, wire_at}
 use Rattle.station.specs.Steps.{Steps, TakesStep, IfStore, IsBlamed}
 use Rattle.world.specs.declared.world.World.{World}
+use Rattle.world.specs.declared.call.MemberCall.{MemberCall}
+use Rattle.world.specs.declared.call.MemberCall.TheVariants as calls
 use Rattle.world.specs.declared.step.Step.{Step}
 use Rattle.world.specs.declared.step.Step.TheVariants as steps
 use Rattle.world.specs.declared.step.Seen.{Seen}
@@ -35,7 +37,7 @@ use Rattle.world.specs.declared.step.WorldRefusal.{WorldRefusal}
 use Rattle.world.specs.declared.step.WorldRefusal.TheVariants as world_refusals
 use Rattle.world.specs.Setups.{StationCircuit, StationState}
 use Rattle.world.specs.Worlds.{count_of, IsSame, station_at}
-use Rattle.world.specs.Taking.{step_value, EndsAs, RefusedAs, RowsRefused, IsCause, WasTorn, IfTorn, TellsWhy, was_taken, offered_after, offers_after, actor, missing_in, IsReason, Tells}
+use Rattle.world.specs.Taking.{call_of, step_of, step_value, EndsAs, RefusedAs, RowsRefused, IsCause, WasTorn, IfTorn, TellsWhy, was_taken, offered_after, offers_after, actor, missing_in, IsReason, Tells}
 use Rattle.world.specs.Reach.{AllKept, AllMade, FollowsStep, StandsFor, Moves, Stepped}
 use Rattle.world.specs.Logging.{logged, offered_of, out_of, outcome_of, released_of, seen_of, was_released}
 use Rattle.world.proofs.Members.{Changes, here, kept_here, kept_before, made_after, shown, some_is}
@@ -93,7 +95,7 @@ pub record Brings {R : Type 0} (v : World R) (step : Step) (m : ℕ) (call : Cal
   pub there : missing_in v step ≡ None
   pub logs : (os : List circuit.Offer) (r : Result Answer StepRefusal) → os ++ offers_of m call r ≡ offers_after os step (outcome_of r)
 
-logs_offer : (m n : ℕ) (entry : Entry) (os : List circuit.Offer) (o : Outcome) → os ++ offered_of m n entry o ≡ offered_after os m n entry o
+logs_offer : (m n : ℕ) (entry : Entry) (os : List circuit.Offer) (o : Outcome) → os ++ offered_of (Some (record { member = m; number = n; entry = entry })) o ≡ offered_after os m n entry o
 logs_offer m n entry os o = go (was_taken o)
   where
     one : List circuit.Offer
@@ -103,20 +105,21 @@ logs_offer m n entry os o = go (was_taken o)
     go true = refl
     go false = append-nil os
 
-pub offer_brings : {R : Type 0} (v : World R) (m n now : ℕ) (tape : List ℕ) → member_missing (count_of v) m ≡ None → Brings v (steps.Offer m n tape now) m (Offering n (Taped tape) now)
-offer_brings v m n now tape there = record { task = refl; acts = refl; there = there; logs = λ os r. logs_offer m n (Taped tape) os (outcome_of r) }
+-- what a step asks of a member is asked of it, where there is such a member
+pub call_brings : {R : Type 0} (v : World R) (m : ℕ) (call : MemberCall) → member_missing (count_of v) m ≡ None → Brings v (step_of m call) m (call_of call)
+call_brings v m (calls.Offer n tape now) there = record { task = refl; acts = refl; there = there; logs = λ os r. logs_offer m n (Taped tape.now) os (outcome_of r) }
+call_brings v m (calls.Withdraw n now) there = record { task = refl; acts = refl; there = there; logs = λ os r. logs_offer m n Void os (outcome_of r) }
+call_brings v m (calls.Seek n now) there = record { task = refl; acts = refl; there = there; logs = λ os r. append-nil os }
+call_brings v m (calls.Due now) there = record { task = refl; acts = refl; there = there; logs = λ os r. append-nil os }
+call_brings v m (calls.Recall n to) there = record { task = refl; acts = refl; there = there; logs = λ os r. append-nil os }
 
-pub withdraw_brings : {R : Type 0} (v : World R) (m n now : ℕ) → member_missing (count_of v) m ≡ None → Brings v (steps.Withdraw m n now) m (Offering n Void now)
-withdraw_brings v m n now there = record { task = refl; acts = refl; there = there; logs = λ os r. logs_offer m n Void os (outcome_of r) }
-
-pub seek_brings : {R : Type 0} (v : World R) (m n now : ℕ) → member_missing (count_of v) m ≡ None → Brings v (steps.Seek m n now) m (Seeking n now)
-seek_brings v m n now there = record { task = refl; acts = refl; there = there; logs = λ os r. append-nil os }
-
-pub due_brings : {R : Type 0} (v : World R) (m now : ℕ) → member_missing (count_of v) m ≡ None → Brings v (steps.Due m now) m (Falling_due now)
-due_brings v m now there = record { task = refl; acts = refl; there = there; logs = λ os r. append-nil os }
-
-pub recall_brings : {R : Type 0} (v : World R) (m n to : ℕ) → member_missing (count_of v) m ≡ None → Brings v (steps.Recall m n to) m (Recalling n to)
-recall_brings v m n to there = record { task = refl; acts = refl; there = there; logs = λ os r. append-nil os }
+-- and it is missing where the member is
+pub call_missing : {R : Type 0} (v : World R) (m : ℕ) (call : MemberCall) → missing_in v (step_of m call) ≡ member_missing (count_of v) m
+call_missing v m (calls.Offer n tape now) = refl
+call_missing v m (calls.Withdraw n now) = refl
+call_missing v m (calls.Seek n now) = refl
+call_missing v m (calls.Due now) = refl
+call_missing v m (calls.Recall n to) = refl
 
 -- the k-th datagram is that of the place before
 pub datagram_is : (sent : List Datagram) (k : ℕ) → 1 ≤ k → datagram_at sent k ≡ slice_get sent (k - 1)

@@ -6,11 +6,11 @@ use Rattle.std.proofs.lemmas.Option.{slice_get_within}
 use Rattle.protocol.specs.Seats.{sits}
 use Rattle.protocol.specs.Versions.{Version, One}
 use Rattle.protocol.specs.Circuit.{fresh, starts}
-use Rattle.saved_rows.specs.Saved.{Saved}
+use Rattle.rows_saved.specs.Saved.{Saved}
 use Rattle.code_table.specs.Tables.{Places}
 use Rattle.widths.specs.Widths.{WidthFile}
-use Rattle.saved_rows.specs.declared.balky.Balky.{Balky}
-use Rattle.saved_rows.specs.declared.rows.Rows.{Ghosts}
+use Rattle.rows_saved.specs.declared.balky.Balky.{Balky}
+use Rattle.rows_saved.specs.declared.rows.Rows.{Ghosts}
 use Rattle.station.specs.declared.station.Station.{Station}
 use Rattle.world.specs.declared.world.World.{World}
 use Rattle.world.specs.Setups.{StationCircuit}

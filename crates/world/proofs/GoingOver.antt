@@ -7,10 +7,10 @@ use Rattle.protocol.specs.Circuit as circuit
 use Rattle.protocol.specs.Circuit.{with_at, MayLeave, StepsTo, upgrades, upgrade_is_torn}
 use Rattle.packets.specs.declared.fault.PacketFault.{PacketFault}
 use Rattle.line_check.specs.declared.fault.SetFault.{SetFault}
-use Rattle.saved_rows.specs.Saved.{Rises}
-use Rattle.saved_rows.specs.declared.balky.Balky.{Balky}
-use Rattle.saved_rows.specs.declared.fault.RowsFault.{RowsFault}
-use Rattle.saved_rows.specs.declared.rows.Rows.{Ghosts}
+use Rattle.rows_saved.specs.Saved.{Rises}
+use Rattle.rows_saved.specs.declared.balky.Balky.{Balky}
+use Rattle.rows_saved.specs.declared.fault.RowsFault.{RowsFault}
+use Rattle.rows_saved.specs.declared.rows.Rows.{Ghosts}
 use Rattle.refusals.specs.declared.refusal.StepRefusal.{StepRefusal}
 use Rattle.refusals.specs.declared.refusal.StepRefusal.TheVariants.{Stopped, BadDatagram, WrongCircuit, NotForMe, Stranger, BadNumber, NoSuchMember, AlreadyReleased, AlreadyOpen, WireTooOld, TapeFaulty, RoundsSpent, Store, OutOfMemory}
 use Rattle.node_core.specs.Standing.{StandsFor as CoreStandsFor}

@@ -8,8 +8,8 @@ use Rattle.std.proofs.Math.ListN.{length-set}
 use Rattle.protocol.specs.Ballots.{IsMember}
 use Rattle.protocol.specs.Versions.{Version}
 use Rattle.protocol.specs.Circuit.{with_at}
-use Rattle.saved_rows.specs.Saved.{Saved}
-use Rattle.saved_rows.specs.declared.balky.Balky.{Balky}
+use Rattle.rows_saved.specs.Saved.{Saved}
+use Rattle.rows_saved.specs.declared.balky.Balky.{Balky}
 use Rattle.node_core.specs.Standing.{StandsFor as CoreStandsFor}
 use Rattle.station.specs.declared.station.Station.{Station}
 use Rattle.world.specs.declared.world.World.{World}

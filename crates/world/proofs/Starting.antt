@@ -4,7 +4,7 @@ use Rattle.protocol.specs.Versions.{Version}
 use Rattle.protocol.specs.Marks.{Mark}
 use Rattle.protocol.specs.Circuit as circuit
 use Rattle.protocol.specs.Circuit.{with_at, restarts, is_armed}
-use Rattle.saved_rows.specs.declared.balky.Balky.{Balky}
+use Rattle.rows_saved.specs.declared.balky.Balky.{Balky}
 use Rattle.node_core.specs.Standing.{StandsFor as CoreStandsFor}
 use Rattle.station.specs.declared.station.Station.{Station}
 use Rattle.station.specs.Stations.{Sight, IsFixed}

@@ -12,9 +12,9 @@ use Rattle.protocol.specs.Circuit.{offers_with}
 use Rattle.packets.specs.Reading.{packet_at}
 use Rattle.packets.specs.declared.fault.PacketFault.{PacketFault}
 use Rattle.line_check.specs.Laws.{OneSetting}
-use Rattle.saved_rows.specs.declared.balky.Balky.{Balky}
+use Rattle.rows_saved.specs.declared.balky.Balky.{Balky}
 use Rattle.station.specs.declared.station.Station.{Station}
-use Rattle.saved_rows.specs.declared.fault.RowsFault.{RowsFault}
+use Rattle.rows_saved.specs.declared.fault.RowsFault.{RowsFault}
 use Rattle.line_check.specs.declared.fault.SetFault.{SetFault}
 use Rattle.station.specs.declared.answer.Answer.{Answer}
 use Rattle.station.specs.declared.answer.Release.{Release}
@@ -27,17 +27,13 @@ use Rattle.world.specs.declared.world.World.{World}
 use Rattle.world.specs.Setups.{StationCircuit, StationState}
 use Rattle.world.specs.Reach.{IsAt, StandsFor}
 use Rattle.world.specs.Taking.{EndsAs, is_torn}
-use Rattle.world.specs.Logging.{logged, offered_of, out_of, outcome_of, released_of}
+use Rattle.world.specs.Logging.{logged, offer_of, offered_of, out_of, outcome_of, released_of}
 use Rattle.world.proofs.Members.{Changes, some_is}
 use Rattle.world.proofs.Turning.{balky_sight, Comes, Own, Sends, refused_comes, idle_comes, spent_comes, done_comes, memory_comes, store_comes}
 
 -- what a call adds to the offers where it ended so
 abbrev pub offers_of : ℕ → Call → Result Answer StepRefusal → List circuit.Offer
-offers_of m (Offering n entry now) r = offered_of m n entry (outcome_of r)
-offers_of m (Seeking n now) r = []
-offers_of m (Falling_due now) r = []
-offers_of m (Receiving bytes now) r = []
-offers_of m (Recalling n to) r = []
+offers_of m call r = offered_of (offer_of m call) (outcome_of r)
 
 no_event : {X : Type 0} {a : X} → None ≡ Some a → ⊥
 no_event e = cc

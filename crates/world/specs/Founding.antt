@@ -6,9 +6,9 @@ use Rattle.protocol.specs.Versions.{Version}
 use Rattle.protocol.specs.Limits.{most_members}
 use Rattle.code_table.specs.Tables.{Places}
 use Rattle.widths.specs.Widths.{WidthFile}
-use Rattle.saved_rows.specs.Saved.{Saved}
-use Rattle.saved_rows.specs.declared.balky.Balky.{Balky}
-use Rattle.saved_rows.specs.declared.rows.Rows.{Ghosts}
+use Rattle.rows_saved.specs.Saved.{Saved}
+use Rattle.rows_saved.specs.declared.balky.Balky.{Balky}
+use Rattle.rows_saved.specs.declared.rows.Rows.{Ghosts}
 use Rattle.node_core.specs.Standing.{StandsFor as CoreStandsFor}
 use Rattle.station.specs.declared.station.Station.{Station}
 use Rattle.world.specs.declared.world.World.{World}

@@ -1,6 +1,6 @@
 -- What a world logs of a station's answer.
 use Rattle.std.specs.Prelude.{◌≡◌, ℕ, ◌+◌, ◌≤◌, ◌<◌, List, [], ◌∷◌, Option, Some, None, Result, Ok, Err, Bool, false, length, is_some, vec_len, vec_capacity, if◌then◌else◌}
-use Rattle.protocol.specs.Entries.{Entry}
+use Rattle.protocol.specs.Refusals.{Call, Offering, Seeking, Falling_due, Receiving, Recalling}
 use Rattle.protocol.specs.Circuit as circuit
 use Rattle.protocol.specs.Limits.{most_sent}
 use Rattle.tape_frames.specs.Entries.{owned_entry}
@@ -53,9 +53,18 @@ upgrade_outcome (Err refusal) = outcomes.Refused refusal
 abbrev pub WentOver : {R : Type 0} → Sight R → Station R → Station R → Outcome → Type 0
 WentOver x old new o = (end : Result (Unit {0}) StepRefusal) × TakesUpgrade x old new end × (o ≡ upgrade_outcome end)
 
--- the log of an offer to member m
-abbrev pub offered_of : ℕ → ℕ → Entry → Outcome → List circuit.Offer
-offered_of m n entry o = if was_taken o then record { member = m; number = n; entry = entry } ∷ [] else []
+-- the offer to member m that a call makes, if it makes one
+abbrev pub offer_of : ℕ → Call → Option circuit.Offer
+offer_of m (Offering n entry now) = Some (record { member = m; number = n; entry = entry })
+offer_of m (Seeking n now) = None
+offer_of m (Falling_due now) = None
+offer_of m (Receiving bytes now) = None
+offer_of m (Recalling n to) = None
+
+-- the log of an offer, where its step ended so
+abbrev pub offered_of : Option circuit.Offer → Outcome → List circuit.Offer
+offered_of None o = []
+offered_of (Some offer) o = if was_taken o then offer ∷ [] else []
 
 -- what is seen of an answer of member m, before which so many datagrams were sent
 abbrev pub seen_of : ℕ → ℕ → Result Answer StepRefusal → Seen

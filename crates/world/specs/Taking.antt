@@ -2,20 +2,23 @@
 use Rattle.std.specs.Prelude.{◌≡◌, ◌⊎◌, ℕ, ◌+◌, List, [], ◌∷◌, ◌++◌, Option, Some, None, IsSome, Result, Ok, Err, Bool, true, false, length, option_map, slice_get, take, if◌then◌else◌}
 use Rattle.protocol.specs.Entries.{Entry, Void, Taped}
 use Rattle.protocol.specs.Circuit as circuit
+use Rattle.protocol.specs.Refusals.{Call, Offering, Seeking, Falling_due, Recalling}
 use Rattle.protocol.specs.Refusals as refusals
 use Rattle.packets.specs.declared.fault.PacketFault.{PacketFault}
 use Rattle.line_check.specs.declared.fault.SetFault.{SetFault}
-use Rattle.saved_rows.specs.Saved.{Rises}
-use Rattle.saved_rows.specs.declared.balky.Balky.{Balky}
-use Rattle.saved_rows.specs.declared.fault.RowsFault.{RowsFault}
-use Rattle.saved_rows.specs.declared.fault.RowsFault.TheVariants as row_faults
-use Rattle.saved_rows.specs.declared.rows.Rows.{Ghosts}
+use Rattle.rows_saved.specs.Saved.{Rises}
+use Rattle.rows_saved.specs.declared.balky.Balky.{Balky}
+use Rattle.rows_saved.specs.declared.fault.RowsFault.{RowsFault}
+use Rattle.rows_saved.specs.declared.fault.RowsFault.TheVariants as row_faults
+use Rattle.rows_saved.specs.declared.rows.Rows.{Ghosts}
 use Rattle.node_core.specs.Turns.{note_value}
 use Rattle.station.specs.declared.station.Station.{Station}
 use Rattle.station.specs.Stations.{sight}
 use Rattle.station.specs.Steps.{IsBlamed}
 use Rattle.refusals.specs.declared.refusal.StepRefusal.{StepRefusal}
 use Rattle.refusals.specs.declared.refusal.StepRefusal.TheVariants.{Stopped, BadDatagram, WrongCircuit, NotForMe, Stranger, BadNumber, NoSuchMember, AlreadyReleased, AlreadyOpen, WireTooOld, TapeFaulty, RoundsSpent, Store, OutOfMemory}
+use Rattle.world.specs.declared.call.MemberCall.{MemberCall}
+use Rattle.world.specs.declared.call.MemberCall.TheVariants as calls
 use Rattle.world.specs.declared.step.Step.{Step}
 use Rattle.world.specs.declared.step.Step.TheVariants as steps
 use Rattle.world.specs.declared.step.Outcome.{Outcome}
@@ -38,6 +41,22 @@ step_value (steps.Restart member) = circuit.Restarts member
 step_value (steps.Upgrade member) = circuit.Upgrades member
 step_value (steps.Balk member saved) = circuit.Balks member saved
 step_value (steps.Recall member number to) = circuit.Recalls member number to
+
+-- how a station is called for what a step asks of it
+abbrev pub call_of : MemberCall → Call
+call_of (calls.Offer number tape now) = Offering number (Taped tape.now) now
+call_of (calls.Withdraw number now) = Offering number Void now
+call_of (calls.Seek number now) = Seeking number now
+call_of (calls.Due now) = Falling_due now
+call_of (calls.Recall number to) = Recalling number to
+
+-- the step that asks this of a member's station
+abbrev pub step_of : ℕ → MemberCall → Step
+step_of member (calls.Offer number tape now) = steps.Offer member number tape.now now
+step_of member (calls.Withdraw number now) = steps.Withdraw member number now
+step_of member (calls.Seek number now) = steps.Seek member number now
+step_of member (calls.Due now) = steps.Due member now
+step_of member (calls.Recall number to) = steps.Recall member number to
 
 -- how the circuit's step ended where the station refused it for this reason. Where the store tore it: as it was armed,
 -- or by the member's own rows, which then did refuse

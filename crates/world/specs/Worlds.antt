@@ -1,6 +1,6 @@
 -- What is seen of a world: its members' stations and its logs.
 use Rattle.std.specs.Prelude.{◌≡◌, ℕ, zero, suc, List, ◌++◌, Option, None, length, slice_get}
-use Rattle.saved_rows.specs.declared.balky.Balky.{Balky}
+use Rattle.rows_saved.specs.declared.balky.Balky.{Balky}
 use Rattle.station.specs.declared.station.Station.{Station}
 use Rattle.world.specs.declared.world.World.{World}
 

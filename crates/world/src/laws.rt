@@ -8,7 +8,7 @@ use crate::slugs::Slugs;
 use line_check::SetFault;
 use packets::PacketFault;
 use protocol_laws::laws;
-use saved_rows::{MemoryRows, Rows};
+use rows_saved::{MemoryRows, Rows};
 
 /// All votes and Accepts of one number and ballot carry one entry.
 pub fn one_entry()

@@ -1,6 +1,7 @@
 //! All stations of a circuit and the network between them, as lists of steps drive them; and the laws of agreement.
 #![tactic(auto)]
 
+mod call;
 pub mod laws;
 mod log_growth;
 mod logs;

@@ -9,7 +9,7 @@ ghost use Rattle.world.specs.Worlds.{IsSame};
 use crate::logs::{OfferLog, ReleaseLog};
 use crate::step::{Outcome, Seen, WorldRefusal};
 use crate::world::World;
-use saved_rows::Rows;
+use rows_saved::Rows;
 use station::{Answer, Datagram, Release, StepRefusal};
 
 /// The greatest number of datagrams that a station sends in one step.
@@ -63,15 +63,18 @@ fn is_taken(step: &Result<Answer, StepRefusal>) -> bool
     }
 }
 
-/// Logs an offer that ended so where it was taken up. There is room for it.
+/// Logs what was offered in a step that ended so, where it was taken up. There is room for it.
 pub(crate) fn log_offer(
     offers: &mut Vec<OfferLog>,
-    offer: OfferLog,
+    offer: Option<OfferLog>,
     step: &Result<Answer, StepRefusal>,
 )
     requires { vec_len offers.old < vec_capacity offers.old }
-    ensures { offers.new.items ≡ offers.old.items ++ offered_of offer.member offer.number offer.entry (outcome_of step.now) }
+    ensures { offers.new.items ≡ offers.old.items ++ offered_of offer (outcome_of step.now) }
 {
+    let Some(offer) = offer else {
+        return;
+    };
     if is_taken(step) {
         log(offers, offer);
     }

@@ -10,7 +10,7 @@ ghost use Rattle.world.specs.Taking.{StopsAt};
 use crate::step::{RunStop, Step};
 use crate::world::{NewWorldFault, World, member_count};
 use code_table::CodeTable;
-use saved_rows::{MemoryRows, Rows};
+use rows_saved::{MemoryRows, Rows};
 use std::alloc::{AllocError, Global};
 use tape_frames::Version;
 use widths::Widths;

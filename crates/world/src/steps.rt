@@ -3,19 +3,18 @@
 ghost use Rattle.std.specs.Prelude.{◌≡◌, ◌<◌, ◌≤◌, ◌+◌, suc, false, Some, None, IfOk, IfErr, OnOk, OnErr, length, option_map};
 ghost use Rattle.protocol.specs.Circuit.{datagram_at, member_missing};
 ghost use Rattle.world.specs.Reach.{Stepped, WorldRun, WorldStep};
-ghost use Rattle.world.specs.Taking.{Found};
+ghost use Rattle.world.specs.Taking.{Found, step_of};
 ghost use Rattle.world.specs.Worlds.{count_of};
 
+use crate::call::MemberCall;
 use crate::laws;
 use crate::log_growth::log_offer;
-use crate::logs::OfferLog;
 use crate::step::{Outcome, RunStop, Seen, Step, WorldRefusal};
 use crate::upgrade::go_over;
 use crate::world::World;
 use line_check::laws::one_setting;
-use saved_rows::Rows;
+use rows_saved::Rows;
 use station::Datagram;
-use tape_frames::{Entry, Tape};
 
 /// The member that a datagram goes to.
 fn addressee_of(datagram: &Datagram) -> u8
@@ -29,7 +28,7 @@ impl<R: Rows> World<R> {
     ///
     /// Refused as `NoSuchMember`, `NoSuchDatagram` or `OutOfMemory`, each of which changes nothing: the logs grow
     /// before the station is asked. That a station refuses a step is an outcome, also where its store or its memory does.
-    /// A fault of its store is that of the member's own rows; an armed store tells its refusal as [`saved_rows::RowsFault::Store`].
+    /// A fault of its store is that of the member's own rows; an armed store tells its refusal as [`rows_saved::RowsFault::Store`].
     pub fn step(&mut self, step: &Step) -> Result<Seen, WorldRefusal>
         ensures { WorldStep R.Rows step.now self.old self.new result }
     {
@@ -40,23 +39,26 @@ impl<R: Rows> World<R> {
                 number,
                 tape,
                 now,
-            } => self.offer(*member, *number, tape, *now),
+            } => self.ask(*member, MemberCall::Offer(*number, tape, *now)),
             Step::Withdraw {
                 member,
                 number,
                 now,
-            } => self.withdraw(*member, *number, *now),
+            } => self.ask(*member, MemberCall::Withdraw(*number, *now)),
             Step::Seek {
                 member,
                 number,
                 now,
-            } => self.seek(*member, *number, *now),
-            Step::Due { member, now } => self.due(*member, *now),
+            } => self.ask(*member, MemberCall::Seek(*number, *now)),
+            Step::Due { member, now } => self.ask(*member, MemberCall::Due(*now)),
             Step::Deliver { k, now } => self.deliver(*k, *now),
             Step::Restart { member } => self.restart(*member),
             Step::Upgrade { member } => self.upgrade(*member),
             Step::Balk { member, saved } => self.balk(*member, *saved),
-            Step::Recall { member, number, to } => self.recall(*member, *number, *to),
+            Step::Recall { member, number, to } => self.ask(
+                *member,
+                MemberCall::Recall(*number, *to),
+            ),
         }
     }
 
@@ -100,72 +102,19 @@ impl<R: Rows> World<R> {
         Ok(addressee_of(&self.sent[k - 1]))
     }
 
-    /// A member is offered a tape.
-    fn offer(
-        &mut self,
-        member: u8,
-        number: u32,
-        tape: &Tape,
-        now: u64,
-    ) -> Result<Seen, WorldRefusal>
-        ensures { Stepped R.Rows (Step.Offer member number tape.now now) self.old self.new result }
+    /// A member is asked, and what it answers is logged.
+    fn ask(&mut self, member: u8, call: MemberCall<'_>) -> Result<Seen, WorldRefusal>
+        ensures { Stepped R.Rows (step_of member call.entry) self.old self.new result }
     {
         one_setting();
         let place = self.place(member)?;
-        let Ok(copy) = tape.copy() else {
+        let Ok(offer) = call.offer(member) else {
             return Err(WorldRefusal::OutOfMemory);
         };
         self.make_room()?;
-        let step = self.stations[place].offer(number, tape, now);
-        let offer = OfferLog::new(member, number, Entry::Tape(copy));
-        log_offer(&mut self.offers, offer, &step);
-        Ok(self.take_in(member, step))
-    }
-
-    /// A member is asked to withdraw a number.
-    fn withdraw(&mut self, member: u8, number: u32, now: u64) -> Result<Seen, WorldRefusal>
-        ensures { Stepped R.Rows (Step.Withdraw member number now) self.old self.new result }
-    {
-        one_setting();
-        let place = self.place(member)?;
-        self.make_room()?;
-        let step = self.stations[place].withdraw(number, now);
-        let offer = OfferLog::new(member, number, Entry::Void);
-        log_offer(&mut self.offers, offer, &step);
-        Ok(self.take_in(member, step))
-    }
-
-    /// A member seeks what is agreed on.
-    fn seek(&mut self, member: u8, number: u32, now: u64) -> Result<Seen, WorldRefusal>
-        ensures { Stepped R.Rows (Step.Seek member number now) self.old self.new result }
-    {
-        one_setting();
-        let place = self.place(member)?;
-        self.make_room()?;
-        let step = self.stations[place].seek(number, now);
-        Ok(self.take_in(member, step))
-    }
-
-    /// A member sees to what is due.
-    fn due(&mut self, member: u8, now: u64) -> Result<Seen, WorldRefusal>
-        ensures { Stepped R.Rows (Step.Due member now) self.old self.new result }
-    {
-        one_setting();
-        let place = self.place(member)?;
-        self.make_room()?;
-        let step = self.stations[place].due(now);
-        Ok(self.take_in(member, step))
-    }
-
-    /// A member is to tell its vote again.
-    fn recall(&mut self, member: u8, number: u32, to: u8) -> Result<Seen, WorldRefusal>
-        ensures { Stepped R.Rows (Step.Recall member number to) self.old self.new result }
-    {
-        one_setting();
-        let place = self.place(member)?;
-        self.make_room()?;
-        let step = self.stations[place].recall(number, to);
-        Ok(self.take_in(member, step))
+        let answer = call.ask(&mut self.stations[place]);
+        log_offer(&mut self.offers, offer, &answer);
+        Ok(self.take_in(member, answer))
     }
 
     /// A datagram comes to its addressee.

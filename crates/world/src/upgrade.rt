@@ -4,7 +4,7 @@ ghost use Rattle.station.specs.Stations.{sight};
 ghost use Rattle.world.specs.Logging.{WentOver};
 
 use crate::step::Outcome;
-use saved_rows::{Balky, Rows};
+use rows_saved::{Balky, Rows};
 use station::Station;
 
 /// Takes a station over to version 2, and tells how that ended.

@@ -13,7 +13,7 @@ use crate::logs::{OfferLog, ReleaseLog};
 use ballots::Member;
 use code_table::CodeTable;
 use line_check::Setting;
-use saved_rows::{Balky, Rows};
+use rows_saved::{Balky, Rows};
 use station::{Datagram, Membership, Station};
 use std::alloc::{AllocError, Global};
 use widths::Widths;

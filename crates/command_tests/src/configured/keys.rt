@@ -90,11 +90,10 @@ impl Hosts for Unknown {
     }
 }
 
-/// Whether the file of this text gives what it says, and no fault is told.
+/// Whether the file of this text gives what it says.
 fn is_read(alloc: Global) -> bool {
-    let mut err = Vec::new(alloc);
-    match read_config(alloc, &NoLookUp, file_of(CONFIG.as_bytes()), &mut err) {
-        Ok(config) => is_the_example(&config) && err.is_empty(),
+    match read_config(alloc, &NoLookUp, file_of(CONFIG.as_bytes())) {
+        Ok(config) => is_the_example(&config),
         Err(_) => false,
     }
 }
@@ -432,9 +431,9 @@ fn the_first_fault(rt: HostRuntime) {
 /// Whether the file of this text is none, with this fault told.
 fn is_none(alloc: Global, text: &[u8], fault: &str) -> bool {
     let mut err = Vec::new(alloc);
-    match read_config(alloc, &Unknown, file_of(text), &mut err) {
+    match read_config(alloc, &Unknown, file_of(text)) {
         Ok(_) => false,
-        Err(end) => end == End::Input && err.as_slice() == fault.as_bytes(),
+        Err(told) => told.tell(&mut err) == End::Input && err.as_slice() == fault.as_bytes(),
     }
 }
 

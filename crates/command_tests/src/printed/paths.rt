@@ -1,6 +1,6 @@
 //! The paths that commands are given, which their faults name.
 
-use command_ends::{ScriptPaths, TapePaths};
+use inputs::{ScriptPaths, TapePaths};
 
 pub const OF_TAPE: TapePaths<'static> = TapePaths {
     table: "codes.toml",

@@ -5,7 +5,7 @@ ghost use Rattle.std.specs.Prelude.{◌≤◌};
 use code_table::TableFault;
 use command_ends::{End, Fault};
 use line_check::{Cause, SetFault};
-use saved_rows::RowsFault;
+use rows_saved::RowsFault;
 use station::StepRefusal;
 use std::alloc::Global;
 use streams::InputFault;
@@ -338,6 +338,11 @@ const FAULTS: &[(Fault<'static>, &str, End)] = &[
         "store: wrong schema",
         End::Store,
     ),
+    (
+        Fault::RowsFile(RowsFault::Store, "the disk is full"),
+        "store: refused\nthe disk is full",
+        End::Store,
+    ),
     (Fault::Config("not toml"), "config: not toml", End::Input),
     (
         Fault::ConfigKey {
@@ -348,6 +353,35 @@ const FAULTS: &[(Fault<'static>, &str, End)] = &[
         End::Input,
     ),
     (Fault::ConfigStation(2), "config: bad station 2", End::Input),
+    (
+        Fault::ConfigHost(2),
+        "config: station 2: host: no address",
+        End::Input,
+    ),
+    (Fault::Key("bad file"), "key: bad file", End::Input),
+    (
+        Fault::KeyUnread("circuit.key"),
+        "key: cannot read circuit.key",
+        End::Input,
+    ),
+    (
+        Fault::NoFolders,
+        "stop: the configuration names no folders",
+        End::Input,
+    ),
+    (
+        Fault::Offers {
+            what: "write",
+            why: "it is not there",
+        },
+        "folders: cannot write offers: it is not there",
+        End::Input,
+    ),
+    (
+        Fault::NotEnded(30),
+        "stop: the station has not ended within 30 seconds",
+        End::Input,
+    ),
     (
         Fault::Socket("cannot bind"),
         "socket: cannot bind",
@@ -364,6 +398,11 @@ const FAULTS: &[(Fault<'static>, &str, End)] = &[
         End::Input,
     ),
     (
+        Fault::Usage("an argument is not UTF-8"),
+        "usage: an argument is not UTF-8",
+        End::Usage,
+    ),
+    (
         Fault::Unpaired,
         "usage: --number and --tape go together",
         End::Usage,
@@ -377,7 +416,7 @@ const FAULTS: &[(Fault<'static>, &str, End)] = &[
 
 /// The place of a fault in the table.
 fn place_of(fault: Fault<'_>) -> usize
-    ensures { result ≤ 17 }
+    ensures { result ≤ 25 }
 {
     match fault {
         Fault::CannotRead(_) => 0,
@@ -390,21 +429,29 @@ fn place_of(fault: Fault<'_>) -> usize
         Fault::Unset(_) => 7,
         Fault::Script { .. } => 8,
         Fault::Rows(_) => 9,
-        Fault::Config(_) => 10,
-        Fault::ConfigKey { .. } => 11,
-        Fault::ConfigStation(_) => 12,
-        Fault::Socket(_) => 13,
-        Fault::SendFailed(_) => 14,
-        Fault::Refused(_) => 15,
-        Fault::Unpaired => 16,
-        Fault::LayoutAlone => 17,
+        Fault::RowsFile(..) => 10,
+        Fault::Config(_) => 11,
+        Fault::ConfigKey { .. } => 12,
+        Fault::ConfigStation(_) => 13,
+        Fault::ConfigHost(_) => 14,
+        Fault::Key(_) => 15,
+        Fault::KeyUnread(_) => 16,
+        Fault::NoFolders => 17,
+        Fault::Offers { .. } => 18,
+        Fault::NotEnded(_) => 19,
+        Fault::Socket(_) => 20,
+        Fault::SendFailed(_) => 21,
+        Fault::Refused(_) => 22,
+        Fault::Usage(_) => 23,
+        Fault::Unpaired => 24,
+        Fault::LayoutAlone => 25,
     }
 }
 
 #[test]
 fn faults(rt: HostRuntime) {
     let rows = FAULTS;
-    assert!(rt; rows.len() == 18);
+    assert!(rt; rows.len() == 26);
     for (place, (fault, text, end)) in rows.iter().enumerate() {
         assert!(rt;
             place_of(*fault) == place && is_told(rt.alloc(), *fault, text, *end),

@@ -3,11 +3,13 @@
 ghost use Rattle.std.specs.Prelude.{◌≤◌};
 
 use super::faults::is_told;
-use command_ends::{End, Fault, Refusal, entry_text};
+use command_ends::{End, Fault};
 use fixtures::FLOOD;
 use line_check::{Cause, SetFault};
 use packets::PacketFault;
-use saved_rows::RowsFault;
+use refusals::Refusal;
+use release_texts::entry_text;
+use rows_saved::RowsFault;
 use station::StepRefusal;
 use std::alloc::Global;
 use tape_frames::{EntryRef, PackedRef, TapeRef};

@@ -1,7 +1,7 @@
 //! Databases that hold something else than rows of the station.
 
 use crate::rows::sessions::{MADE, MADE_TWO, OPENED, OPENED_TWO, Session, are_played};
-use saved_rows::RowsFault;
+use rows_saved::RowsFault;
 use std::alloc::Global;
 
 const DAMAGED: RowsFault = RowsFault::Damaged { number: 12 };

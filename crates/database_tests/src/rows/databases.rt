@@ -5,7 +5,7 @@ use crate::rows::identities::OTHER;
 use crate::rows::memory::TWO;
 use crate::rows::samples::{Choice, PROMISED, Sample, VOTED};
 use crate::rows::sessions::{Listing, MADE, MADE_TWO, Manner, OPENED, Session, first_amiss};
-use saved_rows::RowsFault;
+use rows_saved::RowsFault;
 
 /// What the two rows of `TWO` are listed as.
 pub const BOTH: Listing = Listing::Rows(&[(3, PROMISED), (12, VOTED)]);

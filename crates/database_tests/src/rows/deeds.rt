@@ -4,7 +4,7 @@ use crate::rows::samples::{
     Sample, is_copied, is_long_copied, is_long_row, is_row, long_row, row_of,
 };
 use ballots::{Number, Row};
-use saved_rows::{Rows, RowsFault};
+use rows_saved::{Rows, RowsFault};
 use std::alloc::Global;
 use tape_frames::Version;
 

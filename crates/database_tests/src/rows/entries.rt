@@ -7,7 +7,7 @@ use crate::rows::memory::TWO;
 use crate::rows::samples::{PROMISED, VOTED, WITHDRAWN};
 use crate::rows::sessions::{Listing, MADE_TWO, Manner, OPENED_TWO, Session, first_amiss};
 use crate::tables::statements::{Found, IN_LAYOUT_TWO, VOTE_OF_12};
-use saved_rows::RowsFault;
+use rows_saved::RowsFault;
 use tape_frames::Version;
 
 /// Two are saved, one is copied, and an upgrade changes nothing; they are taken up for their station, for another, and for any.

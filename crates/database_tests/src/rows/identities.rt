@@ -1,6 +1,6 @@
 //! The stations that saved rows belong to.
 
-use saved_rows::Identity;
+use rows_saved::Identity;
 
 /// Member 2 of 3 of circuit 7.
 pub const STATION: Identity = Identity {

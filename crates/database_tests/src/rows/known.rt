@@ -8,7 +8,7 @@ use crate::rows::sessions::{Listing, MADE, MADE_TWO, OPENED, Session, first_amis
 use acceptor_store::SqliteRows;
 use ballots::Number;
 use gone_out::Known;
-use known_rows::known_rows;
+use rows_known::known_rows;
 use sqlite::Alter;
 use std::alloc::Global;
 

@@ -8,7 +8,7 @@ use crate::rows::sessions::{
     Command, Listing, MADE, Manner, OPENED, OPENED_TWO, Print, Session, first_amiss,
 };
 use command_ends::End;
-use saved_rows::RowsFault;
+use rows_saved::RowsFault;
 
 /// The listing of no rows, and of two.
 const NO_ROWS: Print = Print {

@@ -3,7 +3,7 @@
 use crate::rows::deeds::{Deed, are_done, done};
 use crate::rows::samples::{HIGHER, PROMISED, Sample, VOTED, WITHDRAWN, is_row};
 use ballots::Number;
-use saved_rows::{Balky, MemoryRows, Rows, RowsFault};
+use rows_saved::{Balky, MemoryRows, Rows, RowsFault};
 use std::alloc::Global;
 use tape_frames::Version;
 

@@ -1,7 +1,7 @@
 //! Rows by the numbers in them.
 
 ghost use Rattle.std.specs.Prelude.{IfSome};
-ghost use Rattle.saved_rows.specs.Saved.{HasPromise};
+ghost use Rattle.rows_saved.specs.Saved.{HasPromise};
 
 use ballots::{Ballot, Member, Row, Vote};
 use fixtures::FLOOD;

@@ -10,7 +10,7 @@ use acceptor_store::SqliteRows;
 use ballots::{Number, Row};
 use command_ends::End;
 use rows_command::{print_rows, upgrade_rows};
-use saved_rows::{Identity, Rows, RowsFault};
+use rows_saved::{Identity, Rows, RowsFault};
 use sqlite::{Alter, Connection, MemStore};
 use std::alloc::Global;
 use std::io;
@@ -159,9 +159,13 @@ fn is_printed<S: Alter + Drop>(alloc: Global, rows: &mut SqliteRows<S>, print: &
         room: print.room,
     };
     let mut err = Vec::new(alloc);
-    let end = match print.command {
-        Command::Rows => print_rows(alloc, rows, &mut out, &mut err),
-        Command::Upgrade => upgrade_rows(rows, &mut out, &mut err),
+    let printed = match print.command {
+        Command::Rows => print_rows(alloc, rows, &mut out),
+        Command::Upgrade => upgrade_rows(rows, &mut out),
+    };
+    let end = match printed {
+        Ok(()) => End::Done,
+        Err(fault) => fault.tell(&mut err),
     };
     print.text.as_bytes().starts_with(&out.taken)
         && (out.taken.len() == print.text.len() || out.room == 0)

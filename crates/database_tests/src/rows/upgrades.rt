@@ -6,7 +6,7 @@ use crate::rows::identities::OTHER;
 use crate::rows::samples::{PROMISED, VOTED, WITHDRAWN};
 use crate::rows::sessions::{Listing, MADE, Manner, OPENED, OPENED_TWO, Session, first_amiss};
 use crate::tables::statements::{Found, IN_LAYOUT_TWO};
-use saved_rows::RowsFault;
+use rows_saved::RowsFault;
 use tape_frames::Version;
 
 const STORE: Option<RowsFault> = Some(RowsFault::Store);

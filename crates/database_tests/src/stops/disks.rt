@@ -3,9 +3,9 @@
 ghost use Rattle.std.specs.Prelude.{IsTrue};
 
 use acceptor_store::SqliteRows;
-use row_files::opening_refusal;
-use row_life::{begin_life, end_life, pair_on};
-use saved_rows::Rows;
+use rows_files::opening_refusal;
+use rows_life::{begin_life, end_life, pair_on};
+use rows_saved::Rows;
 use sqlite::{Alter, Connection, FileStore, Files, Options};
 use sqlite_disk::{Crash, Disk, Fuse, Memory};
 use std::alloc::Global;

@@ -1,10 +1,10 @@
 //! Saves into rows whose disk may stop, and what is found of them.
 
-ghost use Rattle.saved_rows.specs.Saved.{HasPromise};
+ghost use Rattle.rows_saved.specs.Saved.{HasPromise};
 
 use crate::rows::samples::{Sample, is_row, row_of};
 use ballots::{Number, Row};
-use saved_rows::{Grouped, Rows, SavesAll, Settles};
+use rows_saved::{Grouped, Rows, SavesAll, Settles};
 use std::alloc::Global;
 use tape_frames::Version;
 

@@ -4,9 +4,10 @@ use crate::examples::{RELEASE, read_files};
 use crate::rows::samples::is_entry;
 use ballots::Member;
 use command_ends::End;
+use driver::Machine;
 use line_check::Setting;
-use saved_rows::{Grouped, Rows, SavesAll, Settles};
-use serve_command::{Machine, ServeTask, serve_run};
+use rows_saved::{Grouped, Rows, SavesAll, Settles};
+use serve_command::{ServeTask, serve_run};
 use station::{Answer, Membership, Station, StepRefusal};
 use std::alloc::Global;
 use tape_frames::Tape;
@@ -131,27 +132,27 @@ fn ended(end: End, out: &[u8]) -> Option<bool> {
 
 /// Whether a run of a station that is offered the flood story prints its release and ends well; nothing where it neither does nor
 /// ends by the store.
-fn serves<R: Settles>(
-    alloc: Global,
-    machine: &mut Machine<R, Still>,
-    frames: &[u8],
-) -> Option<bool> {
+fn serves<R: Settles>(machine: &mut Machine<R, Still, Vec<u8>>, frames: &[u8]) -> Option<bool> {
     let task = ServeTask {
-        offer: Some((12, Tape::from_bytes(alloc, frames).ok()?)),
+        offer: Some((12, Tape::from_bytes(machine.alloc, frames).ok()?)),
         withdraw: None,
         seek: None,
         turns: 1,
     };
-    let mut out = Vec::new(alloc);
-    let mut err = Vec::new(alloc);
-    let end = serve_run(machine, task, &mut out, &mut err);
-    ended(end, out.as_slice())
+    let mut err = Vec::new(machine.alloc);
+    let end = serve_run(machine, task, &mut err);
+    ended(end, machine.outside.as_slice())
 }
 
 /// The rows after such a run of a station over them, whose saves wait as those of the command do, and whether it ended well.
 pub fn served<R: SavesAll>(alloc: Global, rows: R, frames: &[u8]) -> Option<(R, bool)> {
     let station = station_over(alloc, Grouped::new(alloc, rows))?;
-    let mut machine = Machine::new(alloc, station, Still { moment: 0 });
-    let is_done = serves(alloc, &mut machine, frames)?;
+    let mut machine = Machine {
+        alloc,
+        station,
+        wire: Still { moment: 0 },
+        outside: Vec::new(alloc),
+    };
+    let is_done = serves(&mut machine, frames)?;
     Some((machine.station.into_rows().into_rows(), is_done))
 }

@@ -10,7 +10,7 @@ use crate::stops::saves::{Numbered, are_there, goes_over, puts, settled};
 use crate::stops::stations::{offered, served, sought};
 use acceptor_store::{SqliteRows, into_files};
 use fixtures::{FLOOD, LIGATURE};
-use saved_rows::{Rows, RowsFault, SavesAll};
+use rows_saved::{Rows, RowsFault, SavesAll};
 use sqlite::{Alter, Connection};
 use std::alloc::Global;
 use tape_frames::Version;

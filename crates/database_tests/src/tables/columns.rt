@@ -1,6 +1,6 @@
 //! Rows as the columns of their tables.
 
-use row_table::{EntryColumns, RowColumns};
+use rows_table::{EntryColumns, RowColumns};
 use std::alloc::Global;
 
 /// A promise of 1.1 alone.

@@ -6,9 +6,9 @@ use crate::rows::sessions::{MADE, Session, are_played};
 use crate::tables::columns::{promise, promise_in_layout_one};
 use acceptor_store::{RowVisitor, SqliteRows};
 use ballots::Number;
-use row_table::{
-    Layout, StationColumns, Taker, create_entry_tables, create_tables, put_entry, put_row,
-    visit_rows,
+use rows_table::{
+    Layout, LayoutOrigin, StationColumns, Taker, create_layout_one, create_layout_two, put_entry,
+    put_row, visit_rows,
 };
 use sqlite::{Alter, Connection, Row};
 use std::alloc::Global;
@@ -80,13 +80,13 @@ fn fill<S: Alter>(conn: &mut Connection<S>, layout: Layout) -> Option<()> {
         return None;
     }
     match layout {
-        Layout::First => {
-            create_tables(conn, &STATION).ok()?;
+        Layout::One => {
+            create_layout_one(conn, &STATION).ok()?;
             put_row(conn, &promise_in_layout_one(12)).ok()?;
             put_row(conn, &promise_in_layout_one(3)).ok()?;
         }
-        Layout::Created | Layout::Upgraded => {
-            create_entry_tables(conn, &STATION).ok()?;
+        Layout::Two(_) => {
+            create_layout_two(conn, &STATION).ok()?;
             put_entry(conn, &promise(12)).ok()?;
             put_entry(conn, &promise(3)).ok()?;
         }
@@ -138,8 +138,8 @@ pub fn are_shown<S: Alter + Drop>(rows: &mut SqliteRows<S>) -> bool {
 
 #[test]
 fn rows_are_taken_until_it_is_enough(rt: HostRuntime) {
-    assert!(rt; are_taken(rt.alloc(), Layout::First));
-    assert!(rt; are_taken(rt.alloc(), Layout::Created));
+    assert!(rt; are_taken(rt.alloc(), Layout::One));
+    assert!(rt; are_taken(rt.alloc(), Layout::Two(LayoutOrigin::Created)));
 }
 
 /// Two rows are saved, and shown, at version 1 and at version 2.

@@ -2,7 +2,7 @@
 
 use crate::tables::columns::{promise, vote};
 use crate::tables::statements::{Found, IN_LAYOUT_TWO, VOTE_OF_12, finds};
-use row_table::{EntryColumns, upgrade_tables};
+use rows_table::{EntryColumns, upgrade_tables};
 use sqlite::{Alter, Connection};
 use std::alloc::Global;
 

@@ -2,9 +2,10 @@
 
 use crate::drawings::documents::{FLOOD_SVG, LOOSE_SVG, NAMES_HTML, OVERSET_SVG, UNFINISHED_HTML};
 use crate::failing::Narrow;
-use command_ends::{End, TapePaths};
+use command_ends::End;
 use draw_command::{DrawOrder, draw};
 use fixtures::{CODES, FLOOD, LONGEST, OVERSET, WIDTHS};
+use inputs::TapePaths;
 use std::alloc::Global;
 use std::io::Write;
 use tape_drawing::DrawingForm;

@@ -1,10 +1,11 @@
 //! What `punch`, `spell` and `fit` print, and how they end.
 
-use command_ends::{End, TapePaths};
+use command_ends::End;
 use editor_commands::{
     FitOrder, Form, Given, PunchOrder, SpellOrder, StoryPaths, fit, punch, spell,
 };
 use fixtures::{CODES, HARVEST, OVERSET, WIDTHS};
+use inputs::TapePaths;
 use std::alloc::Global;
 use tape_frames::Version;
 

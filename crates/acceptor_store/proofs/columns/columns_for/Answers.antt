@@ -1,5 +1,5 @@
 use Rattle.std.proofs.Common.{◌≡◌, Some, true, ap, ap₂, subst, subst₂, sym, ◌∙◌}
-use Rattle.row_table.specs.Tables.Layout.{First}
+use Rattle.rows_table.specs.declared.layout.Layout.TheVariants as layouts
 use Rattle.protocol.specs.Entries.{Taped}
 use Rattle.protocol.specs.Rows.{Vote, vote_for, may_stand}
 use Rattle.protocol.specs.Versions.{One}
@@ -20,5 +20,5 @@ returns-clause-back c =
     let voted : Some vote ≡ row.vote = ap (λ (v : Vote). Some v) (sym same) ∙ c.in-Some-vote.ensures.value in
     let fits : Fits One (Taped tape) = subst (VoteFits One) (sym voted) c.requires.fits in
     let stands : may_stand (Some p) (Some vote) ≡ true = subst₂ (λ x y. may_stand x y ≡ true) (sym promised) (sym voted) c.in-Some-vote.ensures.stands in
-    subst₂ (λ x y. row_in First 0 (columns_with First x y) ≡ Some (record { promised = x; vote = y })) promised voted
+    subst₂ (λ x y. row_in layouts.One 0 (columns_with layouts.One x y) ≡ Some (record { promised = x; vote = y })) promised voted
     (back_with p b tape c.round-promised_round.ensures.range c.round.ensures.range c.in_ok-frames.ensures.is_tape fits stands)

@@ -1,7 +1,6 @@
 use Rattle.std.proofs.Common.{◌≡◌, drop}
 use Rattle.acceptor_store.specs.Columns.{damage_in}
-use Rattle.acceptor_store.specs.Layouts.{layout_of}
 use Rattle.acceptor_store.proofs.columns.damage_in.Given as goal
 
 abbrev pub invariant-loop-row : goal.invariant-loop-row
-invariant-loop-row l = damage_in (layout_of l.layout) (drop l.row-index l.rows) ≡ damage_in (layout_of l.layout) l.rows
+invariant-loop-row l = damage_in l.layout (drop l.row-index l.rows) ≡ damage_in l.layout l.rows

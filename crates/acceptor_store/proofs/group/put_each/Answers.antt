@@ -4,9 +4,8 @@ use Rattle.std.proofs.lemmas.Option.{slice_get-get_or}
 use Rattle.std.proofs.lemmas.Result.{err_from_is_err_and}
 use Rattle.sqlite.specs.State.{HasCleanDisk}
 use Rattle.sqlite.specs.Held.{state}
-use Rattle.acceptor_store.specs.Layouts.{layout_of}
 use Rattle.acceptor_store.proofs.GroupLemmas.{one_staged, all_staged}
-use Rattle.row_table.proofs.AddingLemmas.{kept_then, survives_both}
+use Rattle.rows_table.proofs.AddingLemmas.{kept_then, survives_both}
 use Rattle.acceptor_store.proofs.group.put_each.Goals as goal
 
 pub loop-item-preserved : goal.loop-item-preserved
@@ -16,7 +15,7 @@ loop-item-preserved g c =
     let item = c.item-item.result in
     let at : slice_get items i ≡ Some item = slice_get-get_or items i item c.loop-item-test.true ∙ ap Some (sym c.item-item.is) in (
       c.put_in.ensures.acts.same_reference ∙ c.loop-item.invariant.0,
-      one_staged (layout_of c.args.layout) items i item (state g.S.Store c.args.tx.now.conn.now) (state g.S.Store c.loop-item.tx.conn.now) (state g.S.Store c.put_in.new.tx.conn.now) at
+      one_staged c.args.layout items i item (state g.S.Store c.args.tx.now.conn.now) (state g.S.Store c.loop-item.tx.conn.now) (state g.S.Store c.put_in.new.tx.conn.now) at
           c.loop-item.invariant.1 c.in_ok-put_in.ensures.acts.survives c.in_ok-put_in.ensures.acts.done c.in_ok-put_in.ensures.acts.inside c.in_ok-put_in.ensures.acts.kept,
     )
 
@@ -44,7 +43,7 @@ returns g c =
     record {
       acts = record {
         same_reference = c.loop-item.invariant.0;
-        done = λ clean is. all_staged (layout_of c.args.layout) c.args.items.now c.loop-item.item-index _ _ (omega (arith, c.loop-item-test.false)) h clean is;
+        done = λ clean is. all_staged c.args.layout c.args.items.now c.loop-item.item-index _ _ (omega (arith, c.loop-item-test.false)) h clean is;
         inside = h.inside;
         kept = h.kept;
         survives = h.survives;

@@ -1,6 +1,5 @@
 use Rattle.std.proofs.Common.{rules}
 use Rattle.sqlite.specs.Held.{state}
-use Rattle.acceptor_store.specs.Layouts.{layout_of}
 use Rattle.acceptor_store.proofs.OpeningLemmas.{refuses_station}
 use Rattle.acceptor_store.proofs.opening.take_station.Goals as goal
 
@@ -9,12 +8,12 @@ returns g c = record {
   stored = search rules;
   agrees = search rules;
   refuses = λ clean has.
-      let layout = layout_of c.args.layout in
+      let layout = c.args.layout in
       refuses_station layout (state g.S.Store c.args.conn.now).now.trees c.in_ok-stored.stored (c.in_ok-stored.ensures.stored clean layout has) c.args.given c.wanted_station.result c.wanted_station.ensures.refuses;
   tables = record {
     unchanged = search rules;
     rests = search rules;
-    leaves = λ clean has. c.read_station.ensures.leaves clean (layout_of c.args.layout) has;
+    leaves = λ clean has. c.read_station.ensures.leaves clean c.args.layout has;
     alone = search rules;
     clean = search rules;
   };
@@ -28,7 +27,7 @@ returns-in_err-stored g c = record {
   tables = record {
     unchanged = search rules;
     rests = search rules;
-    leaves = λ clean has. c.read_station.ensures.leaves clean (layout_of c.args.layout) has;
+    leaves = λ clean has. c.read_station.ensures.leaves clean c.args.layout has;
     alone = search rules;
     clean = search rules;
   };

@@ -3,9 +3,9 @@ use Rattle.std.proofs.lemmas.Result.{err_from_is_err_and}
 use Rattle.sqlite.specs.Effect.{Database}
 use Rattle.sqlite.specs.Held.{state}
 use Rattle.sqlite.specs.State.{HasCleanDisk, IsUnchanged}
-use Rattle.row_table.specs.Tables.{Layout, layout_tree, layout_schema}
+use Rattle.rows_table.specs.declared.layout.Layout.{Layout}
+use Rattle.rows_table.specs.Tables.{layout_tree, layout_schema}
 use Rattle.acceptor_store.specs.Columns.{AreSound}
-use Rattle.acceptor_store.specs.Layouts.{layout_of}
 use Rattle.acceptor_store.specs.Sqlite.{RefusesRows, RefusesToOpen}
 use Rattle.acceptor_store.specs.StationRow.{IsStationOf}
 use Rattle.acceptor_store.proofs.OpeningLemmas.{refuses_to_open}
@@ -18,10 +18,10 @@ returns g c = record {
       let old = state g.S.Store c.args.conn.now in
       let mid = state g.S.Store c.take_station.new.conn in
       let early : HasCleanDisk mid = omega (arith, clean, c.test_rows.ensures.tables.clean) in
-      let is : layout_of c.in-Some.layout ≡ layout = c.in-Some.ensures.laid layout (c.schema.ensures.value ∙ laid) in
-      let has : old.now.schema ≡ layout_schema (layout_of c.in-Some.layout) = laid ∙ ap layout_schema (sym is) in
+      let is : c.in-Some.layout ≡ layout = c.in-Some.ensures.laid layout (c.schema.ensures.value ∙ laid) in
+      let has : old.now.schema ≡ layout_schema c.in-Some.layout = laid ∙ ap layout_schema (sym is) in
       let same : IsUnchanged old mid = c.in_ok-station.ensures.tables.unchanged early has in
-      let still : mid.now.schema ≡ layout_schema (layout_of c.in-Some.layout) = ap (λ (d : Database). d.schema) same.0.now_is ∙ has in
+      let still : mid.now.schema ≡ layout_schema c.in-Some.layout = ap (λ (d : Database). d.schema) same.0.now_is ∙ has in
       let sound : AreSound layout (mid.now.trees (layout_tree layout)) = subst (λ (l : Layout). AreSound l (mid.now.trees (layout_tree l))) is (c.in_ok-test_rows.ensures.sound clean still) in
       record {
         sound = subst (λ (d : Database). AreSound layout (d.trees (layout_tree layout))) same.0.now_is sound;
@@ -36,10 +36,10 @@ returns g c = record {
       let old = state g.S.Store c.args.conn.now in
       let mid = state g.S.Store c.take_station.new.conn in
       let early : HasCleanDisk mid = omega (arith, clean, c.test_rows.ensures.tables.clean) in
-      let is : layout_of c.in-Some.layout ≡ layout = c.in-Some.ensures.laid layout (c.schema.ensures.value ∙ laid) in
-      let has : old.now.schema ≡ layout_schema (layout_of c.in-Some.layout) = laid ∙ ap layout_schema (sym is) in
+      let is : c.in-Some.layout ≡ layout = c.in-Some.ensures.laid layout (c.schema.ensures.value ∙ laid) in
+      let has : old.now.schema ≡ layout_schema c.in-Some.layout = laid ∙ ap layout_schema (sym is) in
       let same : IsUnchanged old mid = c.in_ok-station.ensures.tables.unchanged early has in
-      let still : mid.now.schema ≡ layout_schema (layout_of c.in-Some.layout) = ap (λ (d : Database). d.schema) same.0.now_is ∙ has in
+      let still : mid.now.schema ≡ layout_schema c.in-Some.layout = ap (λ (d : Database). d.schema) same.0.now_is ∙ has in
       c.take_station.ensures.tables.leaves early has db (c.test_rows.ensures.tables.leaves clean still db left);
   clean = search rules;
 }
@@ -54,10 +54,10 @@ returns-in_err-test_rows g c = record {
       let old = state g.S.Store c.args.conn.now in
       let mid = state g.S.Store c.take_station.new.conn in
       let early : HasCleanDisk mid = omega (arith, clean, c.in_err-test_rows.ensures.tables.clean) in
-      let is : layout_of c.in-Some.layout ≡ layout = c.in-Some.ensures.laid layout (c.schema.ensures.value ∙ laid) in
-      let has : old.now.schema ≡ layout_schema (layout_of c.in-Some.layout) = laid ∙ ap layout_schema (sym is) in
+      let is : c.in-Some.layout ≡ layout = c.in-Some.ensures.laid layout (c.schema.ensures.value ∙ laid) in
+      let has : old.now.schema ≡ layout_schema c.in-Some.layout = laid ∙ ap layout_schema (sym is) in
       let same : IsUnchanged old mid = c.in_ok-station.ensures.tables.unchanged early has in
-      let still : mid.now.schema ≡ layout_schema (layout_of c.in-Some.layout) = ap (λ (d : Database). d.schema) same.0.now_is ∙ has in
+      let still : mid.now.schema ≡ layout_schema c.in-Some.layout = ap (λ (d : Database). d.schema) same.0.now_is ∙ has in
       let fault = c.in_err-test_rows.field-0.0 in
       let there : RefusesRows layout mid.now.trees fault = subst (λ (l : Layout). RefusesRows l mid.now.trees fault) is (c.in_err-test_rows.ensures.refuses clean still) in
       let refuses : RefusesRows layout old.now.trees fault = subst (λ (d : Database). RefusesRows layout d.trees fault) same.0.now_is there in
@@ -70,10 +70,10 @@ returns-in_err-test_rows g c = record {
       let old = state g.S.Store c.args.conn.now in
       let mid = state g.S.Store c.take_station.new.conn in
       let early : HasCleanDisk mid = omega (arith, clean, c.test_rows.ensures.tables.clean) in
-      let is : layout_of c.in-Some.layout ≡ layout = c.in-Some.ensures.laid layout (c.schema.ensures.value ∙ laid) in
-      let has : old.now.schema ≡ layout_schema (layout_of c.in-Some.layout) = laid ∙ ap layout_schema (sym is) in
+      let is : c.in-Some.layout ≡ layout = c.in-Some.ensures.laid layout (c.schema.ensures.value ∙ laid) in
+      let has : old.now.schema ≡ layout_schema c.in-Some.layout = laid ∙ ap layout_schema (sym is) in
       let same : IsUnchanged old mid = c.in_ok-station.ensures.tables.unchanged early has in
-      let still : mid.now.schema ≡ layout_schema (layout_of c.in-Some.layout) = ap (λ (d : Database). d.schema) same.0.now_is ∙ has in
+      let still : mid.now.schema ≡ layout_schema c.in-Some.layout = ap (λ (d : Database). d.schema) same.0.now_is ∙ has in
       c.take_station.ensures.tables.leaves early has db (c.test_rows.ensures.tables.leaves clean still db left);
   clean = search rules;
 }

@@ -1,11 +1,11 @@
 use Rattle.std.proofs.Common.{◌≡◌, ◌≤◌, ◌+◌, ◌++◌, ℕ, List, [], ◌∷◌, length, drop, drop-cons, add-one, append-nil, append_assoc, sym, ap₂, subst, ◌∙◌}
 use Rattle.std.specs.List.{AllByRecursion}
 use Rattle.std.proofs.lemmas.List.{drop_all}
-use Rattle.row_table.specs.Tables.Origin.{Upgraded}
-use Rattle.row_table.specs.Rows.{stored}
-use Rattle.row_table.specs.declared.entry_table.EntryColumns.{EntryColumns}
+use Rattle.rows_table.specs.declared.layout.LayoutOrigin.TheVariants.{Upgraded}
+use Rattle.rows_table.specs.Rows.{stored}
+use Rattle.rows_table.specs.declared.entry_table.EntryColumns.{EntryColumns}
 use Rattle.protocol.specs.Rows.{Row}
-use Rattle.saved_rows.specs.Saved.{HasPromise}
+use Rattle.rows_saved.specs.Saved.{HasPromise}
 use Rattle.acceptor_store.specs.RowsAsEntries.{IsEntryOf, AreEntriesOf}
 use Rattle.acceptor_store.proofs.RowsAsEntriesLemmas.{moves}
 use Rattle.acceptor_store.proofs.rows_as_entries.entries_for.Goals as goal

@@ -1,7 +1,7 @@
 use Rattle.std.proofs.Common.{◌++◌, List, drop}
 use Rattle.std.specs.List.{AllByRecursion}
-use Rattle.row_table.specs.declared.entry_table.EntryColumns.{EntryColumns}
-use Rattle.saved_rows.specs.Saved.{HasPromise}
+use Rattle.rows_table.specs.declared.entry_table.EntryColumns.{EntryColumns}
+use Rattle.rows_saved.specs.Saved.{HasPromise}
 use Rattle.acceptor_store.specs.RowsAsEntries.{AreEntriesOf}
 use Rattle.acceptor_store.proofs.rows_as_entries.entries_for.Given as goal
 

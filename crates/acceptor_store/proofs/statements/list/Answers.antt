@@ -1,11 +1,10 @@
 use Rattle.std.proofs.Common.{rules, ◌≡◌, ℕ, true, Some, None, IsTrue, sym, ◌∙◌, subst, refl}
 use Rattle.std.specs.List.{AllByRecursion, filter_map}
-use Rattle.row_table.specs.Tables.{layout_tree}
-use Rattle.row_table.specs.Rising.{rise_from, AreListed}
+use Rattle.rows_table.specs.Tables.{layout_tree}
+use Rattle.rows_table.specs.Rising.{rise_from, AreListed}
 use Rattle.acceptor_store.specs.Columns.{damage_in, item_in, saved_in}
-use Rattle.acceptor_store.specs.Layouts.{layout_of}
 use Rattle.protocol.specs.Rows.{Row}
-use Rattle.saved_rows.specs.Saved.{HasPromise, IsListOf}
+use Rattle.rows_saved.specs.Saved.{HasPromise, IsListOf}
 use Rattle.acceptor_store.proofs.ListLemmas.{lists, no_damage}
 use Rattle.acceptor_store.proofs.statements.list.Goals as goal
 
@@ -16,7 +15,7 @@ returns-in-Some g c = record {
   fits = tt;
   serving = search rules;
   refusal = λ serves clean sound.
-      let layout = layout_of c.args.layout in
+      let layout = c.args.layout in
       let rows = c.in-Ok.rows.items in
       let table = (g.S.Store.view c.args.conn.now.store).trees (layout_tree layout) in
       let has = c.in-Ok.ensures.reads.at_rest serves clean in
@@ -30,7 +29,7 @@ returns-in-Some g c = record {
 pub returns-in-Ok-items_in : goal.returns-in-Ok-items_in
 returns-in-Ok-items_in g c = record {
   listed = λ serves clean.
-      let layout = layout_of c.args.layout in
+      let layout = c.args.layout in
       let rows = c.in-Ok.rows.items in
       let trees = (g.S.Store.view c.args.conn.now.store).trees in
       let table = trees (layout_tree layout) in

@@ -1,9 +1,8 @@
 use Rattle.std.proofs.Common.{rules, unwrap_or, ◌≡◌, Some, None, Option, List, [], ◌∷◌, ◌++◌, length, length-append, arith, sym, ap, ◌∙◌, true≢false, is_some}
 use Rattle.std.specs.Prelude.{option_to_list}
 use Rattle.sqlite_value.specs.Order.{Row as Columns}
-use Rattle.row_table.specs.Tables.{layout_tree}
-use Rattle.row_table.specs.Rows.{columns_at}
-use Rattle.acceptor_store.specs.Layouts.{layout_of}
+use Rattle.rows_table.specs.Tables.{layout_tree}
+use Rattle.rows_table.specs.Rows.{columns_at}
 use Rattle.protocol.specs.Rows.{blank}
 use Rattle.acceptor_store.specs.Columns.{row_in, row_or_blank}
 use Rattle.acceptor_store.proofs.statements.read.Goals as goal
@@ -19,7 +18,7 @@ returns-in-Ok-None g c = record {
   fits = tt;
   serving = search rules;
   refusal = λ serves clean sound.
-      let layout = layout_of c.args.layout in
+      let layout = c.args.layout in
       let found = rw c.get.ensures.value at c.in-Ok.ensures.found serves clean in
       let here : columns_at layout ((g.S.Store.view c.args.conn.now.store).trees (layout_tree layout)) c.args.number ≡ Some c.in-Some.columns =
       popped _ c.pop.new.self.items c.in-Some.columns (sym found ∙ c.in-Some.ensures.items) in
@@ -31,7 +30,7 @@ returns-in-Ok-None g c = record {
 pub returns-in-Ok-Some : goal.returns-in-Ok-Some
 returns-in-Ok-Some g c = record {
   row = λ serves clean.
-      let layout = layout_of c.args.layout in
+      let layout = c.args.layout in
       let found = rw c.get.ensures.value at c.in-Ok.ensures.found serves clean in
       let here : columns_at layout ((g.S.Store.view c.args.conn.now.store).trees (layout_tree layout)) c.args.number ≡ Some c.in-Some.columns =
       popped _ c.pop.new.self.items c.in-Some.columns (sym found ∙ c.in-Some.ensures.items) in

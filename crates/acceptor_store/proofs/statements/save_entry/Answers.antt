@@ -1,8 +1,8 @@
 use Rattle.std.proofs.Common.{rules, ℕ, subst₂}
 use Rattle.sqlite_value.specs.Order.{Row as Columns}
 use Rattle.sqlite.specs.Held.{state}
-use Rattle.row_table.specs.Tables.Layout.{Second}
-use Rattle.row_table.specs.Rows.{WasSaved}
+use Rattle.rows_table.specs.declared.layout.Layout.TheVariants.{Two}
+use Rattle.rows_table.specs.Rows.{WasSaved}
 use Rattle.acceptor_store.proofs.statements.save_entry.Goals as goal
 
 pub returns-in-Ok-put_entry : goal.returns-in-Ok-put_entry
@@ -11,7 +11,7 @@ returns-in-Ok-put_entry g c = λ origin.
     record {
       serves = puts.serves;
       saved = λ serves clean.
-          subst₂ (λ (n : ℕ) (columns : Columns). WasSaved (Second origin) n columns (state g.S.Store c.args.conn.now) (state g.S.Store c.put_entry.new.conn)) c.in-Ok.ensures.number (c.in-Ok.ensures.columns origin)
+          subst₂ (λ (n : ℕ) (columns : Columns). WasSaved (Two origin) n columns (state g.S.Store c.args.conn.now) (state g.S.Store c.put_entry.new.conn)) c.in-Ok.ensures.number (c.in-Ok.ensures.columns origin)
           ((c.in-Ok-put_entry.ensures origin).saved serves clean);
       back = search rules;
       err = λ serves clean opened. tt;

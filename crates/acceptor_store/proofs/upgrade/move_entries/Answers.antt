@@ -1,6 +1,6 @@
 use Rattle.std.proofs.Common.{rules, []}
 use Rattle.sqlite.specs.Held.{state}
-use Rattle.row_table.specs.Entries.{with_entries}
+use Rattle.rows_table.specs.Entries.{with_entries}
 use Rattle.acceptor_store.proofs.StandLemmas.{IsSettled}
 use Rattle.acceptor_store.proofs.UpgradeLemmas.{laid, lies, went_over, left_by}
 use Rattle.acceptor_store.proofs.upgrade.move_entries.Goals as goal

@@ -1,6 +1,6 @@
 use Rattle.std.proofs.Common.{◌≡◌, map, drop}
 use Rattle.tape_frames.specs.Entries.{version_of}
-use Rattle.saved_rows.specs.Memory.{saved}
+use Rattle.rows_saved.specs.Memory.{saved}
 use Rattle.answer_command.proofs.Loop.{Standing}
 use Rattle.answer_command.proofs.answers.put_lines.Given as goal
 

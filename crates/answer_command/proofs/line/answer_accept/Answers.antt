@@ -1,5 +1,5 @@
 use Rattle.std.proofs.Common.{rules}
-use Rattle.saved_rows.specs.Memory.{saved}
+use Rattle.rows_saved.specs.Memory.{saved}
 use Rattle.protocol.specs.Acceptor.{Accepts, next_row, reply_of}
 use Rattle.tape_frames.specs.Entries.{version_of, lent_entry}
 use Rattle.answer_command.specs.Asked.{asked_in}

@@ -1,5 +1,5 @@
 use Rattle.std.proofs.Common.{rules}
-use Rattle.saved_rows.specs.Memory.{saved}
+use Rattle.rows_saved.specs.Memory.{saved}
 use Rattle.answer_command.proofs.History.{saved_as}
 use Rattle.answer_command.proofs.line.answer_prepare.Goals as goal
 

@@ -2,10 +2,10 @@
 use Rattle.std.proofs.Common.{◌≡◌, ◌∙◌, ap, Option, Some, None, refl}
 use Rattle.std.specs.Prelude.{IfSome}
 use Rattle.protocol.specs.Entries.{Taped}
-use Rattle.saved_rows.specs.declared.memory.MemoryRows.{MemoryRows}
-use Rattle.saved_rows.specs.Memory.{saved}
-use Rattle.saved_rows.specs.Groups.{with_all}
-use Rattle.saved_rows.specs.declared.grouped.Grouped.{Grouped}
+use Rattle.rows_saved.specs.declared.memory.MemoryRows.{MemoryRows}
+use Rattle.rows_saved.specs.Memory.{saved}
+use Rattle.rows_saved.specs.Groups.{with_all}
+use Rattle.rows_saved.specs.declared.grouped.Grouped.{Grouped}
 use Rattle.days.proofs.Playing.{day_of_two}
 use Rattle.days.proofs.examples.release_of_two.Goals as goal
 

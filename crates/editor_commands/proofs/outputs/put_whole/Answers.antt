@@ -1,5 +1,8 @@
-use Rattle.editor_commands.proofs.Ends.{cut}
+use Rattle.std.proofs.Common.{refl, inr}
+use Rattle.std.proofs.lemmas.Result.{err_from_is_err_and}
 use Rattle.editor_commands.proofs.outputs.put_whole.Goals as goal
 
-pub returns-in-Err-flush-clause-err : goal.returns-in-Err-flush-clause-err
-returns-in-Err-flush-clause-err g c = cut _ (g.W.Write.contents c.put_all.new.out) _ _ c.in-Ok.ensures.ok c.in-Err-flush.ensures.bytes
+pub returns-in_err-put_whole-clause-err : goal.returns-in_err-put_whole-clause-err
+returns-in_err-put_whole-clause-err g c =
+    let p = err_from_is_err_and c.from_residual.result c.from_residual.ensures.1 in
+    rw (p.1, p.2) (inr (refl, c.in_err-put_whole.ensures.err))

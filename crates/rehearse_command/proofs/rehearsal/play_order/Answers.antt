@@ -1,7 +1,7 @@
 -- A line that orders nothing leaves the stage, and after one that orders something it is no more new.
 use Rattle.std.proofs.Common.{sym, subst}
 use Rattle.std.proofs.lemmas.Result.{on_ok_weaker, on_err_weaker}
-use Rattle.saved_rows.specs.Memory.{MemoryOf}
+use Rattle.rows_saved.specs.Memory.{MemoryOf}
 use Rattle.world.specs.declared.world.World.{World}
 use Rattle.rehearse_command.specs.Rehearsals.{StandsFront}
 use Rattle.rehearse_command.proofs.Shown.{front_shown, played_on}
@@ -23,11 +23,5 @@ returns-in-Ok-clause-goes_on g c = λ by start set_up s.
 pub returns-in-Ok-clause-stops : goal.returns-in-Ok-clause-stops
 returns-in-Ok-clause-stops g c = λ by start s. c.play.ensures.stops by start s.0
 
-pub returns-in-Err-OutOfMemory-clause-stops : goal.returns-in-Err-OutOfMemory-clause-stops
-returns-in-Err-OutOfMemory-clause-stops g c = λ by start s. front_shown by start (g.W.Write.contents c.args.out.now) c.args.stage.now.world s.0
-
-pub returns-in-Err-BadTape-clause-stops : goal.returns-in-Err-BadTape-clause-stops
-returns-in-Err-BadTape-clause-stops g c = λ by start s. front_shown by start (g.W.Write.contents c.args.out.now) c.args.stage.now.world s.0
-
-pub returns-in-Err-BadLine-clause-stops : goal.returns-in-Err-BadLine-clause-stops
-returns-in-Err-BadLine-clause-stops g c = λ by start s. front_shown by start (g.W.Write.contents c.args.out.now) c.args.stage.now.world s.0
+pub returns-in-Err-clause-stops : goal.returns-in-Err-clause-stops
+returns-in-Err-clause-stops g c = λ by start s. front_shown by start (g.W.Write.contents c.args.out.now) c.args.stage.now.world s.0

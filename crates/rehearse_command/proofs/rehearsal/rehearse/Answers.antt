@@ -1,19 +1,17 @@
--- All that was written is a front of it, and a flush leaves what was written.
-use Rattle.std.proofs.Common.{rules}
+-- A flush leaves what was written.
+use Rattle.std.specs.Io.KnownBytes.{Keeps}
+use Rattle.std.proofs.KnownBytes.{Keeps-refl}
 use Rattle.rehearse_command.specs.Rehearsals.{inputs}
-use Rattle.rehearse_command.proofs.Shown.{front_rehearsed, kept_front_rehearsed}
+use Rattle.rehearse_command.proofs.RehearsalEnds.{rehearsed_so}
 use Rattle.rehearse_command.proofs.rehearsal.rehearse.Goals as goal
+use Rattle.rehearse_command.proofs.rehearsal.rehearse.Goals.{then-is_err, else-is_err}
 
-pub returns-in-Ok : goal.returns-in-Ok
-returns-in-Ok g c = record {
-  done = λ is. c.in-Ok.ensures.ok;
-  front = front_rehearsed (inputs (g.R.Read.remaining c.args.order.table) (g.S.Read.remaining c.args.order.widths)) (g.W.Write.contents c.args.out.now) (g.W.Write.contents c.rehearsed.new.out) c.in-Ok.ensures.ok;
-  ends = tt;
-}
-
-pub returns-in-Err : goal.returns-in-Err
-returns-in-Err g c = record {
-  done = λ is. absurd (c.tell.ensures.fails is);
-  front = kept_front_rehearsed (inputs (g.R.Read.remaining c.args.order.table) (g.S.Read.remaining c.args.order.widths)) (g.W.Write.contents c.args.out.now) (g.W.Write.contents c.rehearsed.new.out) (g.W.Write.contents c.flush.new.self) c.flush.ensures.bytes c.in-Err.ensures.err;
-  ends = rw c.tell.ensures.end c.in-Err.ensures.ends;
-}
+pub returns : goal.returns
+returns g c =
+    let now = g.W.Write.contents c.rehearsed-outcome.new.out in
+    let keeps = elim c.if-is_err.branch as (λ _. Keeps now (g.W.Write.contents c.if-is_err.out)) [
+      | then-is_err w ↦ rw w.out-is w.flush.ensures.bytes
+      | else-is_err w ↦ rw w.out-is (Keeps-refl now)
+    ] in
+    rehearsed_so (inputs (g.R.Read.remaining c.args.order.table) (g.S.Read.remaining c.args.order.widths)) c.rehearsed-outcome.result c.end_with.result (g.W.Write.contents c.args.out.now) now
+    (g.W.Write.contents c.if-is_err.out) c.end_with.ensures keeps c.rehearsed-outcome.ensures

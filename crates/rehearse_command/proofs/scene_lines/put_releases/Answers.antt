@@ -1,7 +1,7 @@
 -- One release more.
 use Rattle.std.specs.Prelude.{flat_map}
 use Rattle.streams.proofs.Parts.{stopped_part}
-use Rattle.command_ends.proofs.Writing.{front_written}
+use Rattle.streams.proofs.Writing.{front_written}
 use Rattle.rehearse_command.specs.Lines.{released_text}
 use Rattle.rehearse_command.proofs.scene_lines.put_releases.Goals as goal
 

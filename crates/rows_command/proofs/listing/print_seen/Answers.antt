@@ -1,6 +1,6 @@
 use Rattle.std.proofs.Common.{rules, ◌≡◌, ◌⊎◌, inl, inr, refl, ap, subst}
 use Rattle.acceptor_store.specs.Sqlite.{saved_of}
-use Rattle.saved_rows.specs.declared.identity.Identity.{Identity}
+use Rattle.rows_saved.specs.declared.identity.Identity.{Identity}
 use Rattle.rows_command.specs.RowsText.{IsFrontPrinted}
 use Rattle.rows_command.specs.declared.printing.RowPrinter.{RowPrinter}
 use Rattle.rows_command.proofs.PrintLemmas.{front_printed}

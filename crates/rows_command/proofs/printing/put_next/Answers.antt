@@ -1,7 +1,7 @@
 -- What stands before the rows, and then a row.
 use Rattle.rows_command.specs.RowsText.{row_line}
 use Rattle.rows_command.specs.Printing.{head_text}
-use Rattle.command_ends.proofs.Writing.{stopped, then_wrote}
+use Rattle.streams.proofs.Writing.{stopped, then_wrote}
 use Rattle.rows_command.proofs.printing.put_next.Goals as goal
 
 pub returns-in_err-put_head : goal.returns-in_err-put_head

@@ -12,31 +12,31 @@ pub returns-then-stopped-clause-runs : goal.returns-then-stopped-clause-runs
 returns-then-stopped-clause-runs g c =
     let texts : Texts = c.args.terms.texts in
     let k = known g.R.Rows g.R.Settles.is_settled g.N.Wire.passed (tells texts g.F.Folders.doings) in
-    let old = post c.args.station.now c.args.wire.now c.args.folders.now in
+    let old = post c.args.machine.now.station c.args.machine.now.wire c.args.machine.now.outside in
     answered k old old ends.Input c.tell.result Anyhow (c.tell.ensures.end ∙ c.of_step.ensures)
-    (idle texts g.R.Rows g.R.Settles.is_settled g.N.Wire.passed g.F.Folders.doings c.args.station.now c.args.wire.now c.args.folders.now ends.Input refl)
+    (idle texts g.R.Rows g.R.Settles.is_settled g.N.Wire.passed g.F.Folders.doings c.args.machine.now.station c.args.machine.now.wire c.args.machine.now.outside ends.Input refl)
 
 pub returns-in_default-clause-runs : goal.returns-in_default-clause-runs
 returns-in_default-clause-runs g c =
     let texts : Texts = c.args.terms.texts in
     let k = known g.R.Rows g.R.Settles.is_settled g.N.Wire.passed (tells texts g.F.Folders.doings) in
-    let f = c.args.folders.now in
+    let f = c.args.machine.now.outside in
     let h = c.begin.new.folders in
-    answered k (post c.args.station.now c.args.wire.now f) (post c.args.station.now c.args.wire.now h) ends.Memory c.tell-in_default.result Anyhow c.tell-in_default.ensures.end
-    (idle_behind texts g.R.Rows g.R.Settles.is_settled g.N.Wire.passed g.F.Folders.doings c.args.station.now c.args.wire.now f h ends.Memory c.begin.ensures.does (inl refl))
+    answered k (post c.args.machine.now.station c.args.machine.now.wire f) (post c.args.machine.now.station c.args.machine.now.wire h) ends.Memory c.tell-in_default.result Anyhow c.tell-in_default.ensures.end
+    (idle_behind texts g.R.Rows g.R.Settles.is_settled g.N.Wire.passed g.F.Folders.doings c.args.machine.now.station c.args.machine.now.wire f h ends.Memory c.begin.ensures.does (inl refl))
 
 pub returns-clause-runs : goal.returns-clause-runs
 returns-clause-runs g c =
-    behind c.args.terms.texts g.R.Rows g.R.Settles.is_settled g.N.Wire.passed g.F.Folders.doings c.args.station.now c.drive.new.station c.args.wire.now c.drive.new.wire c.args.folders.now c.begin.new.folders
-    c.drive.new.folders c.drive.result c.begin.ensures.does c.drive.ensures
+    behind c.args.terms.texts g.R.Rows g.R.Settles.is_settled g.N.Wire.passed g.F.Folders.doings c.args.machine.now.station c.drive.new.machine.station c.args.machine.now.wire c.drive.new.machine.wire c.args.machine.now.outside c.begin.new.folders
+    c.drive.new.machine.outside c.drive.result c.begin.ensures.does c.drive.ensures
 
 pub returns-clause-goes_on : goal.returns-clause-goes_on
 returns-clause-goes_on g c = λ done.
     let k = known g.R.Rows g.R.Settles.is_settled g.N.Wire.passed (tells c.args.terms.texts g.F.Folders.doings) in
-    let went : c.args.station.now.stopped ≡ false = search rules in
-    stays k (post c.args.station.now c.args.wire.now c.begin.new.folders) (post c.drive.new.station c.drive.new.wire c.drive.new.folders) c.drive.result Anyhow done c.drive.ensures ∙ went
+    let went : c.args.machine.now.station.stopped ≡ false = search rules in
+    stays k (post c.args.machine.now.station c.args.machine.now.wire c.begin.new.folders) (post c.drive.new.machine.station c.drive.new.machine.wire c.drive.new.machine.outside) c.drive.result Anyhow done c.drive.ensures ∙ went
 
 pub returns-clause-was_kept : goal.returns-clause-was_kept
 returns-clause-was_kept g c =
     let k = known g.R.Rows g.R.Settles.is_settled g.N.Wire.passed (tells c.args.terms.texts g.F.Folders.doings) in
-    drove_kept k (post c.args.station.now c.args.wire.now c.begin.new.folders) (post c.drive.new.station c.drive.new.wire c.drive.new.folders) c.drive.result Anyhow c.drive.ensures
+    drove_kept k (post c.args.machine.now.station c.args.machine.now.wire c.begin.new.folders) (post c.drive.new.machine.station c.drive.new.machine.wire c.drive.new.machine.outside) c.drive.result Anyhow c.drive.ensures

@@ -1,8 +1,9 @@
 -- What was asked and the turns, over the output behind the printer.
 use Rattle.std.proofs.Common.{rules, ◌≡◌, ◌∙◌, false, refl}
 use Rattle.command_ends.specs.declared.end.End.TheVariants as ends
+use Rattle.driver.specs.Events.{ended}
 use Rattle.driver.specs.Driving.{known, post, post_of}
-use Rattle.driver.proofs.Driven.{answered, came_from, drove_kept, left_so, seen_from, stays, untouched}
+use Rattle.driver.proofs.Driven.{answered, came_from, drove_kept, ends_so, left_so, seen_from, stays, untouched}
 use Rattle.serve_command.specs.Serving.{prints, IsRun}
 use Rattle.serve_command.specs.Printed.{printing_fates}
 use Rattle.serve_command.proofs.serve_loop.serve_run.Goals as goal
@@ -10,52 +11,31 @@ use Rattle.serve_command.proofs.serve_loop.serve_run.Goals as goal
 pub returns-then-stopped : goal.returns-then-stopped
 returns-then-stopped g c = record {
   done =
-      untouched (known g.R.Rows g.R.Settles.is_settled g.N.Wire.passed (prints g.W.Write.contents)) _ (printing_fates g.W.Write.contents) c.args.machine.now.station c.args.machine.now.wire c.args.out.now
+      untouched (known g.R.Rows g.R.Settles.is_settled g.N.Wire.passed (prints g.W.Write.contents)) _ (printing_fates g.W.Write.contents) c.args.machine.now.station c.args.machine.now.wire c.args.machine.now.outside
       ends.Input c.tell.result (IsRun c.args.task) (c.tell.ensures.end ∙ c.of_step.ensures) c.tell.ensures.fails refl;
   was_kept = λ kept. kept;
   goes_on = λ done. absurd (c.tell.ensures.fails done);
 }
 
-pub returns-in-Ok : goal.returns-in-Ok
-returns-in-Ok g c =
+pub returns : goal.returns
+returns g c =
     let k = known g.R.Rows g.R.Settles.is_settled g.N.Wire.passed (prints g.W.Write.contents) in
-    let last = c.ask_and_turn.new.driver in
+    let last = c.ask_and_turn-done.new.driver in
     let form = IsRun c.args.task in
-    let drove = c.in-Ok.ensures in
-    let was = post c.args.machine.now.station c.args.machine.now.wire c.args.out.now in
+    let drove = c.ask_and_turn-done.ensures in
+    let was = post c.args.machine.now.station c.args.machine.now.wire c.args.machine.now.outside in
     let there = post last.station.now last.wire.now last.sink.out.now in
     let station : last.station.ghost_name ≡ _ = drove.hands.0 in
     let wire : last.wire.ghost_name ≡ _ = drove.hands.1 in
-    let came = came_from _ _ (post_of last) _ _ _ ends.Done form c.new-driver.ensures.is drove.done in
+    let came = came_from _ _ (post_of last) _ _ _ (ended c.ask_and_turn-done.result) form c.new-driver.ensures.is drove.done in
     let same : last.sink.out.ghost_name ≡ _ = came.1.0 in
-    let seen = seen_from _ (prints g.W.Write.contents) _ (post_of last) _ _ _ ends.Done form c.args.out.now last.sink.out.now c.new-driver.ensures.is drove.done (λ log p. p.1) (λ log p. p.1) in
-    let kept : (g.R.Rows.kept last.station.now.rows → g.R.Rows.kept c.args.machine.now.station.rows) = drove_kept k was there ends.Done form seen in
-    let stood : last.station.now.stopped ≡ c.args.machine.now.station.stopped = stays k was there ends.Done form refl seen in
+    let seen = seen_from _ (prints g.W.Write.contents) _ (post_of last) _ _ _ (ended c.ask_and_turn-done.result) form c.args.machine.now.outside last.sink.out.now c.new-driver.ensures.is drove.done (λ log p. p.1) (λ log p. p.1) in
+    let told = answered k was there (ended c.ask_and_turn-done.result) c.end_with.result form (ends_so c.ask_and_turn-done.result c.end_with.result c.end_with.ensures) seen in
+    let kept : (g.R.Rows.kept last.station.now.rows → g.R.Rows.kept c.args.machine.now.station.rows) = drove_kept k was there c.end_with.result form told in
     let went : c.args.machine.now.station.stopped ≡ false = search rules in
-    let goes : last.station.now.stopped ≡ false = stood ∙ went in
+    let goes : (c.end_with.result ≡ ends.Done → last.station.now.stopped ≡ false) = (λ done. stays k was there c.end_with.result form done told ∙ went) in
     record {
-      done = left_so k was last.station.now _ last.wire.now _ last.sink.out.now _ ends.Done form (search rules) (search rules) (search rules) seen;
+      done = left_so k was last.station.now _ last.wire.now _ last.sink.out.now _ c.end_with.result form (search rules) (search rules) (search rules) told;
       was_kept = search rules;
-      goes_on = λ done. search rules;
-    }
-
-pub returns-in-Err : goal.returns-in-Err
-returns-in-Err g c =
-    let k = known g.R.Rows g.R.Settles.is_settled g.N.Wire.passed (prints g.W.Write.contents) in
-    let last = c.ask_and_turn.new.driver in
-    let form = IsRun c.args.task in
-    let drove = c.in-Err.ensures in
-    let was = post c.args.machine.now.station c.args.machine.now.wire c.args.out.now in
-    let there = post last.station.now last.wire.now last.sink.out.now in
-    let station : last.station.ghost_name ≡ _ = drove.hands.0 in
-    let wire : last.wire.ghost_name ≡ _ = drove.hands.1 in
-    let came = came_from _ _ (post_of last) _ _ _ _ form c.new-driver.ensures.is drove.done in
-    let same : last.sink.out.ghost_name ≡ _ = came.1.0 in
-    let seen = seen_from _ (prints g.W.Write.contents) _ (post_of last) _ _ _ _ form c.args.out.now last.sink.out.now c.new-driver.ensures.is drove.done (λ log p. p.1) (λ log p. p.1) in
-    let told = answered k was there _ c.tell-in-Err.result form c.tell-in-Err.ensures.end seen in
-    let kept : (g.R.Rows.kept last.station.now.rows → g.R.Rows.kept c.args.machine.now.station.rows) = drove_kept k was there c.tell-in-Err.result form told in
-    record {
-      done = left_so k was last.station.now _ last.wire.now _ last.sink.out.now _ c.tell-in-Err.result form (search rules) (search rules) (search rules) told;
-      was_kept = search rules;
-      goes_on = λ done. absurd (c.tell-in-Err.ensures.fails done);
+      goes_on = λ done. let gone : last.station.now.stopped ≡ false = goes done in search rules;
     }

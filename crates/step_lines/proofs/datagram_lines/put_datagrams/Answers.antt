@@ -1,5 +1,5 @@
 -- One datagram more.
-use Rattle.command_ends.proofs.Writing.{front_written}
+use Rattle.streams.proofs.Writing.{front_written}
 use Rattle.step_lines.specs.Datagrams.{datagrams_text}
 use Rattle.step_lines.proofs.Listing.{wrote_datagram, stopped_datagram}
 use Rattle.step_lines.proofs.datagram_lines.put_datagrams.Goals as goal

@@ -3,7 +3,7 @@ use Rattle.std.proofs.Common.{List, subst}
 use Rattle.tape_frames.specs.Entries.{version_of}
 use Rattle.world.specs.Founding.{Given}
 use Rattle.world.specs.Playing.{IsFresh}
-use Rattle.saved_rows.specs.contracts.memory.MemoryRowsRows.TheImpl.{ghosts}
+use Rattle.rows_saved.specs.contracts.memory.MemoryRowsRows.TheImpl.{ghosts}
 use Rattle.world.proofs.plays.circuit_in_memory.Goals as goal
 
 pub returns-in-Ok-clause-fresh : goal.returns-in-Ok-clause-fresh

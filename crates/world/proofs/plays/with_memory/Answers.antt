@@ -1,8 +1,8 @@
 -- One member more.
 use Rattle.std.proofs.Common.{◌≡◌, List, [], ◌∷◌, ◌++◌, sym, subst, ap}
 use Rattle.std.specs.Prelude.{map}
-use Rattle.saved_rows.specs.declared.memory.MemoryRows.{MemoryRows}
-use Rattle.saved_rows.specs.contracts.memory.MemoryRowsRows.TheImpl.{ghosts}
+use Rattle.rows_saved.specs.declared.memory.MemoryRows.{MemoryRows}
+use Rattle.rows_saved.specs.contracts.memory.MemoryRowsRows.TheImpl.{ghosts}
 use Rattle.tape_frames.specs.Entries.{version_of}
 use Rattle.world.specs.Founding.{Part, AreAt, AreNewlyMade, given_of}
 use Rattle.world.proofs.Founding.{newly_more, newly_none, at_more, at_none, given_more}

@@ -4,7 +4,7 @@ use Rattle.std.proofs.lemmas.List.{map-id}
 use Rattle.std.proofs.lemmas.Iterator.Adapters.{YieldsList-from_vec}
 use Rattle.std.proofs.lemmas.Iterator.Consumers.{YieldsList-end}
 use Rattle.protocol.specs.Seats.{sits}
-use Rattle.saved_rows.specs.declared.balky.Balky.{Balky}
+use Rattle.rows_saved.specs.declared.balky.Balky.{Balky}
 use Rattle.station.specs.declared.station.Station.{Station}
 use Rattle.world.specs.Founding.{Part, IsNew, AreNew}
 use Rattle.world.proofs.Founding.{more}

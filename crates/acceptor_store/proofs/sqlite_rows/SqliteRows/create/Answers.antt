@@ -3,9 +3,9 @@ use Rattle.sqlite.specs.Held.{state}
 use Rattle.sqlite.specs.State.{HasCleanDisk}
 use Rattle.protocol.specs.Versions.{Version, One, Two}
 use Rattle.tape_frames.specs.Entries.{version_of}
-use Rattle.row_table.specs.Tables.{Layout}
+use Rattle.rows_table.specs.declared.layout.Layout.{Layout}
 use Rattle.acceptor_store.specs.Columns.{saved_in, version_in}
-use Rattle.acceptor_store.specs.Layouts.{layout_of, made_in}
+use Rattle.acceptor_store.specs.Layouts.{made_in}
 use Rattle.acceptor_store.proofs.StandLemmas.{none_saved}
 use Rattle.acceptor_store.proofs.RestLemmas.{made_rests}
 use Rattle.acceptor_store.proofs.sqlite_rows.SqliteRows.create.Goals as goal
@@ -19,7 +19,7 @@ pub returns-clause-made : goal.returns-clause-made
 returns-clause-made g c =
     let i = c.args.identity in
     let new = state g.S.Store c.make_tables.new.conn in
-    let laid : layout_of c.made_in-layout.result ≡ made_in (version_of c.args.version) = c.made_in-layout.ensures in
+    let laid : c.made_in-layout.result ≡ made_in (version_of c.args.version) = c.made_in-layout.ensures in
     let empty = λ (alone : IsTrue c.is_empty-alone.result). sym c.schema-2.ensures.value ∙ c.is_empty-alone.ensures.empty alone in
     let blank = λ (clean : HasCleanDisk new) (alone : IsTrue c.is_empty-alone.result) (n : ℕ).
     ap (λ (l : Layout). saved_in l new.now.trees n) laid

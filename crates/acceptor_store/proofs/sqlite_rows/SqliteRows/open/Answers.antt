@@ -1,7 +1,6 @@
 use Rattle.std.proofs.Common.{rules, ◌≡◌, false, IsTrue, inl, refl}
 use Rattle.sqlite.specs.Held.{state}
-use Rattle.row_table.specs.Tables.{layout_schema}
-use Rattle.acceptor_store.specs.Layouts.{layout_of}
+use Rattle.rows_table.specs.Tables.{layout_schema}
 use Rattle.acceptor_store.proofs.StandLemmas.{IsSettled, taken_stands}
 use Rattle.acceptor_store.proofs.RestLemmas.{rests}
 use Rattle.acceptor_store.proofs.sqlite_rows.SqliteRows.open.Goals as goal
@@ -12,7 +11,7 @@ invariant_of-result g c = (
   λ running ours.
       let old = c.args.conn in
       let new = c.take_up.new.conn in
-      let layout = layout_of c.in-Ok-take_up.taken.0 in
+      let layout = c.in-Ok-take_up.taken.0 in
       let tables : (state g.S.Store old).now.schema ≡ layout_schema layout = search rules in
       let free : IsTrue c.is_autocommit.result = search rules in
       let alone : old.in_transaction ≡ false = search rules in
@@ -26,7 +25,7 @@ returns-in-Ok-take_up-clause-taken g c = record {
   rests = λ kept.
       let old = c.args.conn in
       let new = c.take_up.new.conn in
-      let layout = layout_of c.in-Ok-take_up.taken.0 in
+      let layout = c.in-Ok-take_up.taken.0 in
       let tables : (state g.S.Store old).now.schema ≡ layout_schema layout = search rules in
       let free : IsTrue c.is_autocommit.result = search rules in
       let alone : old.in_transaction ≡ false = search rules in
@@ -44,7 +43,7 @@ returns-in-Ok-take_up-clause-taken g c = record {
   unstopped = search rules;
   clean = search rules;
   crash = λ kept.
-      let layout = layout_of c.in-Ok-take_up.taken.0 in
+      let layout = c.in-Ok-take_up.taken.0 in
       let tables : (state g.S.Store c.args.conn).now.schema ≡ layout_schema layout = search rules in
       c.take_up.ensures.leaves kept.0 layout tables;
   ours = search rules;

@@ -1,6 +1,5 @@
 use Rattle.std.proofs.Common.{rules, ◌≡◌, false, true≢false, IsTrue, sym, ◌∙◌}
 use Rattle.sqlite.specs.Held.{state}
-use Rattle.acceptor_store.specs.Layouts.{layout_of}
 use Rattle.acceptor_store.specs.Sqlite.{Stands}
 use Rattle.acceptor_store.proofs.StandLemmas.{same_rows, was_clean}
 use Rattle.acceptor_store.proofs.sqlite_rows.SqliteRows.visit.Goals as goal
@@ -22,7 +21,7 @@ returns-in-Err-clause-reads g c = record {
             λ stopped. absurd (true≢false (sym stopped ∙ still)),
             λ kept.
                 let running : c.self.inside.stopped ≡ false = search rules in
-                let layout = layout_of c.self.inside.layout in
+                let layout = c.self.inside.layout in
                 let stands : Stands g.S.Store layout c.self.inside.conn c.self.inside.identity = c.self.invariant.1 running kept.1 in
                 let old = state g.S.Store c.self.inside.conn in
                 let new = state g.S.Store c.show_all.new.conn in
@@ -35,7 +34,7 @@ returns-in-Err-clause-reads g c = record {
   };
   same = rw (← c.self.view_is) (λ kept opened.
       let running : c.self.inside.stopped ≡ false = search rules in
-      let layout = layout_of c.self.inside.layout in
+      let layout = c.self.inside.layout in
       let stands : Stands g.S.Store layout c.self.inside.conn c.self.inside.identity = c.self.invariant.1 running kept.1 in
       let old = state g.S.Store c.self.inside.conn in
       let new = state g.S.Store c.show_all.new.conn in
@@ -47,7 +46,7 @@ returns-in-Err-clause-reads g c = record {
 pub returns-in-Ok-clause-rows : goal.returns-in-Ok-clause-rows
 returns-in-Ok-clause-rows g c = rw (← c.self.view_is) (λ kept.
     let running : c.self.inside.stopped ≡ false = search rules in
-    let layout = layout_of c.self.inside.layout in
+    let layout = c.self.inside.layout in
     let stands : Stands g.S.Store layout c.self.inside.conn c.self.inside.identity = c.self.invariant.1 running kept.1 in
     let old = state g.S.Store c.self.inside.conn in
     let new = state g.S.Store c.show_all.new.conn in
@@ -57,7 +56,7 @@ returns-in-Ok-clause-rows g c = rw (← c.self.view_is) (λ kept.
 pub returns-in-Ok-clause-front : goal.returns-in-Ok-clause-front
 returns-in-Ok-clause-front g c = rw (← c.self.view_is) (λ kept.
     let running : c.self.inside.stopped ≡ false = search rules in
-    let layout = layout_of c.self.inside.layout in
+    let layout = c.self.inside.layout in
     let stands : Stands g.S.Store layout c.self.inside.conn c.self.inside.identity = c.self.invariant.1 running kept.1 in
     let old = state g.S.Store c.self.inside.conn in
     let new = state g.S.Store c.show_all.new.conn in
@@ -67,7 +66,7 @@ returns-in-Ok-clause-front g c = rw (← c.self.view_is) (λ kept.
 pub returns-in-Err-clause-front : goal.returns-in-Err-clause-front
 returns-in-Err-clause-front g c = rw (← c.self.view_is) (λ kept.
     let running : c.self.inside.stopped ≡ false = search rules in
-    let layout = layout_of c.self.inside.layout in
+    let layout = c.self.inside.layout in
     let stands : Stands g.S.Store layout c.self.inside.conn c.self.inside.identity = c.self.invariant.1 running kept.1 in
     let old = state g.S.Store c.self.inside.conn in
     let new = state g.S.Store c.show_all.new.conn in

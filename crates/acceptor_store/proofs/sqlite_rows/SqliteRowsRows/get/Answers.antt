@@ -1,6 +1,5 @@
 use Rattle.std.proofs.Common.{rules, ◌≡◌, false, true≢false, sym, ◌∙◌}
 use Rattle.sqlite.specs.Held.{state}
-use Rattle.acceptor_store.specs.Layouts.{layout_of}
 use Rattle.acceptor_store.specs.Sqlite.{Stands}
 use Rattle.acceptor_store.proofs.StandLemmas.{same_rows, was_clean}
 use Rattle.acceptor_store.proofs.sqlite_rows.SqliteRowsRows.get.Goals as goal
@@ -25,7 +24,7 @@ returns-in-Err g c = record {
               λ stopped. absurd (true≢false (sym stopped ∙ still)),
               λ kept.
                   let running : c.self.inside.stopped ≡ false = search rules in
-                  let layout = layout_of c.self.inside.layout in
+                  let layout = c.self.inside.layout in
                   let stands : Stands g.S.Store layout c.self.inside.conn c.self.inside.identity = c.self.invariant.1 running kept.1 in
                   let old = state g.S.Store c.self.inside.conn in
                   let new = state g.S.Store c.read.new.conn in
@@ -38,7 +37,7 @@ returns-in-Err g c = record {
     };
     same = rw (← c.self.view_is) (λ kept opened.
         let running : c.self.inside.stopped ≡ false = search rules in
-        let layout = layout_of c.self.inside.layout in
+        let layout = c.self.inside.layout in
         let stands : Stands g.S.Store layout c.self.inside.conn c.self.inside.identity = c.self.invariant.1 running kept.1 in
         let old = state g.S.Store c.self.inside.conn in
         let new = state g.S.Store c.read.new.conn in

@@ -1,7 +1,6 @@
 use Rattle.std.proofs.Common.{rules, ◌≡◌, false, inl, inr, true≢false, sym, ap, ◌∙◌}
 use Rattle.sqlite.specs.Held.{state}
 use Rattle.std.proofs.lemmas.Bool.{cases_Bool}
-use Rattle.acceptor_store.specs.Layouts.{layout_of}
 use Rattle.acceptor_store.specs.Sqlite.{Stands}
 use Rattle.acceptor_store.specs.Columns.{saved_in}
 use Rattle.acceptor_store.proofs.SaveLemmas.{saves_row}
@@ -10,7 +9,7 @@ use Rattle.acceptor_store.proofs.sqlite_rows.SqliteRowsRows.put.Goals as goal
 
 pub returns-in-Ok-clause-crash_station : goal.returns-in-Ok-clause-crash_station
 returns-in-Ok-clause-crash_station g c = rw (← c.self.view_is) (λ kept opened running left may.
-    let layout = layout_of c.self.inside.layout in
+    let layout = c.self.inside.layout in
     let stands : Stands g.S.Store layout c.self.inside.conn c.self.inside.identity = c.self.invariant.1 running kept.1 in
     let old = state g.S.Store c.self.inside.conn in
     let new = state g.S.Store c.save.new.conn in
@@ -19,7 +18,7 @@ returns-in-Ok-clause-crash_station g c = rw (← c.self.view_is) (λ kept opened
 
 pub returns-in-Err-clause-crash_station : goal.returns-in-Err-clause-crash_station
 returns-in-Err-clause-crash_station g c = rw (← c.self.view_is) (λ kept opened running left may.
-    let layout = layout_of c.self.inside.layout in
+    let layout = c.self.inside.layout in
     let stands : Stands g.S.Store layout c.self.inside.conn c.self.inside.identity = c.self.invariant.1 running kept.1 in
     let old = state g.S.Store c.self.inside.conn in
     let new = state g.S.Store c.save.new.conn in
@@ -29,7 +28,7 @@ returns-in-Err-clause-crash_station g c = rw (← c.self.view_is) (λ kept opene
 pub returns-in-Err-clause-either : goal.returns-in-Err-clause-either
 returns-in-Err-clause-either g c = rw (← c.self.view_is) (λ kept.
     let running : c.self.inside.stopped ≡ false = search rules in
-    let layout = layout_of c.self.inside.layout in
+    let layout = c.self.inside.layout in
     let stands : Stands g.S.Store layout c.self.inside.conn c.self.inside.identity = c.self.invariant.1 running kept.1 in
     let old = state g.S.Store c.self.inside.conn in
     let new = state g.S.Store c.save.new.conn in
@@ -40,7 +39,7 @@ returns-in-Err-clause-either g c = rw (← c.self.view_is) (λ kept.
 
 pub returns-in-Err-clause-crash_err : goal.returns-in-Err-clause-crash_err
 returns-in-Err-clause-crash_err g c = rw (← c.self.view_is) (λ kept opened running left may.
-    let layout = layout_of c.self.inside.layout in
+    let layout = c.self.inside.layout in
     let stands : Stands g.S.Store layout c.self.inside.conn c.self.inside.identity = c.self.invariant.1 running kept.1 in
     let old = state g.S.Store c.self.inside.conn in
     let new = state g.S.Store c.save.new.conn in
@@ -54,7 +53,7 @@ pub invariant_of-self-in-Ok : goal.invariant_of-self-in-Ok
 invariant_of-self-in-Ok g c = (
   c.self.invariant.0,
   λ running ours.
-      let layout = layout_of c.self.inside.layout in
+      let layout = c.self.inside.layout in
       let stands : Stands g.S.Store layout c.self.inside.conn c.self.inside.identity = c.self.invariant.1 running ours in
       (stands_saved g.S.Store c.self.inside.conn c.save.new.conn c.save.ensures.saves.clean layout c.self.inside.identity stands c.args.number c.args.row.now c.requires.promise
       c.save.ensures.number.0 c.save.ensures.number.1 c.in-Ok.ensures.saves.back c.save.ensures.saves.serves c.in-Ok.ensures.saves.saved),

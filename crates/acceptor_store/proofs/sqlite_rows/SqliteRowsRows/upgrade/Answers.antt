@@ -1,9 +1,9 @@
 use Rattle.std.proofs.Common.{rules, ◌≡◌, true, false, true≢false, sym, ap, ◌∙◌, subst}
 use Rattle.sqlite.specs.Held.{state}
 use Rattle.sqlite_trees.specs.Tree.{Trees}
-use Rattle.row_table.specs.Tables.{Layout}
-use Rattle.saved_rows.specs.Saved.{SameRows}
-use Rattle.acceptor_store.specs.Layouts.{layout_of, upgraded_from}
+use Rattle.rows_table.specs.declared.layout.Layout.{Layout}
+use Rattle.rows_saved.specs.Saved.{SameRows}
+use Rattle.acceptor_store.specs.Layouts.{upgraded_from}
 use Rattle.acceptor_store.specs.Sqlite.{IsOfStation, Stands, StemsFrom, WentOver}
 use Rattle.acceptor_store.specs.Columns.{saved_in}
 use Rattle.acceptor_store.proofs.StandLemmas.{same_rows, upgrade_stems}
@@ -11,9 +11,9 @@ use Rattle.acceptor_store.proofs.sqlite_rows.SqliteRowsRows.upgrade.Goals as goa
 
 pub invariant_of-self-in-Ok : goal.invariant_of-self-in-Ok
 invariant_of-self-in-Ok g c = (
-  subst (StemsFrom (layout_of c.self.inside.was)) (sym c.upgraded_from-self-inside.ensures) (upgrade_stems (layout_of c.self.inside.was) (layout_of c.self.inside.layout) c.self.invariant.0),
+  subst (StemsFrom c.self.inside.was) (sym c.upgraded_from-self-inside.ensures) (upgrade_stems c.self.inside.was c.self.inside.layout c.self.invariant.0),
   λ running ours.
-      let layout = layout_of c.self.inside.layout in
+      let layout = c.self.inside.layout in
       let stands : Stands g.S.Store layout c.self.inside.conn c.self.inside.identity = c.self.invariant.1 running ours in
       let over = c.in-Ok.ensures.over c.self.inside.identity stands in
       let after : Stands g.S.Store (upgraded_from layout) c.go_over.new.conn c.self.inside.identity =
@@ -24,7 +24,7 @@ invariant_of-self-in-Ok g c = (
 pub returns-in-Ok-clause-same : goal.returns-in-Ok-clause-same
 returns-in-Ok-clause-same g c = rw (← c.self.view_is) (λ kept opened.
     let running : c.self.inside.stopped ≡ false = search rules in
-    let layout = layout_of c.self.inside.layout in
+    let layout = c.self.inside.layout in
     let stands : Stands g.S.Store layout c.self.inside.conn c.self.inside.identity = c.self.invariant.1 running kept.1 in
     let old = state g.S.Store c.self.inside.conn in
     let new = state g.S.Store c.go_over.new.conn in
@@ -42,7 +42,7 @@ returns-in-Ok-clause-call g c = record {
       was_kept = search rules;
       was_open = rw (← c.self.view_is) (λ kept opened.
           let running : c.self.inside.stopped ≡ false = search rules in
-          let layout = layout_of c.self.inside.layout in
+          let layout = c.self.inside.layout in
           let stands : Stands g.S.Store layout c.self.inside.conn c.self.inside.identity = c.self.invariant.1 running kept.1 in
           let old = state g.S.Store c.self.inside.conn in
           let new = state g.S.Store c.go_over.new.conn in
@@ -52,7 +52,7 @@ returns-in-Ok-clause-call g c = record {
     };
     opened = (λ kept.
         let running : c.self.inside.stopped ≡ false = search rules in
-        let layout = layout_of c.self.inside.layout in
+        let layout = c.self.inside.layout in
         let stands : Stands g.S.Store layout c.self.inside.conn c.self.inside.identity = c.self.invariant.1 running kept.1 in
         let old = state g.S.Store c.self.inside.conn in
         let new = state g.S.Store c.go_over.new.conn in
@@ -69,19 +69,19 @@ returns-in-Ok-clause-call g c = record {
 pub returns-in-Ok-clause-crash_ok : goal.returns-in-Ok-clause-crash_ok
 returns-in-Ok-clause-crash_ok g c = rw (← c.self.view_is) (λ kept left may.
     let running : c.self.inside.stopped ≡ false = search rules in
-    let layout = layout_of c.self.inside.layout in
+    let layout = c.self.inside.layout in
     let stands : Stands g.S.Store layout c.self.inside.conn c.self.inside.identity = c.self.invariant.1 running kept.1 in
     let old = state g.S.Store c.self.inside.conn in
     let new = state g.S.Store c.go_over.new.conn in
     let went : WentOver g.S.Store layout c.self.inside.identity c.self.inside.conn c.go_over.new.conn =
     c.in-Ok.ensures.over c.self.inside.identity stands kept.0 in
-    let is : layout_of c.upgraded_from-self-inside.result ≡ upgraded_from layout = c.upgraded_from-self-inside.ensures in
+    let is : c.upgraded_from-self-inside.result ≡ upgraded_from layout = c.upgraded_from-self-inside.ensures in
     λ n. ap (λ m. m n) may.2 ∙ ap (λ (l : Layout). saved_in l may.0 n) is ∙ ap (λ (t : Trees). saved_in (upgraded_from layout) t n) (went.crash may.0 may.1) ∙ went.same n)
 
 pub returns-in-Ok-clause-crash_station : goal.returns-in-Ok-clause-crash_station
 returns-in-Ok-clause-crash_station g c = rw (← c.self.view_is) (λ kept db may.
     let running : c.self.inside.stopped ≡ false = search rules in
-    let layout = layout_of c.self.inside.layout in
+    let layout = c.self.inside.layout in
     let stands : Stands g.S.Store layout c.self.inside.conn c.self.inside.identity = c.self.invariant.1 running kept.1 in
     let old = state g.S.Store c.self.inside.conn in
     let new = state g.S.Store c.go_over.new.conn in
@@ -93,7 +93,7 @@ returns-in-Ok-clause-crash_station g c = rw (← c.self.view_is) (λ kept db may
 pub returns-in-Err-clause-same : goal.returns-in-Err-clause-same
 returns-in-Err-clause-same g c = rw (← c.self.view_is) (λ kept opened.
     let running : c.self.inside.stopped ≡ false = search rules in
-    let layout = layout_of c.self.inside.layout in
+    let layout = c.self.inside.layout in
     let stands : Stands g.S.Store layout c.self.inside.conn c.self.inside.identity = c.self.invariant.1 running kept.1 in
     let old = state g.S.Store c.self.inside.conn in
     let new = state g.S.Store c.go_over.new.conn in
@@ -109,7 +109,7 @@ returns-in-Err-clause-call g c = record {
       was_kept = search rules;
       was_open = rw (← c.self.view_is) (λ kept opened.
           let running : c.self.inside.stopped ≡ false = search rules in
-          let layout = layout_of c.self.inside.layout in
+          let layout = c.self.inside.layout in
           let stands : Stands g.S.Store layout c.self.inside.conn c.self.inside.identity = c.self.invariant.1 running kept.1 in
           let old = state g.S.Store c.self.inside.conn in
           let new = state g.S.Store c.go_over.new.conn in
@@ -121,7 +121,7 @@ returns-in-Err-clause-call g c = record {
           λ stopped. absurd (true≢false (sym stopped ∙ still)),
           λ kept.
               let running : c.self.inside.stopped ≡ false = search rules in
-              let layout = layout_of c.self.inside.layout in
+              let layout = c.self.inside.layout in
               let stands : Stands g.S.Store layout c.self.inside.conn c.self.inside.identity = c.self.invariant.1 running kept.1 in
               let old = state g.S.Store c.self.inside.conn in
               let new = state g.S.Store c.go_over.new.conn in

@@ -1,8 +1,7 @@
 use Rattle.std.proofs.Common.{rules, ◌≡◌, false, inl, inr, true≢false, sym, ap, ◌∙◌, subst}
 use Rattle.sqlite.specs.Held.{state}
 use Rattle.std.proofs.lemmas.Bool.{cases_Bool}
-use Rattle.saved_rows.specs.Groups.{IsAllOrNone}
-use Rattle.acceptor_store.specs.Layouts.{layout_of}
+use Rattle.rows_saved.specs.Groups.{IsAllOrNone}
 use Rattle.acceptor_store.specs.Columns.{saved_in}
 use Rattle.acceptor_store.specs.Sqlite.{Stands}
 use Rattle.acceptor_store.proofs.StandLemmas.{same_rows, was_clean}
@@ -13,7 +12,7 @@ pub invariant_of-self-in-Ok : goal.invariant_of-self-in-Ok
 invariant_of-self-in-Ok g c = (
   c.self.invariant.0,
   λ running ours.
-      let layout = layout_of c.self.inside.layout in
+      let layout = c.self.inside.layout in
       let stands : Stands g.S.Store layout c.self.inside.conn c.self.inside.identity = c.self.invariant.1 running ours in
       let old = state g.S.Store c.self.inside.conn in
       let new = state g.S.Store c.save_all.new.conn in
@@ -26,7 +25,7 @@ pub returns-in-Ok-clause-puts : goal.returns-in-Ok-clause-puts
 returns-in-Ok-clause-puts g c = record {
   rows = rw (← c.self.view_is) (λ kept n.
       let running : c.self.inside.stopped ≡ false = search rules in
-      let layout = layout_of c.self.inside.layout in
+      let layout = c.self.inside.layout in
       let stands : Stands g.S.Store layout c.self.inside.conn c.self.inside.identity = c.self.invariant.1 running kept.1 in
       let old = state g.S.Store c.self.inside.conn in
       let new = state g.S.Store c.save_all.new.conn in
@@ -47,7 +46,7 @@ returns-in-Ok-clause-puts g c = record {
 pub returns-in-Ok-clause-stores : goal.returns-in-Ok-clause-stores
 returns-in-Ok-clause-stores g c = rw (← c.self.view_is) (λ kept left may n.
     let running : c.self.inside.stopped ≡ false = search rules in
-    let layout = layout_of c.self.inside.layout in
+    let layout = c.self.inside.layout in
     let stands : Stands g.S.Store layout c.self.inside.conn c.self.inside.identity = c.self.invariant.1 running kept.1 in
     let old = state g.S.Store c.self.inside.conn in
     let new = state g.S.Store c.save_all.new.conn in
@@ -59,7 +58,7 @@ returns-in-Ok-clause-stores g c = rw (← c.self.view_is) (λ kept left may n.
 pub returns-in-Ok-clause-leaves : goal.returns-in-Ok-clause-leaves
 returns-in-Ok-clause-leaves g c = rw (← c.self.view_is) (λ kept. (
   λ opened running left may.
-      let layout = layout_of c.self.inside.layout in
+      let layout = c.self.inside.layout in
       let stands : Stands g.S.Store layout c.self.inside.conn c.self.inside.identity = c.self.invariant.1 running kept.1 in
       let old = state g.S.Store c.self.inside.conn in
       let new = state g.S.Store c.save_all.new.conn in
@@ -68,7 +67,7 @@ returns-in-Ok-clause-leaves g c = rw (← c.self.view_is) (λ kept. (
       (left_all_or_none layout items old.now.trees may.0 (c.save_all.ensures.crash stands.serves kept.0 opened may.0 may.1)) in
       subst (IsAllOrNone (saved_in layout old.now.trees) items) (sym may.2) here,
   λ opened running left may.
-      let layout = layout_of c.self.inside.layout in
+      let layout = c.self.inside.layout in
       let stands : Stands g.S.Store layout c.self.inside.conn c.self.inside.identity = c.self.invariant.1 running kept.1 in
       let old = state g.S.Store c.self.inside.conn in
       let new = state g.S.Store c.save_all.new.conn in
@@ -80,7 +79,7 @@ returns-in-Ok-clause-leaves g c = rw (← c.self.view_is) (λ kept. (
 pub returns-in-Err-clause-leaves : goal.returns-in-Err-clause-leaves
 returns-in-Err-clause-leaves g c = rw (← c.self.view_is) (λ kept. (
   λ opened running left may.
-      let layout = layout_of c.self.inside.layout in
+      let layout = c.self.inside.layout in
       let stands : Stands g.S.Store layout c.self.inside.conn c.self.inside.identity = c.self.invariant.1 running kept.1 in
       let old = state g.S.Store c.self.inside.conn in
       let new = state g.S.Store c.save_all.new.conn in
@@ -89,7 +88,7 @@ returns-in-Err-clause-leaves g c = rw (← c.self.view_is) (λ kept. (
       (left_all_or_none layout items old.now.trees may.0 (c.save_all.ensures.crash stands.serves kept.0 opened may.0 may.1)) in
       subst (IsAllOrNone (saved_in layout old.now.trees) items) (sym may.2) here,
   λ opened running left may.
-      let layout = layout_of c.self.inside.layout in
+      let layout = c.self.inside.layout in
       let stands : Stands g.S.Store layout c.self.inside.conn c.self.inside.identity = c.self.invariant.1 running kept.1 in
       let old = state g.S.Store c.self.inside.conn in
       let new = state g.S.Store c.save_all.new.conn in
@@ -101,7 +100,7 @@ returns-in-Err-clause-leaves g c = rw (← c.self.view_is) (λ kept. (
 pub returns-in-Err-clause-all_or_none : goal.returns-in-Err-clause-all_or_none
 returns-in-Err-clause-all_or_none g c = rw (← c.self.view_is) (λ kept.
     let running : c.self.inside.stopped ≡ false = search rules in
-    let layout = layout_of c.self.inside.layout in
+    let layout = c.self.inside.layout in
     let stands : Stands g.S.Store layout c.self.inside.conn c.self.inside.identity = c.self.invariant.1 running kept.1 in
     let old = state g.S.Store c.self.inside.conn in
     let new = state g.S.Store c.save_all.new.conn in

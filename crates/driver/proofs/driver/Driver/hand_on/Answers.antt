@@ -16,7 +16,7 @@ returns-in-Ok g c =
       hands = (refl, refl);
       on =
           hands_on (known g.R.Rows g.R.Settles.is_settled g.N.Wire.passed (fate_of g.S.Sink)) g.S.Sink.may g.met.S.Sink.fates answer old.station.now c.settle.new.self old.wire.now old.wire.now c.send_all.new.wire
-          old.sink old.sink c.take.new.self c.take.result refl refl c.in-Ok.ensures sent c.take.ensures.ok c.take.ensures.err c.take.ensures.fault;
+          old.sink old.sink c.print.new.self c.print.result refl refl c.in-Ok.ensures sent c.print.ensures.ok c.print.ensures.err c.print.ensures.fault;
     }
 
 pub returns-in-Err : goal.returns-in-Err

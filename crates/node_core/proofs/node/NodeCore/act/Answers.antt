@@ -23,30 +23,30 @@ pub returns-in-Some : goal.returns-in-Some
 returns-in-Some c = record {
   turn = λ marks h.
       let s = stands_there c.args.self.now c.self.inside.instances c.args.number (Some c.deref_mut.result.now) marks (ap (λ (v : Core). v.instances) c.self.view_is) (ap Some (c.deref_mut.ensures.value ∙ c.boxed.view_is) ∙ c.in-Some.ensures.value ∙ ap (get nat_cmp c.self.inside.instances) c.get.ensures.value) h in
-      let m = c.get_mut.follows.lender c.take.new.self in
-      let number = c.take.ensures.taken.number ∙ s.0 in
+      let m = c.get_mut.follows.lender c.handle.new.self in
+      let number = c.handle.ensures.taken.number ∙ s.0 in
       let after : Core = record { circuit = c.self.inside.seat.circuit; me = c.self.inside.seat.me; members = c.self.inside.seat.members; failed = c.self.inside.failed; instances = m.entries; released = c.self.inside.released.keys } in
-      let there = subst (λ n. Written c.self.inside.instances m n c.take.new.self) c.get.ensures.value (written c.self.inside.instances m c.get.result c.deref_mut.result.now c.take.new.self (ap Some (c.deref_mut.ensures.value ∙ c.boxed.view_is) ∙ c.in-Some.ensures.value) (c.get_mut.follows.holds c.take.new.self)) in
-      let kept = subst (λ (v : Core). Kept v c.take.new.self after) c.self.view_is
-      (in_place c.self.inside.seat.circuit c.self.inside.seat.me c.self.inside.seat.members c.self.inside.failed c.self.inside.released.keys c.self.inside.instances m c.args.number c.take.new.self there number) in
-      MatchResult-weaker c.take.result (c.take.ensures.taken.turn marks s.1)
+      let there = subst (λ n. Written c.self.inside.instances m n c.handle.new.self) c.get.ensures.value (written c.self.inside.instances m c.get.result c.deref_mut.result.now c.handle.new.self (ap Some (c.deref_mut.ensures.value ∙ c.boxed.view_is) ∙ c.in-Some.ensures.value) (c.get_mut.follows.holds c.handle.new.self)) in
+      let kept = subst (λ (v : Core). Kept v c.handle.new.self after) c.self.view_is
+      (in_place c.self.inside.seat.circuit c.self.inside.seat.me c.self.inside.seat.members c.self.inside.failed c.self.inside.released.keys c.self.inside.instances m c.args.number c.handle.new.self there number) in
+      MatchResult-weaker c.handle.result (c.handle.ensures.taken.turn marks s.1)
       (λ x t.
       subst (λ (z : Seat). TurnIs z c.args.event marks c.args.row.now (λ u. Settles c.args.number c.args.row.now u x after)) (ap seat_of c.self.view_is)
       (turn_so c.self.inside.seat c.args.event marks c.args.row.now _ _ t
       (λ u is a.
-      settles c.other_marks_pass.ensures c.other_marks_pass-2.ensures c.args.self.now after c.args.number c.take.new.self kept number c.args.row.now marks u x h
+      settles c.other_marks_pass.ensures c.other_marks_pass-2.ensures c.args.self.now after c.args.number c.handle.new.self kept number c.args.row.now marks u x h
       (ap (λ n. was_released n marks) (sym s.0) ∙ s.1.unreleased)
       (subst (λ n. Grows n marks u.marks) c.requires.number (grows c.self.inside.seat marks c.args.row.now (event_value c.args.event) u is))
-      (c.take.ensures.taken.of.heard ∙ ap (λ (v : Core). v.members) c.self.view_is) a)))
+      (c.handle.ensures.taken.of.heard ∙ ap (λ (v : Core). v.members) c.self.view_is) a)))
       (λ e t is. subst (λ (z : Seat). TurnIs z c.args.event marks c.args.row.now Stirs) (ap seat_of c.self.view_is) (t is));
   orderly = search rules;
-  refused = let m = c.get_mut.follows.lender c.take.new.self in
+  refused = let m = c.get_mut.follows.lender c.handle.new.self in
       let core = λ (es : List (ℕ × Instance)). (let v : Core = record { circuit = c.self.inside.seat.circuit; me = c.self.inside.seat.me; members = c.self.inside.seat.members; failed = c.self.inside.failed; instances = es; released = c.self.inside.released.keys } in v) in
-      MatchResult-weaker c.take.result c.take.ensures.refused (λ _ _. tt)
+      MatchResult-weaker c.handle.result c.handle.ensures.refused (λ _ _. tt)
       (λ e r.
       subst (λ i. IsRefused c.args.event e (core m.entries ≡ c.args.self.now) (StandsFor c.args.self.now) i c.args.row.now) (ap (λ (v : Core). v.me) c.self.view_is)
-      (refused_told (c.take.new.self ≡ c.deref_mut.result.now) (core m.entries ≡ c.args.self.now) (InstanceStands c.deref_mut.result.now) (StandsFor c.args.self.now)
-      (λ same. ap core (unwritten c.self.inside.instances m c.get.result c.deref_mut.result.now c.take.new.self (ap Some (c.deref_mut.ensures.value ∙ c.boxed.view_is) ∙ c.in-Some.ensures.value) (c.get_mut.follows.holds c.take.new.self) same) ∙ c.self.view_is)
+      (refused_told (c.handle.new.self ≡ c.deref_mut.result.now) (core m.entries ≡ c.args.self.now) (InstanceStands c.deref_mut.result.now) (StandsFor c.args.self.now)
+      (λ same. ap core (unwritten c.self.inside.instances m c.get.result c.deref_mut.result.now c.handle.new.self (ap Some (c.deref_mut.ensures.value ∙ c.boxed.view_is) ∙ c.in-Some.ensures.value) (c.get_mut.follows.holds c.handle.new.self) same) ∙ c.self.view_is)
       (λ marks h. (stands_there c.args.self.now c.self.inside.instances c.args.number (Some c.deref_mut.result.now) marks (ap (λ (v : Core). v.instances) c.self.view_is) (ap Some (c.deref_mut.ensures.value ∙ c.boxed.view_is) ∙ c.in-Some.ensures.value ∙ ap (get nat_cmp c.self.inside.instances) c.get.ensures.value) h).1)
       c.self.inside.seat.me c.args.row.now c.args.event e r));
   seat = search rules;
@@ -109,8 +109,8 @@ returns-in_err-keep c =
           (λ _ _.
           turn_so c.self.inside.seat c.args.event marks c.args.row.now _ _ (c.in_ok-turn.ensures.taken.turn marks stands)
           (λ t is a.
-          new_stirs c.self.inside.seat.members c.args.number c.new-instance.result c.take-2.new.self c.args.row.now marks t c.in_ok-turn.turn c.new-instance.ensures.instance stands
-          (c.take-2.ensures.taken.number ∙ ap (λ (d : Instance). d.number) c.new-instance.ensures.instance) c.take-2.ensures.taken.of.heard c.in_err-keep.ensures.memory
+          new_stirs c.self.inside.seat.members c.args.number c.new-instance.result c.handle-2.new.self c.args.row.now marks t c.in_ok-turn.turn c.new-instance.ensures.instance stands
+          (c.handle-2.ensures.taken.number ∙ ap (λ (d : Instance). d.number) c.new-instance.ensures.instance) c.handle-2.ensures.taken.of.heard c.in_err-keep.ensures.memory
           (quiet_keeps c.self.inside.seat marks c.args.row.now (event_value c.args.event) t is
           (subst (λ n. open_proposal n marks ≡ None) (sym c.requires.number) (fresh_closed c.self.inside.seat.members c.args.number c.new-instance.result marks c.new-instance.ensures.instance stands))) a));
       orderly = search rules;
@@ -130,10 +130,10 @@ returns c =
           let stands = new_stands was c.self.inside.seat.members c.args.number c.new-instance.result marks nothing refl c.new-instance.ensures.instance h unreleased in
           turn_so c.self.inside.seat c.args.event marks c.args.row.now _ _ (c.in_ok-turn.ensures.taken.turn marks stands)
           (λ t is a.
-          settles c.other_marks_pass.ensures c.other_marks_pass-2.ensures was c.keep.new.self c.args.number c.take-2.new.self c.in_ok-keep.ensures.kept
-          (c.take-2.ensures.taken.number ∙ ap (λ (d : Instance). d.number) c.new-instance.ensures.instance) c.args.row.now marks t c.in_ok-turn.turn h unreleased
+          settles c.other_marks_pass.ensures c.other_marks_pass-2.ensures was c.keep.new.self c.args.number c.handle-2.new.self c.in_ok-keep.ensures.kept
+          (c.handle-2.ensures.taken.number ∙ ap (λ (d : Instance). d.number) c.new-instance.ensures.instance) c.args.row.now marks t c.in_ok-turn.turn h unreleased
           (subst (λ n. Grows n marks t.marks) c.requires.number (grows c.self.inside.seat marks c.args.row.now (event_value c.args.event) t is))
-          c.take-2.ensures.taken.of.heard a);
+          c.handle-2.ensures.taken.of.heard a);
       orderly = search rules;
       refused = search rules;
       seat = search rules;

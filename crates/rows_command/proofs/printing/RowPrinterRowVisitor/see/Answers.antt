@@ -1,7 +1,7 @@
 use Rattle.std.proofs.Common.{rules, ◌≡◌, ◌++◌, true, is_some, Option, None, subst}
-use Rattle.saved_rows.specs.declared.identity.Identity.{Identity}
+use Rattle.rows_saved.specs.declared.identity.Identity.{Identity}
 use Rattle.streams.specs.Fronts.{AppendsFront}
-use Rattle.command_ends.specs.declared.fault.PutFault.{PutFault}
+use Rattle.streams.specs.declared.output.PutFault.{PutFault}
 use Rattle.rows_command.specs.RowsText.{row_line}
 use Rattle.rows_command.specs.Printing.{head_text, Prints}
 use Rattle.rows_command.proofs.PrintLemmas.{stopped_next, stopped_after}

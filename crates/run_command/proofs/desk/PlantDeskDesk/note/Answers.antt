@@ -1,5 +1,6 @@
 -- The step was noted, or there was no memory for its files; nothing was done with the folders.
 use Rattle.std.proofs.Common.{rules, ◌≡◌, ◌++◌, inl, refl}
+use Rattle.std.proofs.lemmas.Result.{err_from_is_err_and}
 use Rattle.run_command.specs.ReleaseFiles.{files_of}
 use Rattle.run_command.proofs.Lives.{noted, unnoted}
 use Rattle.run_command.proofs.desk.PlantDeskDesk.note.Goals as goal
@@ -18,14 +19,15 @@ returns-clause-noted g c =
       fault = tt;
     }
 
-pub returns-then-is_err-clause-noted : goal.returns-then-is_err-clause-noted
-returns-then-is_err-clause-noted g c =
+pub returns-in_err-keep_files-clause-noted : goal.returns-in_err-keep_files-clause-noted
+returns-in_err-keep_files-clause-noted g c =
     let it = c.args.self.now in
-    record {
+    let p = err_from_is_err_and c.from_residual.result c.from_residual.ensures.1 in
+    rw (p.1, p.2) (record {
       ok = tt;
       err = λ call may. (
         (refl, refl),
         unnoted it.plant.now.texts g.F.Folders.doings c.args.step.now.answer it.folders.now it.plant.now.waits.items c.keep_files.new.waits.items it.plant.now.papers.book it.plant.now.papers.book call may,
       );
       fault = inl refl;
-    }
+    })

@@ -24,7 +24,7 @@ returns-in-Ok-Kept-clause-step c = λ tape i s f.
     let taken : c.self.inside.taken ≡ c.args.self.now.taken = ap (λ (r : InHand). r.taken) c.self.view_is in
     let at : c.args.self.now.taken ≡ i = s.taken in
     let l : i < most_frames = grind (arith, nat_tests, c.is_full.ensures, c.if-is_full.false, s.taken) in
-    let t : Takes (mean c.args.self.now.table) c.args.self.now.widths (frame_at tape i) c.args.self.now.line c.take.new.self Kept = rw (f, ← c.self.view_is) (rw c.in-Ok-Kept.field-0-is at c.in-Ok-Kept.ensures.takes) in
+    let t : Takes (mean c.args.self.now.table) c.args.self.now.widths (frame_at tape i) c.args.self.now.line c.push.new.self Kept = rw (f, ← c.self.view_is) (rw c.in-Ok-Kept.field-0-is at c.in-Ok-Kept.ensures.takes) in
     let above : IsUnknownAbove (mean c.args.self.now.table) tape i = above_is c.args.self.now tape i c.args.frame s f (rw (← c.self.view_is) c.in-Ok-Kept.ensures.above) in
     kept_on c.args.self.now _ tape i c.args.lines.now.items s l above (ap (λ (r : InHand). r.table) c.self.view_is) (ap (λ (r : InHand). r.widths) c.self.view_is) (omega arith) (ap (λ (r : InHand). r.fault) c.self.view_is) t
 
@@ -33,10 +33,10 @@ returns-in_ok-add-in-Ok-Cut-clause-step c = λ tape i s f.
     let taken : c.self.inside.taken ≡ c.args.self.now.taken = ap (λ (r : InHand). r.taken) c.self.view_is in
     let at : c.args.self.now.taken ≡ i = s.taken in
     let l : i < most_frames = grind (arith, nat_tests, c.is_full.ensures, c.if-is_full.false, s.taken) in
-    let t : Takes (mean c.args.self.now.table) c.args.self.now.widths (frame_at tape i) c.args.self.now.line c.take.new.self Cut = rw (f, ← c.self.view_is) (rw c.in-Ok-Cut.field-0-is at c.in-Ok-Cut.ensures.takes) in
+    let t : Takes (mean c.args.self.now.table) c.args.self.now.widths (frame_at tape i) c.args.self.now.line c.push.new.self Cut = rw (f, ← c.self.view_is) (rw c.in-Ok-Cut.field-0-is at c.in-Ok-Cut.ensures.takes) in
     let above : IsUnknownAbove (mean c.args.self.now.table) tape i = above_is c.args.self.now tape i c.args.frame s f (rw (← c.self.view_is) c.in-Ok-Cut.ensures.above) in
-    cut_on c.args.self.now _ tape i c.args.lines.now.items c.add.new.lines.items c.take.new.self c.cut-line.result s l above (ap (λ (r : InHand). r.table) c.self.view_is) (ap (λ (r : InHand). r.widths) c.self.view_is) (omega arith) (ap (λ (r : InHand). r.fault) c.self.view_is) t
-    (c.cut-line.ensures.line ∙ ap (λ k. line_cut c.take.new.self.items.items c.take.new.self.quad k) (taken ∙ at)) c.cut-line.ensures.items c.cut-line.ensures.quad c.cut-line.ensures.case c.cut-line.ensures.rail c.in_ok-add-in-Ok-Cut.ensures.ok
+    cut_on c.args.self.now _ tape i c.args.lines.now.items c.add.new.lines.items c.push.new.self c.cut-line.result s l above (ap (λ (r : InHand). r.table) c.self.view_is) (ap (λ (r : InHand). r.widths) c.self.view_is) (omega arith) (ap (λ (r : InHand). r.fault) c.self.view_is) t
+    (c.cut-line.ensures.line ∙ ap (λ k. line_cut c.push.new.self.items.items c.push.new.self.quad k) (taken ∙ at)) c.cut-line.ensures.items c.cut-line.ensures.quad c.cut-line.ensures.case c.cut-line.ensures.rail c.in_ok-add-in-Ok-Cut.ensures.ok
 
 pub returns-in-Ok-Flawed-clause-step : goal.returns-in-Ok-Flawed-clause-step
 returns-in-Ok-Flawed-clause-step c = λ tape i s.
@@ -45,4 +45,4 @@ returns-in-Ok-Flawed-clause-step c = λ tape i s.
     let l : i < most_frames = grind (arith, nat_tests, c.is_full.ensures, c.if-is_full.false, s.taken) in
     let is : c.at.result ≡ fault_with i c.in-Ok-Flawed.flaw = c.at.ensures ∙ ap (λ k. fault_with k c.in-Ok-Flawed.flaw) (taken ∙ at) in
     rw is (flawed_steps c.args.self.now _ tape i c.args.frame c.args.lines.now.items c.in-Ok-Flawed.flaw
-    (λ f. flawed_here c.args.self.now tape i c.take.new.self c.in-Ok-Flawed.flaw s l (above_is c.args.self.now tape i c.args.frame s f (rw (← c.self.view_is) c.in-Ok-Flawed.ensures.above)) (rw (f, ← c.self.view_is) (rw c.in-Ok-Flawed.field-0-is at c.in-Ok-Flawed.ensures.takes))))
+    (λ f. flawed_here c.args.self.now tape i c.push.new.self c.in-Ok-Flawed.flaw s l (above_is c.args.self.now tape i c.args.frame s f (rw (← c.self.view_is) c.in-Ok-Flawed.ensures.above)) (rw (f, ← c.self.view_is) (rw c.in-Ok-Flawed.field-0-is at c.in-Ok-Flawed.ensures.takes))))

@@ -3,7 +3,7 @@ use Rattle.std.proofs.Common.{rules, List, sym, ap, subst, ◌≡◌, IfOk, IfEr
 use Rattle.protocol.specs.Marks.{Mark}
 use Rattle.protocol.specs.Versions.{Version}
 use Rattle.protocol.specs.Fitting.{EventFits}
-use Rattle.saved_rows.specs.Saved.{RowFits}
+use Rattle.rows_saved.specs.Saved.{RowFits}
 use Rattle.tape_frames.specs.Entries.{version_of}
 use Rattle.node_core.specs.Standing.{StandsFor}
 use Rattle.node_core.specs.Turns.{event_value}

@@ -8,7 +8,7 @@ use Rattle.wire.proofs.guarded.GuardedWire.take_one.Given.{Over}
 use Rattle.wire.proofs.guarded.GuardedWire.take_one.Goals as goal
 
 -- the door is shown the room that the socket filled
-filled : (g : Over) (c : goal.After-keep g) → c.deref.result.now ≡ c.take.new.room
+filled : (g : Over) (c : goal.After-keep g) → c.deref.result.now ≡ c.receive_from.new.room
 filled g c = grind (arith, common_steps)
 
 pub returns : goal.returns
@@ -18,7 +18,7 @@ returns g c =
     let was = g.D.Door.brings old.door in
     let is = g.D.Door.brings c.admit-brought.new.self in
     let bytes = take c.in_ok-length.length c.deref.result.now in
-    let it : (c.in_ok-length.length ≤ length c.take.new.room) × came c.in_ok-length.sender (take c.in_ok-length.length c.take.new.room) = c.in_ok-length.ensures in
+    let it : (c.in_ok-length.length ≤ length c.receive_from.new.room) × came c.in_ok-length.sender (take c.in_ok-length.length c.receive_from.new.room) = c.in_ok-length.ensures in
     let came_in : came c.in_ok-length.sender bytes =
     subst (λ (room : List ℕ). came c.in_ok-length.sender (take c.in_ok-length.length room)) (sym (filled g c)) it.1 in
     let brought : BringsOnly (LetIn came is) c.admit-brought.result = brought_in came is c.in_ok-length.sender bytes c.admit-brought.result came_in c.admit-brought.ensures.brings in

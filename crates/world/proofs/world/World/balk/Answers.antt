@@ -2,7 +2,7 @@
 use Rattle.std.proofs.Common.{◌≡◌, ◌∙◌, refl, sym, ap, subst, Some}
 use Rattle.std.specs.Vec.{with_item}
 use Rattle.protocol.specs.Circuit as circuit
-use Rattle.saved_rows.specs.declared.balky.Balky.{Balky}
+use Rattle.rows_saved.specs.declared.balky.Balky.{Balky}
 use Rattle.station.specs.Stations.{sight}
 use Rattle.world.specs.declared.step.Outcome.TheVariants as outcomes
 use Rattle.world.specs.declared.step.Step.TheVariants as steps

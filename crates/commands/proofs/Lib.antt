@@ -1,0 +1,2 @@
+mod Doors
+pub mod Texts

@@ -1,0 +1,93 @@
+//! The command `create`.
+
+ghost use Rattle.std.specs.Prelude.{◌≡◌, IfOk, IfErr, OnOk, string_bytes};
+ghost use Rattle.std.specs.Io.KnownBytes.{Appends};
+ghost use Rattle.command_ends.specs.Ends.{end_of, IsOfRows};
+ghost use Rattle.commands.specs.Creations.{layout_number, made_line, CreateEnds, Creates};
+
+use crate::host::{Host, ThisHost};
+use crate::start_up::{Ground, make_rows};
+use command_ends::{End, Fault, end_with};
+use configuration::{ConfigInput, NoLookUp, read_config};
+use rows_files::{NewRows, RowFiles};
+use std::alloc::{AllocError, Global};
+use std::io::Write;
+use streams::put_whole;
+use tape_frames::Version;
+
+/// What `create` is asked for.
+#[derive(Clone, Copy)]
+pub struct CreatePlan<'a> {
+    /// The path of the configuration.
+    pub config: &'a str,
+    /// The version whose layout the row file is made in.
+    pub version: Version,
+}
+
+/// The number of the layout that rows of this version are made in.
+pub(crate) fn layout_number(version: Version) -> u8
+    ensures { result ≡ layout_number version }
+{
+    match version {
+        Version::One => 1,
+        Version::Two => 2,
+    }
+}
+
+/// The line that says what was made.
+fn made_line(alloc: Global, made: NewRows<'_>) -> Result<String, AllocError>
+    ensures { IfOk result (λ t. string_bytes t ≡ made_line made.entry.path.now made.entry.identity made.entry.version) }
+{
+    let path = made.path;
+    let member = made.identity.member;
+    let members = made.identity.members;
+    let circuit = made.identity.circuit;
+    let layout = layout_number(made.version);
+    format!(in alloc;
+        "made {path}: station {member} of {members} circuit {circuit} layout {layout}\n"
+    )
+}
+
+/// Writes what was made, and hands it on.
+fn put_made<'a, W: Write>(alloc: Global, made: NewRows<'_>, out: &mut W) -> Result<(), Fault<'a>>
+    ensures ok { OnOk result (Appends (W.contents out.old) (W.contents out.new) (made_line made.entry.path.now made.entry.identity made.entry.version)) }
+    ensures fault { IfErr result (λ fault. IsOfRows (end_of fault)) }
+{
+    let line = made_line(alloc, made)?;
+    put_whole(out, line.as_bytes())?;
+    Ok(())
+}
+
+/// Makes the row file, up to the first fault.
+fn created<'a, F: RowFiles, W: Write>(
+    ground: &Ground<'_, ThisHost<'_>, F>,
+    plan: CreatePlan<'a>,
+    out: &mut W,
+) -> Result<(), Fault<'a>>
+    ensures { Creates F.leaves ground.now.row_files.now plan.entry.version (W.contents out.old) (W.contents out.new) result }
+{
+    let rt = ground.rt;
+    let file = ConfigInput {
+        path: plan.config,
+        input: ground.host.open(plan.config),
+    };
+    // No station is talked to, so no host is looked up.
+    let config = read_config(rt.alloc(), &NoLookUp, file)?;
+    let new = make_rows(ground, &config, plan.version)?;
+    put_made(rt.alloc(), new, out)
+}
+
+/// Makes the row file that the configuration at a path names, and writes a line that says what was made, as
+/// `made station.db: station 2 of 3 circuit 7 layout 2`.
+///
+/// The first fault ends it: of the configuration, of the row file, of the output. At the last the file is made.
+pub fn create<F: RowFiles, W: Write, E: Write>(
+    ground: &Ground<'_, ThisHost<'_>, F>,
+    plan: CreatePlan<'_>,
+    out: &mut W,
+    err: &mut E,
+) -> End
+    ensures ends { CreateEnds F.leaves ground.now.row_files.now plan.entry.version (W.contents out.old) (W.contents out.new) result }
+{
+    end_with(created(ground, plan, out), err)
+}

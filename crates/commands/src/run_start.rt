@@ -1,0 +1,275 @@
+//! The command `run`.
+
+ghost use Rattle.std.specs.Prelude.{◌≡◌, [], Ok, None, IfOk, IfSome, IfNone, IsSome, false, length};
+ghost use Rattle.configuration.specs.Stations.{IsCircuit};
+ghost use Rattle.rows_files.specs.Knowing.{KnowsAll};
+
+use crate::create_start::layout_number;
+use crate::first_line::{saved_of, tell_first};
+use crate::host::{Host, ThisHost};
+use crate::keys::keys_of;
+use crate::plant_start::{OpenPlant, PlantPlan, open_plant};
+use crate::start_up::{Ground, Launch, Started, start};
+use crate::status_file::HostStatus;
+use code_table::CodeTable;
+use command_ends::{End, Fault};
+use configuration::{Config, ConfigInput, Resolver, read_config};
+use driver::Machine;
+use folders::{Folders, NoFolders};
+use gone_out::{Known, Origin};
+use log_terms::{LogTerms, Loudness};
+use plant_status::StationId;
+use rows_files::{RefusedRows, RowFiles, close_rows};
+use rows_saved::{Grouped, Rows};
+use run_command::{Terms, run_station};
+use station::Station;
+use std::alloc::Global;
+use std::io::Write;
+use tape_frames::Version;
+use timed_lines::TimedLines;
+use wire::{Address, Wire};
+
+/// The table by which texts become tapes that are offered in a plant, where they may be.
+fn texts_by(plant: &Option<OpenPlant<'_>>, table: CodeTable) -> Option<CodeTable> {
+    match plant {
+        Some(plant) if plant.takes_texts => Some(table),
+        _ => None,
+    }
+}
+
+/// Whether files come into the offers of a plant only by being renamed.
+fn is_renamed(plant: &Option<OpenPlant<'_>>) -> bool
+    ensures some { IfSome plant.now (λ p. result ≡ p.renamed) }
+    ensures none { IfNone plant.now (result ≡ false) }
+{
+    match plant {
+        Some(plant) => plant.renamed,
+        None => false,
+    }
+}
+
+/// The station of a configuration, as the file of what went out at it names it.
+fn origin_of(config: &Config) -> Origin
+    requires { IsCircuit config.now.member config.now.stations.items }
+    ensures circuit { result.circuit ≡ config.now.circuit }
+    ensures member { result.member ≡ config.now.member }
+    ensures count { result.count ≡ length config.now.stations.items }
+{
+    Origin {
+        circuit: config.circuit,
+        member: config.member,
+        count: config.stations.len() as u8,
+    }
+}
+
+/// What rows a station has at its start, where no save waits. One without a plant only votes, and no row is read.
+fn known_at<F: RowFiles>(
+    alloc: Global,
+    row_files: &F,
+    plant: &Option<OpenPlant<'_>>,
+    rows: &mut Grouped<F::Rows>,
+) -> Result<Option<Known>, RefusedRows>
+    requires settled { rows.old.waits ≡ [] }
+    ensures none { IfNone plant.now (result ≡ Ok None) }
+    ensures some { IfSome plant.now (λ _. IfOk result IsSome) }
+    ensures known { F.Rows.kept rows.new.rows → IfOk result (λ any. IfSome any (KnowsAll (F.Rows.saved rows.old.rows))) }
+{
+    if plant.is_none() {
+        return Ok(None);
+    }
+    match rows.rows_mut() {
+        Some(rows) => Ok(Some(row_files.known(alloc, rows)?)),
+        None => unreachable!(),
+    }
+}
+
+/// Which station it is that was started, of an origin.
+fn id_of<R: Rows>(own: &Origin, station: &Station<R>) -> StationId {
+    StationId {
+        member: own.member.get(),
+        count: own.count,
+        circuit: own.circuit,
+        layout: layout_number(station.rows().version()),
+    }
+}
+
+/// The status file of a plant, if it has one.
+fn status_of<'r>(rt: &'r HostRuntime, plant: &mut Option<OpenPlant<'_>>) -> HostStatus<'r> {
+    let path = match plant {
+        Some(plant) => plant.status.take(),
+        None => None,
+    };
+    HostStatus { rt, path }
+}
+
+/// Where the station of a configuration listens.
+fn address_of(config: &Config) -> Option<Address> {
+    for address in config.stations.as_slice() {
+        if address.member == config.member {
+            return Some(*address);
+        }
+    }
+    None
+}
+
+/// Runs a station over the folders of its plant; after a good end its rows are closed. The folders are held until then, so that whoever finds
+/// them free finds the rows closed.
+fn run_over<F: RowFiles, N: Wire + Drop, P: Folders + Drop, E: Write>(
+    row_files: &F,
+    mut machine: Machine<Grouped<F::Rows>, N, P>,
+    terms: Terms<HostStatus<'_>>,
+    err: &mut E,
+) -> End {
+    let end = run_station(&mut machine, terms, err);
+    let rows = machine.station.into_rows().into_rows();
+    let end = close_rows(row_files, rows, end, err);
+    drop(machine.outside);
+    end
+}
+
+/// A station that is to be started, the folders of its plant, if it has one, and how much it tells.
+#[derive(Drop)]
+struct Running<'a> {
+    launch: Launch<'a>,
+    plant: Option<OpenPlant<'a>>,
+    loudness: Loudness,
+}
+
+/// Starts a station, and runs it over the folders of its plant; one that has none only votes.
+fn run_from<F: RowFiles, E: Write>(
+    ground: &Ground<'_, ThisHost<'_>, F>,
+    running: Running<'_>,
+    err: &mut E,
+) -> End
+    requires { IsCircuit running.launch.config.member running.launch.config.stations.items }
+{
+    let Running {
+        launch,
+        mut plant,
+        loudness,
+    } = running;
+    let Ground { rt, row_files, .. } = *ground;
+    let own = origin_of(&launch.config);
+    let catches_up = launch.config.catches_up;
+    let address = address_of(&launch.config);
+    let Started {
+        mut station,
+        wire,
+        offer: _,
+        table,
+    } = match start(ground, launch, err) {
+        Ok(started) => started,
+        Err(end) => return end,
+    };
+    let alloc = rt.alloc();
+    let known = match known_at(alloc, row_files, &plant, station.rows_mut()) {
+        Ok(known) => known,
+        Err(refused) => return Fault::from(refused).tell(err),
+    };
+    let id = id_of(&own, &station);
+    if loudness != Loudness::Faults {
+        tell_first(id, address.as_ref(), saved_of(&known), err);
+    }
+    let file = status_of(rt, &mut plant);
+    let terms = Terms {
+        status: file.path.is_some().then_some(id),
+        file,
+        texts: texts_by(&plant, table),
+        renamed: is_renamed(&plant),
+        catches_up,
+        own,
+        known,
+        loudness,
+    };
+    match plant {
+        Some(plant) => {
+            let machine = Machine {
+                alloc,
+                station,
+                wire,
+                outside: plant.folders,
+            };
+            run_over(row_files, machine, terms, err)
+        }
+        None => {
+            let machine = Machine {
+                alloc,
+                station,
+                wire,
+                outside: NoFolders,
+            };
+            run_over(row_files, machine, terms, err)
+        }
+    }
+}
+
+/// What `run` is asked for.
+#[derive(Clone, Copy)]
+pub struct RunPlan<'a> {
+    /// The path of the configuration.
+    pub config: &'a str,
+    /// The version that its rows are made in, where they are made first.
+    pub making: Option<Version>,
+    /// How much it tells, and how.
+    pub log: LogTerms,
+}
+
+/// Reads the configuration at a path and the keys that it names, and runs its station.
+fn run_at<F: RowFiles, E: Write>(
+    ground: &Ground<'_, ThisHost<'_>, F>,
+    plan: RunPlan<'_>,
+    err: &mut E,
+) -> End {
+    let rt = ground.rt;
+    let file = ConfigInput {
+        path: plan.config,
+        input: ground.host.open(plan.config),
+    };
+    let mut config = match read_config(rt.alloc(), &Resolver { net: rt }, file) {
+        Ok(config) => config,
+        Err(fault) => return fault.tell(err),
+    };
+    let keys = match keys_of(rt, &config) {
+        Ok(keys) => keys,
+        Err(refused) => return Fault::from(refused).tell(err),
+    };
+    let folders = config.folders.take();
+    let place = PlantPlan {
+        path: plan.config,
+        config: &config,
+        folders,
+    };
+    let plant = match open_plant(rt, place) {
+        Ok(plant) => plant,
+        Err(fault) => return fault.tell(err),
+    };
+    let launch = Launch {
+        config,
+        keys,
+        making: plan.making,
+        offer: None,
+    };
+    let running = Running {
+        launch,
+        plant,
+        loudness: plan.log.loudness,
+    };
+    run_from(ground, running, err)
+}
+
+/// Runs the station of the configuration at a path until it is stopped, with its rows saved in one of the files.
+///
+/// What it starts from is looked for in this order, and the first fault ends it: the configuration, the file of keys, where its files and
+/// folders lie and who works with these, the code table, the widths, the saved rows, the socket. After a good end the rows are closed.
+pub fn run<F: RowFiles, E: Write>(
+    ground: &Ground<'_, ThisHost<'_>, F>,
+    plan: RunPlan<'_>,
+    err: &mut E,
+) -> End {
+    if plan.log.times {
+        let mut err = TimedLines::new(ground.rt.alloc(), ground.rt, err);
+        run_at(ground, plan, &mut err)
+    } else {
+        run_at(ground, plan, err)
+    }
+}

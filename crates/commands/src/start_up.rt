@@ -1,0 +1,239 @@
+//! A station that starts from its configuration: the files that this names, its saved rows and its wire.
+
+ghost use Rattle.std.specs.Prelude.{◌≡◌, [], IfOk, OnOk, option_map, string_bytes};
+ghost use Rattle.configuration.specs.Reading.{file_of};
+ghost use Rattle.configuration.specs.Stations.{IsCircuit};
+ghost use Rattle.rows_saved.specs.Identity.{IsIdentity};
+ghost use Rattle.commands.specs.Starts.{identity_of, IsStationOf, IsTableAt, AreWidthsAt, IsOffer, AreRowsAt, AreRowsFor, IsWireOf};
+
+use crate::files::{Files, read_files};
+use crate::host::Host;
+use code_table::CodeTable;
+use command_ends::{End, Fault};
+use command_line::TapeOffer;
+use configuration::Config;
+use line_check::Setting;
+use rows_files::{NewRows, RefusedRows, RowFiles, create_rows};
+use rows_saved::{Grouped, Identity, Rows};
+use seals::Keys;
+use station::{Membership, Station};
+use std::alloc::Global;
+use std::io;
+use std::io::{ErrorKind, Write};
+use tape_frames::{Tape, Version};
+use wire::Wire;
+
+/// A station over its saved rows, with its wire, what it offers first, and its code table once more.
+#[derive(Drop)]
+pub struct Started<R: Rows, N: Wire + Drop> {
+    pub station: Station<R>,
+    pub wire: N,
+    /// The number and the tape that are offered, if any.
+    pub offer: Option<(u32, Tape)>,
+    /// The same code table as the station's own.
+    pub table: CodeTable,
+}
+
+/// The machine that a station starts on, with its files of rows.
+#[derive(Drop)]
+pub struct Ground<'a, H: Host, F: RowFiles> {
+    pub rt: &'a HostRuntime,
+    pub host: &'a H,
+    pub row_files: &'a F,
+}
+
+/// A station that is to be started.
+#[derive(Drop)]
+pub struct Launch<'a> {
+    pub config: Config,
+    /// The keys of its circuit, where its wire is sealed.
+    pub keys: Option<Keys>,
+    /// The version that its saved rows are made in, where they are made.
+    pub making: Option<Version>,
+    /// What it offers first, if anything.
+    pub offer: Option<TapeOffer<'a>>,
+}
+
+/// What a station is put together from.
+#[derive(Drop)]
+struct StationParts<R: Rows, N: Wire + Drop> {
+    files: Files,
+    rows: R,
+    wire: N,
+}
+
+/// Whose rows a station of this configuration saves.
+fn identity_of(config: &Config) -> Identity
+    requires { IsCircuit config.now.member config.now.stations.items }
+    ensures value { result ≡ identity_of (file_of config.now) }
+    ensures is_one { IsIdentity result }
+{
+    Identity {
+        circuit: config.circuit,
+        member: config.member.get(),
+        members: config.stations.len() as u8,
+    }
+}
+
+/// The saved rows of this station in the file at a path, which is made first where a version is given, or taken up.
+fn rows_of<H: Host, F: RowFiles>(
+    ground: &Ground<'_, H, F>,
+    path: &str,
+    identity: Identity,
+    making: Option<Version>,
+) -> Result<F::Rows, RefusedRows>
+    requires { IsIdentity identity }
+    ensures rows { IfOk result (AreRowsAt F.leaves F.takes_up F.Rows.version ground.now.row_files.now path.now making identity) }
+    ensures open { IfOk result (λ rows. F.Rows.kept rows → F.Rows.is_open rows) }
+{
+    match making {
+        Some(version) => {
+            let new = NewRows {
+                path,
+                identity,
+                version,
+            };
+            create_rows(ground.rt, ground.row_files, new)
+        }
+        None => ground.row_files.open(ground.rt, path, Some(identity)),
+    }
+}
+
+/// Makes the row file that a configuration names, for its station and in the layout for rows of this version, and tells what was
+/// made.
+///
+/// It is refused as [`RowFiles::make`] is.
+pub(crate) fn make_rows<'a, H: Host, F: RowFiles>(
+    ground: &Ground<'_, H, F>,
+    config: &'a Config,
+    version: Version,
+) -> Result<NewRows<'a>, RefusedRows>
+    requires { IsCircuit config.now.member config.now.stations.items }
+    ensures made { OnOk result (F.leaves ground.now.row_files.now (string_bytes config.now.rows) (identity_of (file_of config.now)) version) }
+    ensures path { IfOk result (λ new. new.path.now ≡ string_bytes config.now.rows) }
+    ensures identity { IfOk result (λ new. new.identity ≡ identity_of (file_of config.now)) }
+    ensures version { IfOk result (λ new. new.version ≡ version) }
+{
+    let new = NewRows {
+        path: &config.rows,
+        identity: identity_of(config),
+        version,
+    };
+    ground.row_files.make(ground.rt, new)?;
+    Ok(new)
+}
+
+/// Why there is no wire: there is no memory for it, or the socket can't be bound.
+fn no_wire<'f>(error: &io::Error) -> Fault<'f> {
+    match error.kind() {
+        ErrorKind::OutOfMemory => Fault::OutOfMemory,
+        _ => Fault::Socket("cannot bind"),
+    }
+}
+
+/// The wire at the member's own address, of those of all stations.
+fn wire_of<'f, H: Host>(host: &H, config: Config, keys: Option<Keys>) -> Result<H::Wire, Fault<'f>>
+    requires { IsCircuit config.member config.stations.items }
+    ensures { IfOk result (IsWireOf H.is_bound (file_of config) keys) }
+{
+    let own = config.stations[usize::from(config.member.get()) - 1];
+    match host.bind(&own, config.stations, keys) {
+        Ok(wire) => Ok(wire),
+        Err(error) => Err(no_wire(&error)),
+    }
+}
+
+/// Puts the station over its rows, with its wire.
+fn start_over<'f, R: Rows, N: Wire + Drop>(
+    alloc: Global,
+    identity: Identity,
+    held: StationParts<R, N>,
+) -> Result<Started<R, N>, Fault<'f>>
+    requires { IsIdentity identity }
+    ensures station { IfOk result (λ s. IsStationOf identity s.station) }
+    ensures table { IfOk result (λ s. s.station.table ≡ held.files.table) }
+    ensures same { IfOk result (λ s. s.table ≡ s.station.table) }
+    ensures widths { IfOk result (λ s. s.station.widths ≡ held.files.widths) }
+    ensures offer { IfOk result (λ s. s.offer ≡ held.files.offer) }
+    ensures rows { IfOk result (λ s. s.station.rows ≡ held.rows) }
+    ensures version { IfOk result (λ s. s.station.speaker.wire ≡ R.version held.rows) }
+    ensures wire { IfOk result (λ s. s.wire ≡ held.wire) }
+{
+    let StationParts { files, rows, wire } = held;
+    let Files {
+        table,
+        widths,
+        offer,
+    } = files;
+    let copy = table.copy(alloc)?;
+    let Identity {
+        circuit,
+        member,
+        members,
+    } = identity;
+    let place = Membership {
+        circuit,
+        me: member,
+        members,
+    };
+    match Station::new(alloc, place, Setting { table, widths }, rows) {
+        Ok(station) => Ok(Started {
+            station,
+            wire,
+            offer,
+            table: copy,
+        }),
+        Err(_) => unreachable!(),
+    }
+}
+
+/// The station of a configuration, over its saved rows in one of the files, which is made first where a version is given, and in
+/// their version, with its wire, sealed where there are keys, and the tape that it offers first, if it offers one.
+/// What it saves waits until it is settled, so that many rows are saved as one.
+///
+/// What it starts from is looked for in this order, and the first fault ends it and is told to `err`: the code table, the
+/// widths, the tape, the saved rows, the socket.
+pub fn start<H: Host, F: RowFiles, E: Write>(
+    ground: &Ground<'_, H, F>,
+    launch: Launch<'_>,
+    err: &mut E,
+) -> Result<Started<Grouped<F::Rows>, H::Wire>, End>
+    requires { IsCircuit launch.config.member launch.config.stations.items }
+    ensures station { IfOk result (λ s. IsStationOf (identity_of (file_of launch.entry.config)) s.station) }
+    ensures table { IfOk result (λ s. IsTableAt (H.text ground.now.host.now) (string_bytes launch.entry.config.table) s.station.table) }
+    ensures same { IfOk result (λ s. s.table ≡ s.station.table) }
+    ensures widths { IfOk result (λ s. AreWidthsAt (H.text ground.now.host.now) (string_bytes launch.entry.config.widths) s.station.widths) }
+    ensures offer { IfOk result (λ s. IsOffer (H.text ground.now.host.now) (option_map (λ o. (o.number, o.path.now)) launch.entry.offer) s.offer) }
+    ensures rows { IfOk result (λ s. AreRowsFor F.leaves F.takes_up F.Rows.version ground.now.row_files.now launch.entry s.station.rows.rows) }
+    ensures waits { IfOk result (λ s. s.station.rows.waits ≡ []) }
+    ensures open { IfOk result (λ s. F.Rows.kept s.station.rows.rows → F.Rows.is_open s.station.rows.rows) }
+    ensures version { IfOk result (λ s. s.station.speaker.wire ≡ F.Rows.version s.station.rows.rows) }
+    ensures wire { IfOk result (λ s. IsWireOf H.is_bound (file_of launch.entry.config) launch.entry.keys s.wire) }
+{
+    let Launch {
+        config,
+        keys,
+        making,
+        offer,
+    } = launch;
+    let rt = ground.rt;
+    let files = match read_files(rt.alloc(), ground.host, &config, offer) {
+        Ok(files) => files,
+        Err(fault) => return Err(fault.tell(err)),
+    };
+    let identity = identity_of(&config);
+    let rows = match rows_of(ground, &config.rows, identity, making) {
+        Ok(rows) => rows,
+        Err(refused) => return Err(Fault::from(refused).tell(err)),
+    };
+    let wire = match wire_of(ground.host, config, keys) {
+        Ok(wire) => wire,
+        Err(fault) => return Err(fault.tell(err)),
+    };
+    let rows = Grouped::new(rt.alloc(), rows);
+    let held = StationParts { files, rows, wire };
+    match start_over(rt.alloc(), identity, held) {
+        Ok(started) => Ok(started),
+        Err(fault) => Err(fault.tell(err)),
+    }
+}

@@ -1,0 +1,2 @@
+pub mod EntryText
+pub mod ReleaseText

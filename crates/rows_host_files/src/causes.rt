@@ -1,0 +1,26 @@
+//! Why a host's file of saved rows is refused, in the words of those who ask for files of rows.
+
+ghost use Rattle.std.specs.Prelude.{◌≡◌};
+ghost use Rattle.acceptor_store.specs.Faults.{rows_fault};
+
+use acceptor_store::FileFault;
+use rows_files::{RefusedRows, RowsCause};
+use rows_saved::RowsFault;
+
+/// How rows are refused whose file has this fault. A fault of theirs that tells all has no cause beside it.
+pub(crate) fn refused_by(fault: FileFault) -> RefusedRows
+    ensures { result.fault ≡ rows_fault fault }
+{
+    match fault {
+        FileFault::Missing => RefusedRows::for_cause(RowsCause::Missing),
+        FileFault::InUse => RefusedRows::for_cause(RowsCause::InUse),
+        FileFault::Unmade => RefusedRows::for_cause(RowsCause::Unmade),
+        FileFault::Made => RefusedRows::for_cause(RowsCause::Made),
+        FileFault::Damaged => RefusedRows::for_cause(RowsCause::Damaged),
+        FileFault::Unopened => RefusedRows::for_cause(RowsCause::Unopened),
+        FileFault::DiskFull => RefusedRows::for_cause(RowsCause::DiskFull),
+        FileFault::DiskFailed => RefusedRows::for_cause(RowsCause::DiskFailed),
+        FileFault::Rows(RowsFault::Store) => RefusedRows::for_cause(RowsCause::Unread),
+        FileFault::Rows(fault) => RefusedRows::by(fault),
+    }
+}

@@ -1,0 +1,82 @@
+//! What a command does with all rows of a database, and the close of one over two files.
+
+ghost use Rattle.std.specs.Prelude.{◌≡◌, IfOk, OnOk, IfErr};
+ghost use Rattle.std.specs.Io.KnownBytes.{Appends};
+ghost use Rattle.rows_command.specs.RowsText.{layout_text};
+ghost use Rattle.command_ends.specs.Ends.{end_of, IsOfRows};
+ghost use Rattle.acceptor_store.specs.Files.{WasClosed};
+ghost use Rattle.rows_host_files.specs.Taking.{AreUpgraded, WereUpgraded};
+ghost use Rattle.rows_host_files.specs.declared.database.RowsTask.TheVariants.{Upgrade};
+
+use crate::causes::refused_by;
+use acceptor_store::SqliteRows;
+use command_ends::Fault;
+use rows_command::{print_rows, upgrade_rows};
+use rows_files::RefusedRows;
+use rows_life::end_life;
+use sqlite::{Alter, FileStore};
+use sqlite_disk::Disk;
+use std::alloc::Global;
+use std::io::Write;
+
+/// What a command does with all rows of a database.
+#[derive(Clone, Copy)]
+pub(crate) enum RowsTask {
+    /// They are listed.
+    List(Global),
+    /// They are upgraded to the second layout.
+    Upgrade,
+}
+
+/// Does this with the rows, and gives them back where there is no fault; else they are let go.
+fn carried_out<S: Alter + Drop, W: Write>(
+    mut rows: SqliteRows<S>,
+    task: RowsTask,
+    out: &mut W,
+) -> Result<SqliteRows<S>, Fault<'static>>
+    ensures done { OnOk result (task ≡ Upgrade → Appends (W.contents out.old) (W.contents out.new) layout_text) }
+    ensures upgraded { IfOk result (λ now. task ≡ Upgrade → AreUpgraded S.Store rows now) }
+    ensures rows { IfErr result (λ fault. IsOfRows (end_of fault)) }
+{
+    match task {
+        RowsTask::List(alloc) => print_rows(alloc, &mut rows, out)?,
+        RowsTask::Upgrade => upgrade_rows(&mut rows, out)?,
+    }
+    Ok(rows)
+}
+
+/// Closes a database, and its files, and marks the one that has all as at rest; also where that is refused the files are let go, as
+/// they are.
+pub(crate) fn close_database<D: Disk + Drop>(
+    rows: SqliteRows<FileStore<D>>,
+) -> Result<(), RefusedRows>
+    ensures { OnOk result (WasClosed rows) }
+{
+    match rows.close() {
+        Ok(files) => {
+            let mut files = files;
+            end_life(&mut files)?;
+            Ok(())
+        }
+        Err((fault, store)) => {
+            let _files = store.close();
+            Err(refused_by(fault))
+        }
+    }
+}
+
+/// Does this with the rows of a database, and closes it where there is no fault. A store of files meets a function over any
+/// store here alone: each such place costs the prover many seconds.
+pub(crate) fn done_over<D: Disk + Drop, W: Write>(
+    rows: SqliteRows<FileStore<D>>,
+    task: RowsTask,
+    out: &mut W,
+) -> Result<(), Fault<'static>>
+    ensures ends { IfErr result (λ fault. IsOfRows (end_of fault)) }
+    ensures upgraded { OnOk result (task ≡ Upgrade → WereUpgraded rows) }
+    ensures done { OnOk result (task ≡ Upgrade → Appends (W.contents out.old) (W.contents out.new) layout_text) }
+{
+    let rows = carried_out(rows, task, out)?;
+    close_database(rows)?;
+    Ok(())
+}

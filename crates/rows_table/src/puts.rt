@@ -1,0 +1,73 @@
+//! The statements that save a row, outside a transaction.
+
+ghost use Rattle.sqlite.specs.Held.{state};
+ghost use Rattle.rows_table.specs.declared.layout.Layout.TheVariants.{One};
+ghost use Rattle.rows_table.specs.Puts.{PutsEntry, PutsRow, columns_of_row};
+
+use crate::entry_table::EntryColumns;
+use sqlite::{Alter, Connection, Error, params};
+
+/// A row of the table of rows, column by column.
+///
+/// The last three are all there, a vote, or none of them is.
+#[derive(Drop)]
+pub struct RowColumns {
+    /// The number that the row is about, which is its key.
+    pub number: u32,
+    /// The round of the ballot that is promised.
+    pub promised_round: u32,
+    /// The member that owns that ballot.
+    pub promised_owner: u32,
+    /// The round of the ballot that the vote was cast in.
+    pub vote_round: Option<u32>,
+    /// The member that owns that ballot.
+    pub vote_owner: Option<u32>,
+    /// The frames of the tape that was voted for, one a byte.
+    pub tape: Option<Vec<u8>>,
+}
+
+/// The statement that puts one row in place of the one under its number.
+pub(crate) const PUT_ROW: &str =
+    "INSERT INTO acceptor_row VALUES (?1, ?2, ?3, ?4, ?5, ?6) ON CONFLICT (number) DO UPDATE SET promised_round = excluded.promised_round, promised_owner = excluded.promised_owner, vote_round = excluded.vote_round, vote_owner = excluded.vote_owner, tape = excluded.tape";
+
+/// The statement that puts one entry in place of the one under its number.
+pub(crate) const PUT_ENTRY: &str =
+    "INSERT INTO acceptor_entry VALUES (?1, ?2, ?3, ?4, ?5, ?6, ?7) ON CONFLICT (number) DO UPDATE SET promised_round = excluded.promised_round, promised_owner = excluded.promised_owner, vote_round = excluded.vote_round, vote_owner = excluded.vote_owner, length = excluded.length, packed = excluded.packed";
+
+/// Saves one row in layout 1, in place of the one that has its number, if there is one: one statement. It gives how many rows that changed.
+///
+/// An error comes where the database refuses the statement: where the table is missing, or the disk fails or is full, or memory is refused.
+/// Nothing is then changed. A crash leaves the table as it was, or with this row saved.
+pub fn put_row<S: Alter>(conn: &mut Connection<S>, row: &RowColumns) -> Result<usize, Error>
+    ensures { PutsRow One row.now.number (columns_of_row row.now) result (state S.Store conn.old) (state S.Store conn.new) }
+{
+    conn.execute(
+        PUT_ROW,
+        params![
+            row.number,
+            row.promised_round,
+            row.promised_owner,
+            row.vote_round,
+            row.vote_owner,
+            row.tape.as_ref()
+        ],
+    )
+}
+
+/// Saves one entry in layout 2, as `put_row` saves a row.
+pub fn put_entry<S: Alter>(conn: &mut Connection<S>, entry: &EntryColumns) -> Result<usize, Error>
+    ensures { PutsEntry entry.now result (state S.Store conn.old) (state S.Store conn.new) }
+{
+    conn.execute(
+        PUT_ENTRY,
+        params![
+            entry.number,
+            entry.promised_round,
+            entry.promised_owner,
+            entry.vote_round,
+            entry.vote_owner,
+            entry.length,
+            entry.packed.as_ref()
+        ],
+    )
+}

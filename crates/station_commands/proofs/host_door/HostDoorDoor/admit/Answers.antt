@@ -1,6 +1,0 @@
--- A sealed door stays one.
-use Rattle.station_commands.proofs.Doors.{sealed_alike}
-use Rattle.station_commands.proofs.host_door.HostDoorDoor.admit.Goals as goal
-
-pub returns-in-Sealed-clause-alike : goal.returns-in-Sealed-clause-alike
-returns-in-Sealed-clause-alike c = sealed_alike c.args.self.now c.in-Sealed.door c.admit-in-Sealed.new.self c.in-Sealed.is c.admit-in-Sealed.ensures.alike

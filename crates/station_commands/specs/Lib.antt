@@ -1,5 +1,0 @@
-pub mod Creations
-pub mod FirstLine
-pub mod Plans
-pub mod Starts
-pub mod Wires
