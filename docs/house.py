@@ -20,8 +20,8 @@ that a station under `run` has. Left out are the ways of a `match` or an `if` th
 does else. Operators, conversions and what a macro writes are no calls.
 
   what it gives                                    0.2.0          before             now
-  clauses                                          2,698           6,022           4,197
-  repeated                                           791           1,626             260
+  clauses                                          2,698           6,022           4,193
+  repeated                                           791           1,626             259
   long                                                22              78               0
   functions                                          130             105               0
   types                                               16              76               0
@@ -44,7 +44,7 @@ import sys
 TOP = os.path.dirname(os.path.dirname(os.path.abspath(__file__)))
 
 # What the figures may be at most. They may go down, and never up.
-MOST_REPEATED, MOST_LONG, MOST_FUNCTIONS, MOST_TYPES = 260, 0, 0, 0
+MOST_REPEATED, MOST_LONG, MOST_FUNCTIONS, MOST_TYPES = 259, 0, 0, 0
 MOST_CALLS, MOST_FILES, MOST_CRATES = 130, 48, 16
 MOST_CHARACTERS, MOST_PARAMETERS = 160, 4
 # names of types that may stand in more than one crate

@@ -1,15 +1,13 @@
 //! Whether a plant can be run where it lies, and its folders, which are held from then on.
 
-ghost use Rattle.std.specs.Prelude.{◌≡◌};
 ghost use Rattle.command_ends.specs.declared.end.End.TheVariants.{Input};
 
 use crate::status_place::why_no_status;
-use command_ends::End;
+use command_ends::{CommandFault, End};
 use configuration::{Config, WorkFolders};
 use host_folders::{HostFolders, Misplaced, PlantPaths, why_misplaced};
 use host_process::file_limit;
 use std::fmt;
-use std::io::Write;
 
 /// Why a plant is not run where it lies.
 #[derive(Clone, Copy)]
@@ -35,12 +33,10 @@ impl fmt::Display for PlantFault {
     }
 }
 
-impl PlantFault {
-    /// Writes the text, and gives the end. That the writer fails is ignored.
-    pub(crate) fn tell<E: Write>(self, err: &mut E) -> End
-        ensures { result ≡ Input }
-    {
-        let _ = writeln!(err, "{self}");
+impl CommandFault for PlantFault {
+    ghost ends_as = { λ _. Input };
+
+    fn end(&self) -> End {
         End::Input
     }
 }

@@ -12,7 +12,7 @@ use crate::plant_start::{OpenPlant, PlantPlan, open_plant};
 use crate::start_up::{Ground, Launch, Started, start};
 use crate::status_file::HostStatus;
 use code_table::CodeTable;
-use command_ends::{End, Fault};
+use command_ends::{End, Fault, tell};
 use configuration::{Config, ConfigInput, Resolver, read_config};
 use driver::Machine;
 use folders::{Folders, NoFolders};
@@ -241,7 +241,7 @@ fn run_at<F: RowFiles, E: Write>(
     };
     let plant = match open_plant(rt, place) {
         Ok(plant) => plant,
-        Err(fault) => return fault.tell(err),
+        Err(fault) => return tell(&fault, err),
     };
     let launch = Launch {
         config,

@@ -1,8 +1,8 @@
 -- What `import` tells of a reel: a line for each tape, and a last line.
-use Rattle.std.specs.Prelude.{ℕ, ◌+◌, ◌-◌, List, [], ◌∷◌, ◌++◌, codes, decimal, length, nat_lt, Bool, if◌then◌else◌}
+use Rattle.std.specs.Prelude.{ℕ, ◌+◌, ◌-◌, List, [], ◌∷◌, ◌++◌, codes, decimal, length, nat_lt, Bool, true, false, if◌then◌else◌}
 use Rattle.tape_frames.specs.Frames.{most_frames}
 use Rattle.command_ends.specs.declared.end.End.{End}
-use Rattle.command_ends.specs.declared.end.End.TheVariants.{Done, Input}
+use Rattle.command_ends.specs.Ends.{found}
 use Rattle.reel.specs.declared.piece.RollPiece.{RollPiece}
 use Rattle.reel.specs.Names.{tape_name}
 use Rattle.reel_commands.specs.declared.importing.Imported.{Imported}
@@ -37,7 +37,11 @@ foot_text tapes frames = (codes "tapes: " ++ decimal tapes) ++ ((codes ", frames
 abbrev pub import_text : Imported → List ℕ
 import_text done = lines_from 1 done.tapes.items ++ foot_text (length done.tapes.items) done.frames
 
+-- none of these pieces is longer than a tape may be
+abbrev pub are_tapes : List RollPiece → Bool
+are_tapes [] = true
+are_tapes (piece ∷ pieces) = if is_long piece then false else are_tapes pieces
+
 -- the end of an import: a tape that is too long is a fault of the input
 abbrev pub end_by : List RollPiece → End
-end_by [] = Done
-end_by (piece ∷ pieces) = if is_long piece then Input else end_by pieces
+end_by pieces = found (are_tapes pieces)

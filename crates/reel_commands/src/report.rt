@@ -3,7 +3,7 @@
 ghost use Rattle.std.specs.Prelude.{◌≡◌, ◌++◌, decimal, OnOk, IfOk};
 ghost use Rattle.std.specs.Io.KnownBytes.{Appends};
 ghost use Rattle.reel_commands.specs.Ends.{Gives};
-ghost use Rattle.reel_commands.specs.Report.{len_of, is_long, warning, tape_line, lines_from, foot_text, import_text, end_by};
+ghost use Rattle.reel_commands.specs.Report.{len_of, is_long, warning, tape_line, lines_from, foot_text, import_text, are_tapes, end_by};
 
 use crate::cause::ReelFault;
 use crate::importing::Imported;
@@ -110,13 +110,20 @@ pub fn put_import<'a, W: Write>(
     put_whole(&text, out)
 }
 
+/// Whether none of these pieces is longer than a tape may be.
+fn are_tapes(pieces: &[RollPiece]) -> bool
+    ensures { result ≡ are_tapes pieces.now }
+{
+    match pieces {
+        [] => true,
+        [piece, _rest @ ..] if is_long(*piece) => false,
+        [_piece, rest @ ..] => are_tapes(rest),
+    }
+}
+
 /// How `import` ends once all tapes are made: by a fault of the input where one of them is longer than a tape may be.
 pub fn end_by(tapes: &[RollPiece]) -> End
     ensures { result ≡ end_by tapes.now }
 {
-    match tapes {
-        [] => End::Done,
-        [tape, _rest @ ..] if is_long(*tape) => End::Input,
-        [_tape, rest @ ..] => end_by(rest),
-    }
+    End::found(are_tapes(tapes))
 }

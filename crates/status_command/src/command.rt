@@ -1,11 +1,11 @@
 //! The command `status`.
 
-use crate::fault::{StatusFault, end_of_config};
+use crate::fault::{StatusFault, UntoldStatus};
 use crate::file::status_at;
 use crate::json::json_of;
 use crate::shown::shown;
 use crate::watching::{FRESH, watch};
-use command_ends::{End, Fault};
+use command_ends::{End, Fault, tell};
 use configuration::{Config, ConfigInput, NoLookUp, read_config};
 use plant_status::{Health, Status, ages_of, health_of, seconds_now};
 use std::io::{IsTerminal, Write};
@@ -112,7 +112,10 @@ fn status_of<W: Write, E: Write>(
     };
     match told {
         Ok(is_well) => End::found(is_well),
-        Err(fault) => fault.tell(asked.path, err),
+        Err(fault) => {
+            let path = asked.path;
+            tell(&UntoldStatus::Status { path, fault }, err)
+        }
     }
 }
 
@@ -142,10 +145,11 @@ pub fn status<W: Write, E: Write>(
     };
     let config = match read_config(rt.alloc(), &NoLookUp, file) {
         Ok(config) => config,
-        Err(fault) => return end_of_config(fault.tell(err)),
+        Err(fault) => return tell(&UntoldStatus::Config(fault), err),
     };
     let Some(path) = status_path(&config) else {
-        return StatusFault::Unnamed.tell("", err);
+        let fault = StatusFault::Unnamed;
+        return tell(&UntoldStatus::Status { path: "", fault }, err);
     };
     let asked = StatusPlan {
         config: &config,

@@ -1,12 +1,14 @@
 //! Why nothing can be told of a station.
 
 ghost use Rattle.std.specs.Prelude.{◌≡◌};
-ghost use Rattle.command_ends.specs.declared.end.End.TheVariants.{Done, Input};
+ghost use Rattle.command_ends.specs.Ends.{EndsBy};
+ghost use Rattle.command_ends.specs.declared.end.End.TheVariants.{Done};
+ghost use Rattle.status_command.specs.Ends.{unknown, end_of_status, end_in};
 
-use command_ends::{End, Fault};
+use command_ends::{CommandFault, End, Fault};
 use plant_status::Unread;
 use std::alloc::AllocError;
-use std::io::Write;
+use std::fmt;
 
 /// Why nothing can be told of a station.
 #[derive(Clone, Copy)]
@@ -48,11 +50,17 @@ impl From<Unread> for StatusFault {
     }
 }
 
-/// How the command ends where nothing can be told: with 3, which a monitor takes for unknown, and never with 1, which says that the station
-/// is not well.
-const UNKNOWN: End = End::Store;
-
 impl StatusFault {
+    /// How the command ends by it.
+    fn end(self) -> End
+        ensures { EndsBy (end_of_status self) result }
+    {
+        match self {
+            StatusFault::OutOfMemory => End::Memory,
+            _ => End::Store,
+        }
+    }
+
     /// Its words.
     fn words(self) -> &'static str {
         match self {
@@ -68,32 +76,53 @@ impl StatusFault {
             StatusFault::OutOfMemory => "out of memory",
         }
     }
+}
 
-    /// Tells it of the status file at a path, and gives the end, which says neither that the station is well nor that it is not.
-    pub(crate) fn tell<E: Write>(self, path: &str, err: &mut E) -> End
-        ensures fails { ¬ (result ≡ Done) }
-        ensures unknown { ¬ (result ≡ Input) }
-    {
-        let words = self.words();
-        match self {
-            StatusFault::OutOfMemory => return Fault::OutOfMemory.tell(err),
+/// What the command tells where it can tell nothing of a station.
+#[derive(Clone, Copy)]
+pub(crate) enum UntoldStatus<'a> {
+    /// Its configuration is not read.
+    Config(Fault<'a>),
+    /// This is the matter, of the status file at a path or of the station.
+    Status { path: &'a str, fault: StatusFault },
+}
+
+/// What a person reads. The path stands where it is the file that is at fault.
+impl<'a> fmt::Display for UntoldStatus<'a> {
+    fn fmt<W: fmt::Write>(&self, f: &mut fmt::Formatter<W>) -> fmt::Result {
+        let (path, fault) = match *self {
+            UntoldStatus::Config(fault) => return write!(f, "{fault}"),
+            UntoldStatus::Status { path, fault } => (path, fault),
+        };
+        let words = fault.words();
+        match fault {
+            StatusFault::OutOfMemory => f.write_str(words),
             StatusFault::Unnamed | StatusFault::NoClock | StatusFault::Unwritten => {
-                let _ = writeln!(err, "status: {words}");
+                write!(f, "status: {words}")
             }
-            _ => {
-                let _ = writeln!(err, "status: {path}: {words}");
-            }
+            _ => write!(f, "status: {path}: {words}"),
         }
-        UNKNOWN
     }
 }
 
-/// The end where the configuration can't be read: nothing can be told then either.
-pub(crate) fn end_of_config(end: End) -> End
-    ensures unknown { ¬ (result ≡ Input) }
+/// In place of the end that says that a station is not well: to a monitor 3 is unknown.
+fn unknown(end: End) -> End
+    ensures value { result ≡ unknown end }
+    ensures fails { ¬ (end ≡ Done) → ¬ (result ≡ Done) }
 {
     match end {
-        End::Input => UNKNOWN,
+        End::Input => End::Store,
         end => end,
+    }
+}
+
+impl<'a> CommandFault for UntoldStatus<'a> {
+    ghost ends_as = { end_in };
+
+    fn end(&self) -> End {
+        match self {
+            UntoldStatus::Config(fault) => unknown(fault.end()),
+            UntoldStatus::Status { fault, .. } => fault.end(),
+        }
     }
 }
