@@ -3,7 +3,7 @@ use Rattle.std.proofs.Common.{◌≡◌, ℕ, suc, ◌+◌, ◌*◌, ◌/◌, �
 use Rattle.std.proofs.lemmas.List.{length-replicate, get_or-replicate, get_or_past}
 use Rattle.std.proofs.lemmas.List.Sums.{sum_by-set, count_by-le-length}
 use Rattle.std.proofs.lemmas.List.FromFn.{length-map-range_with_len, get_or-map-range_with_len}
-use Rattle.std.proofs.lemmas.Bool.{cases_eq, cases_lt, not-true, not-false}
+use Rattle.std.proofs.lemmas.Bool.{cases_eq, cases_lt, not-true}
 use Rattle.std.proofs.lemmas.Nat.{one_shl, pow_pos}
 use Rattle.std.proofs.lemmas.Nat.Bits.{bit_at_set_same, bit_at_set_other, bit_at-zero, and_pow, shr_and_one}
 use Rattle.std.specs.Prelude.{bit_and, bit_or}
@@ -116,20 +116,10 @@ many-set flags k within = sum_by-set weight flags k true false within
 pub set_same : (flags : List Bool) (k : ℕ) → k < length flags → has (set flags k true) k ≡ true
 set_same flags k within = get_or-set_same flags k true false within
 
-pub set_other : (flags : List Bool) (k n : ℕ) → ¬ (n ≡ k) → has (set flags k true) n ≡ has flags n
-set_other flags k n other = get_or-set_other flags k n true false other
-
--- how many there are after one more was set that was none of them, and after one that was
+-- how many there are after one more was set that was none of them
 pub many-new : (flags : List Bool) (k : ℕ) → k < length flags → true ≡ not (has flags k) → how_many (set flags k true) ≡ how_many flags + 1
 many-new flags k within new =
     let none : get_or flags k false ≡ false = not-true _ (sym new) in
     let all : how_many (set flags k true) + weight (get_or flags k false) ≡ how_many flags + 1 = many-set flags k within in
     let zero : weight (get_or flags k false) ≡ 0 = ap weight none in
     omega (arith, all, zero)
-
-pub many-old : (flags : List Bool) (k : ℕ) → k < length flags → false ≡ not (has flags k) → how_many (set flags k true) ≡ how_many flags
-many-old flags k within old =
-    let one : get_or flags k false ≡ true = not-false _ (sym old) in
-    let all : how_many (set flags k true) + weight (get_or flags k false) ≡ how_many flags + 1 = many-set flags k within in
-    let same : weight (get_or flags k false) ≡ 1 = ap weight one in
-    omega (arith, all, same)
