@@ -1,13 +1,12 @@
 -- What went out has no case, and so is never wanted.
-use Rattle.std.proofs.Common.{◌≡◌, ℕ, Bool, true, false, List, [], ◌∷◌, Option, Some, None, refl, sym, ap, ◌∙◌, true≢false, eqb}
+use Rattle.std.proofs.Common.{◌≡◌, ℕ, Bool, true, false, List, [], ◌∷◌, None, refl, sym, ap, ◌∙◌, eqb}
 use Rattle.std.specs.Prelude.{◌||◌}
 use Rattle.std.proofs.lemmas.Bool.{eqb-true}
 use Rattle.std.proofs.lemmas.Option.{none-some}
 use Rattle.gone_out.specs.Numbers.{has}
 use Rattle.healing.specs.declared.case.LackedNumber.{LackedNumber}
 use Rattle.healing.specs.Lists.{is_among}
-use Rattle.healing.specs.Cases.{ripe_in}
-use Rattle.healing.specs.Healing.{HealingValue, IsHealing, case_in, case_at, IsDueIn, AreDueIn, IsRipeIn}
+use Rattle.healing.specs.Healing.{HealingValue, IsHealing, case_in, IsDueIn, AreDueIn}
 
 not_due : (cases : List (ℕ × LackedNumber)) (now n : ℕ) → case_in cases n ≡ None → ¬ IsDueIn cases now n
 not_due cases now n none due = none-some _ (sym none ∙ due.1)
@@ -26,10 +25,3 @@ not_among cases now n (m ∷ ms) none due = go (eqb m n) refl (not_among cases n
 
 pub none_out : (h : HealingValue) (now : ℕ) (batch : List ℕ) → IsHealing h → AreDueIn h.cases now batch → (n : ℕ) → has h.gone n ≡ true → is_among batch n ≡ false
 none_out h now batch healing due n out = not_among h.cases now n batch (healing.gone n out) due
-
-pub not_ripe : (h : HealingValue) (now number : ℕ) → IsHealing h → IsRipeIn h.cases now number → has h.gone number ≡ false
-not_ripe h now number healing ripe = go (has h.gone number) refl
-  where
-    go : (b : Bool) → has h.gone number ≡ b → b ≡ false
-    go true out = absurd (true≢false (sym ripe ∙ ap (λ (c : Option LackedNumber). ripe_in c now) (healing.gone number out)))
-    go false stays = refl

@@ -5,9 +5,8 @@ use Rattle.std.specs.Option.{option_map}
 use Rattle.std.proofs.lemmas.Bool.{eqb-true, cases_eq}
 use Rattle.std.proofs.lemmas.List.{take_more}
 use Rattle.healing.specs.declared.case.LackedNumber.{LackedNumber}
-use Rattle.healing.specs.declared.case.LackStage.{LackStage}
-use Rattle.healing.specs.declared.case.LackStage.TheVariants.{Waiting, Recalled, Sought, Open, Left}
-use Rattle.healing.specs.Cases.{is_due, is_over, settled, with_stage, was_recalled, recalled_in, is_recalled, has_vote}
+use Rattle.healing.specs.declared.case.LackStage.TheVariants.{Left}
+use Rattle.healing.specs.Cases.{is_due, is_over, settled, with_stage, was_recalled, has_vote}
 use Rattle.healing.specs.Lists.{is_among}
 use Rattle.healing.specs.Healing.{case_in, CaseIsPut, IsDueIn, AreDueIn}
 use Rattle.healing.proofs.OneMore.{among_more}
@@ -53,33 +52,6 @@ settled_twice now c = go (was_recalled c.stage now && not (has_vote c)) refl
     go : (b : Bool) → (was_recalled c.stage now && not (has_vote c)) ≡ b → settled now (if b then with_stage Left c else c) ≡ (if b then with_stage Left c else c)
     go true left = refl
     go false stays = ap (λ (b : Bool). if b then with_stage Left c else c) stays
-
--- what was not recalled is settled
-not_recalled : (now : ℕ) (c : LackedNumber) → is_recalled c.stage ≡ false → settled now c ≡ c
-not_recalled now c other = ap (λ (b : Bool). if (b && not (has_vote c)) then with_stage Left c else c) (go c.stage other)
-  where
-    go : (s : LackStage) → is_recalled s ≡ false → was_recalled s now ≡ false
-    go Waiting e = refl
-    go (Recalled at) e = absurd (true≢false e)
-    go Sought e = refl
-    go Open e = refl
-    go Left e = refl
-
-none_settled : (now : ℕ) (c : Option LackedNumber) → recalled_in c ≡ false → option_map (settled now) c ≡ c
-none_settled now None e = refl
-none_settled now (Some c) e = ap Some (not_recalled now c e)
-
--- where all that are recalled were settled, all are
-pub all_settled :
-    (now : ℕ) (numbers : List ℕ) (old new : List (ℕ × LackedNumber)) → AreChanged (settled now) numbers old new
-    → ((n : ℕ) → recalled_in (case_in old n) ≡ true → is_among numbers n ≡ true) → (n : ℕ) → case_in new n ≡ option_map (settled now) (case_in old n)
-all_settled now numbers old new changed all n = changed n ∙ go (is_among numbers n) (recalled_in (case_in old n)) refl refl
-  where
-    go : (a r : Bool) → is_among numbers n ≡ a → recalled_in (case_in old n) ≡ r
-        → (if a then option_map (settled now) (case_in old n) else case_in old n) ≡ option_map (settled now) (case_in old n)
-    go true r is e = refl
-    go false false is e = sym (none_settled now (case_in old n) e)
-    go false true is e = absurd (true≢false (sym (all n e) ∙ is))
 
 some_same : {c d : LackedNumber} → Some c ≡ Some d → c ≡ d
 some_same e = cc
