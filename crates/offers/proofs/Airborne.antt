@@ -1,5 +1,5 @@
 -- The files that are under way, beside the numbers that are.
-use Rattle.std.proofs.Common.{◌≡◌, ◌≢◌, ℕ, suc, ◌+◌, ◌≤◌, ◌==◌, ◌⊎◌, inl, inr, ◌++◌, List, [], ◌∷◌, map, true, false, Bool, ◌||◌, Option, Some, None, Result, Ok, Err, length, cond, nat_le, nat_lt, subst, refl, sym, ap, ◌∙◌, arith}
+use Rattle.std.proofs.Common.{◌≡◌, ◌≢◌, ℕ, suc, ◌+◌, ◌≤◌, ◌==◌, ◌⊎◌, inl, inr, ◌++◌, List, [], ◌∷◌, map, true, false, Bool, ◌||◌, Option, Some, None, length, cond, nat_le, nat_lt, subst, refl, sym, ap, ◌∙◌, arith}
 use Rattle.std.specs.List.{position_or_len, list_any}
 use Rattle.std.specs.Set.{remove_key}
 use Rattle.std.proofs.lemmas.Bool.Decides.{nat_tests}
@@ -18,14 +18,13 @@ use Rattle.offers.specs.declared.stage.Landing.{Landing}
 use Rattle.offers.specs.declared.stage.Landing.TheVariants.{Ended, Nothing, Busy, Barred, Released}
 use Rattle.offers.specs.declared.stage.FileNews.{FileNews}
 use Rattle.offers.specs.declared.stage.FileNews.TheVariants as news
-use Rattle.offers.specs.declared.stage.OfferFault.{OfferFault}
 use Rattle.offers.specs.declared.stage.Stage.{Stage}
 use Rattle.offers.specs.declared.stage.Tries.{Tries}
 use Rattle.offers.specs.declared.stage.Stage.TheVariants.{Watched, Waiting, UnderWay, Refused, Answered, Gone}
 use Rattle.offers.specs.Looks.{is_same_stamp, stage_after, seen, looked}
 use Rattle.offers.specs.Order.{rank, kind_rank, file_at, RisesFrom, rising_from}
 use Rattle.offers.specs.Rules.{is_under_way}
-use Rattle.offers.specs.Stages.{after, anew, found_nothing, landed, changed, all_changed, tape_of, text_of, withdrawal_of, search_of, news_of}
+use Rattle.offers.specs.Stages.{after, anew, found_nothing, landed, changed, all_changed, tape_of, text_of, withdrawal_of, search_of}
 use Rattle.offers.specs.UnderWay.{flies, file_flies, is_asked, asked_count, AreHeld, AreAlone, begins}
 use Rattle.offers.proofs.Editing.{two_ways}
 use Rattle.offers.proofs.Merging.{absent}
@@ -234,11 +233,6 @@ alone_still new old fewer alone = λ r s h k e. alone r s (fewer r h) (fewer s k
 -- news that puts none under way
 pub told_fewer : (k : ℕ) (n : FileNews) (now : ℕ) (os : List Offer) → begins n ≡ false → (r : FileRequest) → is_asked (changed k (after n now) os) r ≡ true → is_asked os r ≡ true
 told_fewer k n now os b r h = was_flying k (rank r) (after n now) os (λ s g. never_begins n now s b g) h
-
--- what was read of a file is such news
-pub read_begins_none : (wish : Result Wish OfferFault) (n : FileNews) → n ≡ news_of wish → begins n ≡ false
-read_begins_none (Ok wish) n e = rw e refl
-read_begins_none (Err why) n e = rw e refl
 
 -- what became of a number
 lands : (landing : Landing) (now : ℕ) (s : Stage) → flies (after (news.Landed landing) now s) ≡ true → flies s ≡ true

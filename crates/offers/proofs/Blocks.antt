@@ -1,9 +1,9 @@
 -- Moments by index, and the first of each block.
-use Rattle.std.proofs.Common.{◌≡◌, ◌≢◌, ℕ, ◌+◌, ◌*◌, ◌<◌, ◌≤◌, ◌==◌, inl, inr, List, Option, Some, None, IfSome, true, false, length, get_or, set, cond, nat_lt, refl, sym, ◌∙◌, arith}
+use Rattle.std.proofs.Common.{◌≡◌, ◌≢◌, ℕ, ◌+◌, ◌*◌, ◌<◌, ◌≤◌, ◌==◌, inl, inr, List, Option, Some, None, IfSome, true, false, length, get_or, set, cond, nat_lt, refl, ◌∙◌, arith}
 use Rattle.std.proofs.lemmas.Bool.{cases_lt}
 use Rattle.std.proofs.lemmas.Bool.Decides.{nat_tests}
 use Rattle.std.proofs.lemmas.List.{get_or-set_same, get_or-set_other, get_or_past, length-set}
-use Rattle.offers.specs.Moments.{moment_at, NoneFrom, MatchIn, sooner, earlier, AreBlocks}
+use Rattle.offers.specs.Moments.{moment_at, NoneFrom, MatchIn, sooner, AreBlocks}
 use Rattle.offers.proofs.Editing.{two_ways}
 
 -- ---- of one moment, which may be none
@@ -16,10 +16,6 @@ from_none : (x : Option ℕ) (low : ℕ) → x ≡ None → IfSome x (λ m. low 
 from_none None low e = tt
 from_none (Some m) low e = cc
 
-from_some : (x : Option ℕ) (low own : ℕ) → x ≡ Some own → low ≤ own → IfSome x (λ m. low ≤ m)
-from_some None low own e le = cc
-from_some (Some m) low own e le = let same : m ≡ own = cc in omega arith
-
 -- one that is none, or no sooner than a later one, comes later
 later_none : (x : Option ℕ) (low : ℕ) → x ≡ None → IfSome x (λ m. low < m)
 later_none None low e = tt
@@ -28,110 +24,6 @@ later_none (Some m) low e = cc
 later_than : (x : Option ℕ) (low high : ℕ) → low < high → IfSome x (λ m. high ≤ m) → IfSome x (λ m. low < m)
 later_than None low high lt h = tt
 later_than (Some m) low high lt h = omega arith
-
--- ---- the first of some and one more
-
--- what holds of those before one and of that one holds of those before the next
-more : (moments : List (Option ℕ)) (low i m : ℕ) → ((j : ℕ) → low ≤ j → j < i → IfSome (moment_at moments j) (λ own. m ≤ own)) → IfSome (moment_at moments i) (λ own. m ≤ own) → (j : ℕ) → low ≤ j → j < i + 1 → IfSome (moment_at moments j) (λ own. m ≤ own)
-more moments low i m before here j from lt = elim (cases_lt j i) [
-  | inl below ↦ before j from below
-  | inr behind ↦ let same : j ≡ i = omega arith in rw same here
-]
-
-pub one_more : (moments : List (Option ℕ)) (low i : ℕ) (first : Option (ℕ × ℕ)) (m : Option ℕ) → low ≤ i → MatchIn moments low i first → m ≡ moment_at moments i → MatchIn moments low (i + 1) (sooner first i m)
-one_more moments low i None None from h is = λ j above lt. elim (cases_lt j i) [
-  | inl below ↦ h j above below
-  | inr behind ↦ let same : j ≡ i = omega arith in rw same (sym is)
-]
-one_more moments low i None (Some own) from h is = record {
-  above = from;
-  within = omega arith;
-  is = sym is;
-  first = more moments low i own (λ j above lt. from_none _ own (h j above lt)) (from_some _ own own (sym is) (omega arith));
-  least = λ j above lt. later_none _ own (h j above lt);
-}
-one_more moments low i (Some first) None from h is = record {
-  above = h.above;
-  within = omega (arith, h.within);
-  is = h.is;
-  first = more moments low i first.1 h.first (from_none _ first.1 (sym is));
-  least = h.least;
-}
-one_more moments low i (Some first) (Some own) from h is = elim (nat_lt own first.1) as (λ t. t ≡ nat_lt own first.1 → MatchIn moments low (i + 1) (cond t (Some (i, own)) (Some first))) [
-  | true ↦ λ e.
-      let sooner_is : own < first.1 = grind (arith, nat_tests) in
-      record {
-        above = from;
-        within = omega arith;
-        is = sym is;
-        first = more moments low i own (λ j above lt. weaker _ own first.1 (omega arith) (h.first j above lt)) (from_some _ own own (sym is) (omega arith));
-        least = λ j above lt. later_than _ own first.1 sooner_is (h.first j above lt);
-      }
-  | false ↦ λ e.
-      let later_is : first.1 ≤ own = grind (arith, nat_tests) in
-      record {
-        above = h.above;
-        within = omega (arith, h.within);
-        is = h.is;
-        first = more moments low i first.1 h.first (from_some _ first.1 own (sym is) later_is);
-        least = h.least;
-      }
-] refl
-
--- ---- those of one block behind those before it
-
-both : (moments : List (Option ℕ)) (k l m : ℕ) → ((j : ℕ) → 0 ≤ j → j < k → IfSome (moment_at moments j) (λ own. m ≤ own)) → ((j : ℕ) → k ≤ j → j < l → IfSome (moment_at moments j) (λ own. m ≤ own)) → (j : ℕ) → 0 ≤ j → j < l → IfSome (moment_at moments j) (λ own. m ≤ own)
-both moments k l m before here j from lt = elim (cases_lt j k) [
-  | inl below ↦ before j from below
-  | inr behind ↦ here j behind lt
-]
-
--- the same of those that come before one of the block
-both_later : (moments : List (Option ℕ)) (k l m : ℕ) → ((j : ℕ) → 0 ≤ j → j < k → IfSome (moment_at moments j) (λ own. m < own)) → ((j : ℕ) → k ≤ j → j < l → IfSome (moment_at moments j) (λ own. m < own)) → (j : ℕ) → 0 ≤ j → j < l → IfSome (moment_at moments j) (λ own. m < own)
-both_later moments k l m before here j from lt = elim (cases_lt j k) [
-  | inl below ↦ before j from below
-  | inr behind ↦ here j behind lt
-]
-
-pub join : (moments : List (Option ℕ)) (k l : ℕ) (first other : Option (ℕ × ℕ)) → k ≤ l → MatchIn moments 0 k first → MatchIn moments k l other → MatchIn moments 0 l (earlier first other)
-join moments k l None None le h g = λ j above lt. elim (cases_lt j k) [
-  | inl below ↦ h j above below
-  | inr behind ↦ g j behind lt
-]
-join moments k l (Some first) None le h g = record {
-  above = h.above;
-  within = omega (arith, h.within);
-  is = h.is;
-  first = both moments k l first.1 h.first (λ j above lt. from_none _ first.1 (g j above lt));
-  least = h.least;
-}
-join moments k l None (Some other) le h g = record {
-  above = omega arith;
-  within = g.within;
-  is = g.is;
-  first = both moments k l other.1 (λ j above lt. from_none _ other.1 (h j above lt)) g.first;
-  least = both_later moments k other.0 other.1 (λ j above lt. later_none _ other.1 (h j above lt)) g.least;
-}
-join moments k l (Some first) (Some other) le h g = elim (nat_lt other.1 first.1) as (λ t. t ≡ nat_lt other.1 first.1 → MatchIn moments 0 l (cond t (Some (other.0, other.1)) (Some first))) [
-  | true ↦ λ e.
-      let sooner_is : other.1 < first.1 = grind (arith, nat_tests) in
-      record {
-        above = omega arith;
-        within = g.within;
-        is = g.is;
-        first = both moments k l other.1 (λ j above lt. weaker _ other.1 first.1 (omega arith) (h.first j above lt)) g.first;
-        least = both_later moments k other.0 other.1 (λ j above lt. later_than _ other.1 first.1 sooner_is (h.first j above lt)) g.least;
-      }
-  | false ↦ λ e.
-      let later_is : first.1 ≤ other.1 = grind (arith, nat_tests) in
-      record {
-        above = h.above;
-        within = omega (arith, h.within);
-        is = h.is;
-        first = both moments k l first.1 h.first (λ j above lt. weaker _ first.1 other.1 later_is (g.first j above lt));
-        least = h.least;
-      }
-] refl
 
 -- ---- one of them is put there
 

@@ -12,7 +12,7 @@ use Rattle.offers.specs.Fairness.{Asked, AreAsks, SearchesAreAskedFor}
 use Rattle.offers.specs.Left.{NoSearches}
 use Rattle.offers.specs.Order.{is_search}
 use Rattle.offers.specs.Rules.{Standing, only_of}
-use Rattle.offers.specs.Turns.{AsksFirst, IsMove, IsInTurn, PassesFew, since_ask}
+use Rattle.offers.specs.Turns.{AsksFirst, IsInTurn, PassesFew, since_ask}
 use Rattle.offers.proofs.Asking.{standing_at}
 use Rattle.offers.proofs.Editing.{two_ways}
 
@@ -56,12 +56,6 @@ fair_in_turn b allowed (Some (Move r found to)) h = tt
 fair_in_turn b allowed (Some (Ask r)) h = passes_few b r h.1.1.1
 fair_in_turn b allowed (Some (Read r found replaced)) h = tt
 fair_in_turn b allowed (Some (Refuse r found why)) h = tt
-
-pub fair_move : (b : Standing) (d : Deed) → IsMove d → PassesFew b d
-fair_move b (Move r found to) h = tt
-fair_move b (Ask r) h = absurd h
-fair_move b (Read r found replaced) h = absurd h
-fair_move b (Refuse r found why) h = absurd h
 
 -- ---- over any number of asks
 

@@ -9,10 +9,9 @@ use Rattle.folders.specs.declared.names.FileRequest.{FileRequest}
 use Rattle.offers.specs.declared.marks.Marks.{Marks}
 use Rattle.offers.specs.declared.offer.Offer.{Offer}
 use Rattle.offers.specs.declared.stage.Stage.{Stage}
-use Rattle.offers.specs.Asks.{MatchSoonest}
 use Rattle.offers.specs.Left.{NoMoves}
 use Rattle.offers.specs.Marks.{flag, move_mark, other_mark, ask_mark, AreMarks, IsMarked, HasRoom, RemarksPlace, RemarksNumber}
-use Rattle.offers.specs.Moments.{moment_at, NoneIn, NoneFrom, MatchIn}
+use Rattle.offers.specs.Moments.{moment_at, NoneIn, NoneFrom}
 use Rattle.pace.specs.UnderWay.{with_one, without}
 use Rattle.tape_frames.specs.declared.entry.Entry.{Entry}
 use Rattle.offers.specs.declared.offer.FoundOffer.{FoundOffer}
@@ -54,12 +53,6 @@ flag_some false e h = none_is h
 pub none_move : (b : Standing) (m : Marks) (low high : ℕ) → IsMarked b m → high ≤ length b.files → NoneIn m.moves low high → NoMoves b low high
 none_move b m low high marked le none = λ i d from lt. flag_none _ (sym (marked.moves.is i d (omega arith)) ∙ none i from lt)
 
-fewer : (moments : List (Option ℕ)) (low high end : ℕ) → high ≤ end → NoneIn moments low end → NoneIn moments low high
-fewer moments low high end le none = λ i from lt. none i from (omega arith)
-
-pub no_move_left : (b : Standing) (m : Marks) (low : ℕ) → IsMarked b m → NoneIn m.moves low (length m.moves) → NoMoves b low (length b.files)
-no_move_left b m low marked none = none_move b m low (length b.files) marked (omega arith) (fewer m.moves low (length b.files) (length m.moves) marked.moves.room none)
-
 -- none leaves before the first that is marked
 pub move_before : (b : Standing) (m : Marks) (low i : ℕ) → IsMarked b m → IsSome (moment_at m.moves i) → NoneIn m.moves low i → NoMoves b low i
 move_before b m low i marked some none = let within = inside_some _ b.files m.moves i marked.moves some in none_move b m low i marked (omega arith) none
@@ -70,18 +63,6 @@ is_move b m i marked some none =
     let within = inside_some _ b.files m.moves i marked.moves some in
     let file = standing_at b.files i within in
     flag_some (is_leaving_of b (get_or b.files i file.0)) (none i file.0 (omega arith) (omega arith)) (rw (marked.moves.is i file.0 within) at some)
-
--- the first of the moments is the one of the file whose moment came first
-pub soonest_of : (f : Offer → Option ℕ) (files : List Offer) (marks : List (Option ℕ)) (x : Option (ℕ × ℕ)) → AreMarks f files marks → MatchIn marks 0 (length marks) x → MatchSoonest f files x
-soonest_of f files marks None are h = λ i d lt. sym (are.is i d lt) ∙ h i (omega arith) (omega (arith, are.room))
-soonest_of f files marks (Some first) are h =
-    let within = inside f files marks first.0 first.1 are h.is in
-    record {
-      within = within;
-      is = λ d. sym (are.is first.0 d within) ∙ h.is;
-      first = λ i d lt. rw (sym (are.is i d lt)) (h.first i (omega arith) (omega (arith, are.room)));
-      least = λ i d lt. rw (sym (are.is i d (omega arith))) (h.least i (omega arith) lt);
-    }
 
 pub has_room : (b : Standing) (files : List Offer) (m : Marks) → IsMarked b m → length files ≡ length b.files → HasRoom files m
 has_room b files m marked e = record {

@@ -1,7 +1,6 @@
 -- The places at which files are read or refused: those that are no searches first, then the searches.
-use Rattle.std.proofs.Common.{◌≡◌, ℕ, ◌+◌, ◌*◌, ◌-◌, ◌<◌, ◌≤◌, List, Option, Some, None, IfSome, IsSome, Bool, true, false, length, get_or, ◌&&◌, refl, sym, ◌∙◌, arith}
+use Rattle.std.proofs.Common.{◌≡◌, ℕ, ◌+◌, ◌-◌, ◌<◌, ◌≤◌, List, Option, Some, None, IfSome, IsSome, Bool, true, false, length, get_or, ◌&&◌, refl, sym, ◌∙◌, arith}
 use Rattle.offers.specs.declared.marks.Marks.{Marks}
-use Rattle.offers.specs.declared.offer.Offer.{Offer}
 use Rattle.offers.specs.Left.{NoOthers, IsOtherAt, read_place}
 use Rattle.offers.specs.Marks.{flag, is_among, IsMarked}
 use Rattle.offers.specs.Moments.{moment_at, NoneIn}
@@ -75,19 +74,6 @@ before_entry b m low i marked some none = let within = inside_some _ b.files m.o
 
 -- ---- the searches
 
--- a file stands before the searches, or is one
-searches_go : (b : Standing) (m : Marks) (low high i : ℕ) (d : Offer) (k : Bool) → IsMarked b m → NoOthers b low (length b.files) → NoneIn m.sought (low - length b.files) high → i < length b.files → k ≡ is_search (get_or b.files i d).request.kind → low ≤ read_place (length b.files) i k → read_place (length b.files) i k < length b.files + high → has_other_of b (get_or b.files i d) ≡ false
-searches_go b m low high i d true marked before none within is from lt = no_mark true _ (has_other_of b (get_or b.files i d)) (sym (marked.sought.is i d within) ∙ none i (omega arith) (omega arith)) (sym is)
-searches_go b m low high i d false marked before none within is from lt = before i d within (rw (sym is) from) (rw (sym is) within)
-
-searches_none : (b : Standing) (m : Marks) (low high : ℕ) → IsMarked b m → NoOthers b low (length b.files) → NoneIn m.sought (low - length b.files) high → NoOthers b low (length b.files + high)
-searches_none b m low high marked before none = λ i d within from lt. searches_go b m low high i d _ marked before none within refl from lt
-
-pub no_search_left : (b : Standing) (m : Marks) (low : ℕ) → IsMarked b m → NoOthers b low (length b.files) → NoneIn m.sought (low - length b.files) (length m.sought) → NoOthers b low (2 * length b.files)
-no_search_left b m low marked before none =
-    let all = searches_none b m low (length b.files) marked before (fewer m.sought (low - length b.files) (length b.files) (length m.sought) marked.sought.room none) in
-    λ i d within from lt. all i d within from (omega arith)
-
 pub search_at : (b : Standing) (m : Marks) (i : ℕ) → IsMarked b m → IsSome (moment_at m.sought i) → IsOtherAt b (length b.files + i) i
 search_at b m i marked some =
     let within = inside_some _ b.files m.sought i marked.sought some in
@@ -110,11 +96,3 @@ found_before_entry b m (Some i) marked some none = before_entry b m b.others i m
 pub found_search : (b : Standing) (m : Marks) (x : Option ℕ) → IsMarked b m → IfSome x (λ i. (b.others - length b.files ≤ i) × (i < length m.sought) × IsSome (moment_at m.sought i)) → IfSome x (λ i. IsOtherAt b (length b.files + i) i)
 found_search b m None marked some = tt
 found_search b m (Some i) marked some = search_at b m i marked some.2
-
-pub found_search_from : (b : Standing) (m : Marks) (x : Option ℕ) → IfSome x (λ i. (b.others - length b.files ≤ i) × (i < length m.sought) × IsSome (moment_at m.sought i)) → IfSome x (λ i. b.others ≤ length b.files + i)
-found_search_from b m None some = tt
-found_search_from b m (Some i) some = omega (arith, some.0)
-
-pub found_before_search : (b : Standing) (m : Marks) (x : Option ℕ) → IsMarked b m → NoOthers b b.others (length b.files) → IfSome x (λ i. NoneIn m.sought (b.others - length b.files) i) → IfSome x (λ i. NoOthers b b.others (length b.files + i))
-found_before_search b m None marked before none = tt
-found_before_search b m (Some i) marked before none = searches_none b m b.others i marked before none
