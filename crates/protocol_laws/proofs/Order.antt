@@ -28,9 +28,6 @@ same_where a b h k = grind (arith, nat_tests)
 pub same_after : (w v b : Ballot) → is_below b w ≡ false → is_below b v ≡ false → is_same (cond (is_below w v) v w) b ≡ is_same w b || is_same v b
 same_after w v b h k = grind (arith, nat_tests)
 
-pub not_above_later : (w v b : Ballot) → is_below b w ≡ false → is_below b v ≡ false → is_below b (cond (is_below w v) v w) ≡ false
-not_above_later w v b h k = grind (arith, nat_tests)
-
 pub below_where : (w b : Ballot) → is_below b w ≡ false → is_same w b ≡ false → is_below w b ≡ true
 below_where w b h k = grind (arith, nat_tests)
 

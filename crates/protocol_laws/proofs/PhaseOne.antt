@@ -1,6 +1,6 @@
 -- From a ballot that is begun to an entry that is proposed at it, and on: each member of the majority gets the Prepare and promises, and the proposer gets the Promise.
 use Rattle.std.proofs.Common.{◌≡◌, ℕ, ◌*◌, ◌<◌, ◌≤◌, ◌⊎◌, inl, inr, refl, sym, ap, subst, ◌∙◌, arith, List, [], ◌∷◌, Option, Some, None, Bool, true, false}
-use Rattle.std.specs.Prelude.{◌==◌, ◌||◌, count_by, filter_map}
+use Rattle.std.specs.Prelude.{◌==◌, count_by, filter_map}
 use Rattle.std.proofs.lemmas.Bool.{eqb-true, eq-eqb, le-ltb}
 use Rattle.protocol.specs.Limits.{is_number}
 use Rattle.protocol.specs.Lists.{IsAmong}
@@ -73,10 +73,6 @@ pub record Lower (b : Ballot) (row : Row) : Type 0 where
 -- a row that was promised to b may still vote at b
 promised_free : (b : Ballot) (row : Row) → Free b row → Free b (raised row b)
 promised_free b row f = record { unpromised = irrefl b; unvoted = f.unvoted }
-
-or_left : (p q : Bool) → (p || q) ≡ false → p ≡ false
-or_left true q e = e
-or_left false q e = refl
 
 -- who is counted with one promise more
 module _ (n m k : ℕ) (b : Ballot) (report : Option Vote) (o : Opening) (at : o.ballot ≡ b) (since : List Mark) where

@@ -6,7 +6,7 @@ use Rattle.protocol.specs.Rows.{Vote, Row, voted}
 use Rattle.protocol.specs.Packets.{Packet, Accept, Accepted}
 use Rattle.protocol.specs.Marks.{Mark, Began, Promised, Proposed, Closed}
 use Rattle.protocol.specs.Lists.{IsAmong}
-use Rattle.protocol.specs.Readings.{Gathers, IsCounted, Picks, the_reported, the_own}
+use Rattle.protocol.specs.Readings.{IsCounted, Picks, the_reported, the_own}
 use Rattle.protocol.specs.Turn.{Turn, stays, packet_to, to_others, others}
 use Rattle.protocol.specs.Table.{VotedAt, Proposes, nothing, proposes}
 use Rattle.protocol.specs.Circuit.{with_at}
@@ -42,9 +42,6 @@ pub record Opened (ms : List Mark) (n : ℕ) (b : Ballot) (own : Option Entry) (
   pub before : List Mark
   pub began : ms ≡ since ++ Began n b own report now ∷ before
   pub unproposed : NotProposed since n b
-
-pub opened : {ms : List Mark} {n : ℕ} {b : Ballot} {own : Option Entry} {report : Option Vote} {since : List Mark} → Gathers ms n b own report since → Opened ms n b own report since
-opened g = record { now = g.is_open.now; before = g.is_open.before; began = g.is_open.began; unproposed = g.unproposed }
 
 began_holds :
     {z : Setting} {V : Votes} {row : Row} {ms : List Mark} {n : ℕ} {b : Ballot} {own : Option Entry} {report : Option Vote} {since : List Mark}

@@ -7,7 +7,7 @@ use Rattle.protocol.specs.Rows.{Vote, Row, raised}
 use Rattle.protocol.specs.Packets.{Packet}
 use Rattle.protocol.specs.Marks.{Mark, Began, Heard, Released}
 use Rattle.protocol.specs.Lists.{IsAmong}
-use Rattle.protocol.specs.Readings.{Gathers, Latest, Ripe}
+use Rattle.protocol.specs.Readings.{Latest, Ripe}
 use Rattle.protocol.specs.Table.{Hears, was_settled, waits, releases}
 use Rattle.protocol.specs.Circuit.{Offer, with_at, saved}
 use Rattle.protocol_laws.proofs.Below.{at_most_trans, at_most_below, not_both, at_most_refl}
@@ -75,12 +75,6 @@ row_last {z = z} {row = row} b t h v = let l = h.sound.last z.seat.me z.number b
 
 pub marks_hold : {z : Setting} {V : Votes} {row : Row} {ms : List Mark} (x : Mark) → At z V row ms → IsAmong ms x → MarkHolds V (rows_with z row) z.offers z.seat.me x
 marks_hold {z = z} {ms = ms} x h i = h.sound.marked z.seat.me x (subst (λ (l : List Mark). IsAmong l x) (sym (with_at-same z.marks z.seat.me ms)) i)
-
-pub gather_unvoted :
-    {z : Setting} {V : Votes} {row : Row} {ms : List Mark} {n : ℕ} {b : Ballot} {own : Option Entry} {report : Option Vote} {since : List Mark}
-    → At z V row ms → Gathers ms n b own report since → NoVote V z.seat.me n b
-gather_unvoted {z = z} {ms = ms} {n = n} {b = b} {own = own} {report = report} {since = since} h g =
-    (h.sound.gathering z.seat.me).unvoted n b own report g.is_open.now since g.is_open.before (with_at-same z.marks z.seat.me ms ∙ g.is_open.began) g.unproposed
 
 -- all votes of one number and ballot carry one entry
 pub one_entry : {z : Setting} {V : Votes} {row : Row} {ms : List Mark} (k j n : ℕ) (b : Ballot) (t u : Entry) → At z V row ms → V k n b t → V j n b u → t ≡ u
