@@ -2,7 +2,7 @@
 use Rattle.std.proofs.Common.{◌≡◌, ℕ, ◌+◌, ◌-◌, ◌<◌, ◌≤◌, ◌⊎◌, List, [], ◌∷◌, ◌++◌, length, get_or, refl, inl, inr, arith}
 use Rattle.std.proofs.lemmas.Bool.{cases_lt}
 use Rattle.reel.specs.declared.piece.RollPiece.{RollPiece}
-use Rattle.reel.specs.Pieces.{IsGap, InGap, InPiece, AreApart, IsCut}
+use Rattle.reel.specs.Pieces.{IsGap, InGap, InPiece, AreApart}
 
 -- the place behind pieces at which the next may begin
 abbrev pub end_of : ℕ → List RollPiece → ℕ
@@ -161,44 +161,4 @@ cut_same least frames pieces place to end c inside f le = record {
         | inr behind ↦ inr (behind_to least frames place to end at f (omega (arith, behind, le)) h)
       ];
   clean = c.clean;
-}
-
--- nothing is cut before the first place
-pub cut_none : (least : ℕ) (frames : List ℕ) → CutBefore least frames [] 0
-cut_none least frames = record {
-  high = omega arith;
-  start = inl refl;
-  apart = tt;
-  ends = λ h. omega arith;
-  within = λ at h. absurd h;
-  kept = λ at h. absurd (omega (arith, h));
-  clean = λ at h gap. h;
-}
-
--- all is cut before the end
-pub cut_all : (least : ℕ) (frames : List ℕ) (pieces : List RollPiece) (place : ℕ) → CutBefore least frames pieces place → length frames ≤ place → IsCut least frames pieces
-cut_all least frames pieces place c le =
-    let same : place ≡ length frames = omega (arith, c.high, le) in
-    record {
-      apart = c.apart;
-      within = λ at h. omega (arith, c.within at h, same);
-      kept = λ at h. c.kept at (omega (arith, h, same));
-      clean = c.clean;
-    }
-
--- a roll without gaps is one piece
-pub one_piece : (frames : List ℕ) (piece : RollPiece) → piece.from ≡ 0 → piece.to ≡ length frames → 0 < length frames → IsCut 0 frames (piece ∷ [])
-one_piece frames piece from_is to_is some = record {
-  apart = (omega arith, omega (arith, from_is, to_is, some), tt);
-  within = λ at h. elim h [ inl in_it ↦ omega (arith, in_it.1, to_is) | inr none ↦ absurd none ];
-  kept = λ at h. inl (inl (omega (arith, from_is), omega (arith, to_is, h)));
-  clean = λ at h gap. absurd (omega (arith, gap.reaches, gap.behind));
-}
-
-pub no_piece : (frames : List ℕ) → length frames ≡ 0 → IsCut 0 frames []
-no_piece frames none = record {
-  apart = tt;
-  within = λ at h. absurd h;
-  kept = λ at h. absurd (omega (arith, h, none));
-  clean = λ at h gap. h;
 }
