@@ -1,9 +1,9 @@
 -- Bits, as they are set, tested and counted.
-use Rattle.std.proofs.Common.{◌≡◌, ◌≢◌, ℕ, zero, suc, ◌+◌, ◌*◌, ◌/◌, ◌%◌, ◌^◌, ◌<◌, ◌≤◌, Bool, true, false, not, cond, eqb, leb, ◌&&◌, List, [], ◌∷◌, ◌++◌, length, get_or, refl, sym, ap, subst, ◌∙◌, inl, inr, arith, w8}
+use Rattle.std.proofs.Common.{◌≡◌, ◌≢◌, ℕ, zero, suc, ◌+◌, ◌*◌, ◌/◌, ◌%◌, ◌^◌, ◌<◌, ◌≤◌, Bool, true, false, not, cond, eqb, leb, ◌&&◌, List, [], ◌∷◌, length, get_or, refl, sym, ap, subst, ◌∙◌, inl, inr, arith, w8}
 use Rattle.std.specs.Prelude.{drop, slice_index, bit_or, ◌-◌}
 use Rattle.std.specs.Int.{bit_at}
 use Rattle.std.proofs.lemmas.Bool.{cases_eq, cases_lt, eq-eqb, eqb-true, ne_eqb, eqb-false, le-leb, lt-leb, not-true}
-use Rattle.std.proofs.lemmas.List.{get_or-drop, get_or_past, get_or_append_left, get_or-append_right}
+use Rattle.std.proofs.lemmas.List.{get_or-drop, get_or_past}
 use Rattle.std.proofs.lemmas.Nat.Bits.{bit_at_set_same, bit_at_set_other, bit_at-zero, bit_at-lt, bit_at_or, same_from_bits_below}
 use Rattle.protocol.specs.Limits.{is_number}
 use Rattle.packets.specs.Grammar.{IsBytes}
@@ -29,30 +29,6 @@ bit_other byte k r true j h other is = rw is (bit_at_set_other w8 byte k h j oth
 bit_other byte k r false j h other is =
     let e : bit_at (bit_or byte 0) j ≡ bit_at byte j = bit_at_or byte 0 j ∙ (rw bit_at-zero (omega arith)) in
     rw is (ap (λ (x : ℕ). bit_at x j) (none_more byte k) ∙ e)
-
--- the bits of bytes with one byte more
-pub bits_more :
-    (bytes : List ℕ) (byte at place : ℕ) → length bytes ≡ at → 8 * at ≤ place → place < 8 * (at + 1)
-    → bit_of (bytes ++ byte ∷ []) place ≡ eqb (bit_at byte (place % 8)) 1
-bits_more bytes byte at place len low high =
-    let here : place / 8 ≡ at = omega (arith, low, high) in
-    let none : at - at ≡ 0 = omega arith in
-    let read : get_or (bytes ++ byte ∷ []) (place / 8) 0 ≡ byte =
-    ap (λ (i : ℕ). get_or (bytes ++ byte ∷ []) i 0) here ∙ get_or-append_right bytes (byte ∷ []) at at 0 len (omega arith)
-    ∙ ap (λ (i : ℕ). get_or (byte ∷ []) i 0) none in
-    ap (λ (x : ℕ). eqb (bit_at x (place % 8)) 1) read
-
-pub bits_before :
-    (bytes : List ℕ) (byte at place : ℕ) → length bytes ≡ at → place < 8 * at → bit_of (bytes ++ byte ∷ []) place ≡ bit_of bytes place
-bits_before bytes byte at place len low =
-    let here : place / 8 < length bytes = omega (arith, low, len) in
-    ap (λ (x : ℕ). eqb (bit_at x (place % 8)) 1) (get_or_append_left bytes (byte ∷ []) 0 (place / 8) here)
-
-pub small_more : (bytes : List ℕ) (byte at : ℕ) → length bytes ≡ at → IsBytes bytes → byte < 256 → IsBytes (bytes ++ byte ∷ [])
-small_more [] byte at len small low zero = low
-small_more [] byte at len small low (suc i) = omega arith
-small_more (b ∷ bytes) byte at len small low zero = small 0
-small_more (b ∷ bytes) byte at len small low (suc i) = small_more bytes byte (length bytes) refl (λ j. small (suc j)) low i
 
 -- which are numbers
 number_is : (n : ℕ) → 1 ≤ n → n ≤ 999999 → is_number n ≡ true

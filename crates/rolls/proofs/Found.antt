@@ -179,11 +179,6 @@ asked_page_found bytes page len e =
     subst (λ (p : ℕ). (bytes ≡ p ∷ replicate 4 0) × (p < 123)) (ok_same _ refl e4)
     (parts.0 ∙ (λ i. first.0 i ∷ pad i), first.1)
 
--- a front of what fits fits
-fit_behind : (bytes : List ℕ) → IsBytes bytes → IsBytes (drop 1 bytes)
-fit_behind [] fit i = fit i
-fit_behind (b ∷ bytes) fit i = fit (suc i)
-
 -- what a body was read from
 record Told (k : RollKind) (bytes : List ℕ) (b : Body) : Type 0 where
   kind : kind_of b ≡ k
