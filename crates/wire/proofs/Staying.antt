@@ -1,6 +1,6 @@
 -- What waits stays such as was let in.
 use Rattle.std.proofs.Common.{◌≡◌, ℕ, ◌+◌, ◌-◌, inl, inr, Bool, true, false, List, [], length, drop, get_or, set, replicate, sym, ap, subst, arith}
-use Rattle.std.specs.Prelude.{Option, Result, Ok, Err, IfOk, Some, None, MatchOption}
+use Rattle.std.specs.Prelude.{Option, Some, None, MatchOption}
 use Rattle.std.specs.List.{All}
 use Rattle.std.specs.declared.net.socket_addr.SocketAddr.{SocketAddr}
 use Rattle.std.proofs.lemmas.Bool.{cases_lt, cases_eq}
@@ -118,10 +118,6 @@ stays_passes A B w v more stays came = record {
   came = came;
 }
 
--- where none waits, all that wait were let in
-pub none_is_clean : (Is : Incoming → Type 0) (w : WaitingValue) → NoneWaits w → AllWait Is w
-none_is_clean Is w none = λ place. subst (All Is) (sym (none place)) (λ k d lt. absurd (omega arith))
-
 -- what a door brings of a datagram that came was let in
 pub brought_in : (came : SocketAddr → List ℕ → Type 0) (brings : SocketAddr → List ℕ → Incoming → Type 0) (sender : SocketAddr) (bytes : List ℕ) (b : Brought)
     → came sender bytes → BringsOnly (brings sender bytes) b → BringsOnly (LetIn came brings) b
@@ -134,11 +130,6 @@ brought_in came brings sender bytes (brought.Refused reason) it is = tt
 pub let_in_alike : (came : SocketAddr → List ℕ → Type 0) (brings brings' : SocketAddr → List ℕ → Incoming → Type 0) → BringsAlike brings brings' → Alike (LetIn came brings) (LetIn came brings')
 let_in_alike came brings brings' same = λ d.
     (λ it. (it.0, it.1, it.2, (same it.0 it.1 d).0 it.3), λ it. (it.0, it.1, it.2, (same it.0 it.1 d).1 it.3))
-
--- what holds of a good end by two facts of it
-pub if_ok_both : {A E : Type 0} (P Q R : A → Type 0) (r : Result A E) → ((a : A) → P a → Q a → R a) → IfOk r P → IfOk r Q → IfOk r R
-if_ok_both P Q R (Ok a) both p q = both a p q
-if_ok_both P Q R (Err e) both p q = tt
 
 -- what a plain door lets in
 pub admits_packet : (own : ℕ) (stations : List Address) (sender : SocketAddr) (member : ℕ) (bytes : List ℕ) (b : Brought) → IsFrom own stations sender member bytes
