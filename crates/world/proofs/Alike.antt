@@ -68,11 +68,6 @@ module _ {D F G H : Type 0} (a : Setup D G F) (b : Setup D H F) (seat : a.seat �
 some_none : {A : Type 0} {a : A} → Some a ≡ None → ⊥
 some_none e = cc
 
--- where nothing refuses a call, nothing refused it early
-pub unrefused_early : {A : Type 0} (x y : Option A) → or_else x y ≡ None → x ≡ None
-unrefused_early None y e = refl
-unrefused_early (Some a) y e = absurd (some_none e)
-
 -- a station that refuses nothing has not stopped
 pub unstopped : {D F G : Type 0} (a : Setup D G F) (stopped : Bool) (marks : List Mark) (call : Call) → refusal a stopped marks call ≡ None → stopped ≡ false
 unstopped a false marks call e = refl

@@ -124,10 +124,6 @@ at_none version v i q at_i = absurd (no_item at_i)
 pub given_more : {R : Type 0} (parts : List (Part R)) (part : Part R) (members : List Given) → map given_of parts ≡ members → map given_of (parts ++ part ∷ []) ≡ members ++ given_of part ∷ []
 given_more parts part members e = map-append given_of parts (part ∷ []) ∙ ap (λ (ms : List Given). ms ++ given_of part ∷ []) e
 
--- rows that were just made, and that nobody can spoil, are blank
-pub newly_is_blank : {R : Type 0} (g : Ghosts R) → ((s : R) → g.made s → g.kept s) → (parts : List (Part R)) → AreNewlyMade g parts → AreBlank g.is_open g.saved parts
-newly_is_blank g keeps parts new i part at_i = let its = new i part at_i in its.1 (keeps part.2 its.0)
-
 get_is : {X : Type 0} (xs : List X) (i : ℕ) (d x : X) → slice_get xs i ≡ Some x → get_or xs i d ≡ x
 get_is [] i d x e = absurd (no_item e)
 get_is (y ∷ ys) zero d x e = some_is e
