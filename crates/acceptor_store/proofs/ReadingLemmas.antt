@@ -168,14 +168,14 @@ module _ (rise : Rise) (listed : Listed) (layout : Layout) (s : State) (are : Is
 
 module _ {V : Type 0} (rise : Rise) (listed : Listed) (saw : V → V → List (ℕ × Row) → Type 0) (layout : Layout) (s : State) (old new : RowReader V) (fresh : old.fault ≡ None) (same_layout : old.layout ≡ layout) where
   -- the one leads to the other by the rows of a listing
-  abbrev pub Took : List Columns → Type 0
-  Took rows = (old.visitor.ghost_name ≡ new.visitor.ghost_name) × (new.layout ≡ old.layout) × (old.fault ≡ None → HasSeen saw old.layout new.fault old.visitor.now new.visitor.now rows)
+  abbrev pub Leads : List Columns → Type 0
+  Leads rows = (old.visitor.ghost_name ≡ new.visitor.ghost_name) × (new.layout ≡ old.layout) × (old.fault ≡ None → HasSeen saw old.layout new.fault old.visitor.now new.visitor.now rows)
 
-  seen_of : (rows : List Columns) → Took rows → HasSeen saw layout new.fault old.visitor.now new.visitor.now rows
-  seen_of rows took = subst (λ (l : Layout). HasSeen saw l new.fault old.visitor.now new.visitor.now rows) same_layout (took.2 fresh)
+  seen_of : (rows : List Columns) → Leads rows → HasSeen saw layout new.fault old.visitor.now new.visitor.now rows
+  seen_of rows leads = subst (λ (l : Layout). HasSeen saw l new.fault old.visitor.now new.visitor.now rows) same_layout (leads.2 fresh)
 
   module _ (are : IsTrue s.is_open → AreRows (s.now.trees (layout_tree layout))) (sound : IsTrue s.is_open → AreSound layout (s.now.trees (layout_tree layout)))
-      (first : (new ≡ old) ⊎ ((rows : List Columns) × ListsFirst layout s rows × Took rows)) where
+      (first : (new ≡ old) ⊎ ((rows : List Columns) × ListsFirst layout s rows × Leads rows)) where
     pub front_read : SeesFront saw old.visitor.now new.visitor.now (saved_in layout s.now.trees)
     front_read = elim first [
       | inl same ↦ inl (ap (λ (r : RowReader V). r.visitor.now) same)
@@ -190,7 +190,7 @@ module _ {V : Type 0} (rise : Rise) (listed : Listed) (saw : V → V → List (�
     ]
 
   module _ (are : AreRows (s.now.trees (layout_tree layout))) (sound : AreSound layout (s.now.trees (layout_tree layout))) where
-    whole_read : new.fault ≡ None → Lists layout s.now.trees Took → SeesAll saw old.visitor.now new.visitor.now (saved_in layout s.now.trees)
+    whole_read : new.fault ≡ None → Lists layout s.now.trees Leads → SeesAll saw old.visitor.now new.visitor.now (saved_in layout s.now.trees)
     whole_read none h =
         let seen = seen_of h.0 h.2 in
         let whole : h.0 ≡ seen.seen = seen.are ∙ ap (λ l. seen.seen ++ l) (seen.all none) ∙ append-nil seen.seen in (
@@ -199,7 +199,7 @@ module _ {V : Type 0} (rise : Rise) (listed : Listed) (saw : V → V → List (�
           seen.saw_them,
         )
 
-    pub all_read : (all : Bool) → (IsTrue all → Lists layout s.now.trees Took) → (r : Result Bool RowsFault) → IfOk r (λ of_all. (new.fault ≡ None) × (of_all ≡ all))
+    pub all_read : (all : Bool) → (IsTrue all → Lists layout s.now.trees Leads) → (r : Result Bool RowsFault) → IfOk r (λ of_all. (new.fault ≡ None) × (of_all ≡ all))
         → IfOk r (λ of_all. IsTrue of_all → SeesAll saw old.visitor.now new.visitor.now (saved_in layout s.now.trees))
     all_read all lists (Ok of_all) h = λ sure. whole_read h.0 (lists (subst IsTrue h.1 sure))
     all_read all lists (Err f) h = tt

@@ -12,7 +12,7 @@ use crate::columns::{damage_of, item_in};
 use crate::statements::fault_of;
 use ballots::{Number, Row};
 use rows_saved::RowsFault;
-use rows_table::{Layout, Taker, number_above, rising_is_listed, rows_rise, visit_rows};
+use rows_table::{Layout, TableVisitor, number_above, rising_is_listed, rows_rise, visit_rows};
 use sqlite::{Alter, Connection};
 use std::alloc::Global;
 
@@ -68,13 +68,13 @@ struct RowReader<'a, V: RowVisitor> {
     fault: Option<RowsFault>,
 }
 
-impl<V: RowVisitor> Taker for RowReader<'_, V> {
-    ghost took = { λ old new rows. (old.visitor.ghost_name ≡ new.visitor.ghost_name) × (new.layout ≡ old.layout)
+impl<V: RowVisitor> TableVisitor for RowReader<'_, V> {
+    ghost saw = { λ old new rows. (old.visitor.ghost_name ≡ new.visitor.ghost_name) × (new.layout ≡ old.layout)
         × (old.fault ≡ None → HasSeen V.saw old.layout new.fault old.visitor.now new.visitor.now rows) };
 
     ghost has_enough = { λ it. IsSome it.fault ⊎ V.has_enough it.visitor.now };
 
-    fn take(&mut self, columns: &sqlite::Row) -> bool {
+    fn see(&mut self, columns: &sqlite::Row) -> bool {
         if self.fault.is_some() {
             return false;
         }
@@ -90,7 +90,7 @@ impl<V: RowVisitor> Taker for RowReader<'_, V> {
         }
     }
 
-    ghost took_none = { λ it. (
+    ghost saw_none = { λ it. (
       refl,
       refl,
       λ none. record {

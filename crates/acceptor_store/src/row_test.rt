@@ -7,7 +7,7 @@ ghost use Rattle.acceptor_store.specs.Testing.{begun, LeadsTo, PassesSoundRows, 
 
 use crate::columns::damage_of;
 use rows_saved::RowsFault;
-use rows_table::{Layout, Taker, number_above, rising_is_listed};
+use rows_table::{Layout, TableVisitor, number_above, rising_is_listed};
 use sqlite::Row;
 
 /// What was found in the rows of a listing up to here.
@@ -73,17 +73,17 @@ impl RowTest {
     }
 }
 
-impl Taker for RowTest {
-    ghost took = { LeadsTo };
+impl TableVisitor for RowTest {
+    ghost saw = { LeadsTo };
 
     // A damaged row may still come, so it wants every row.
     ghost has_enough = { λ _. ⊥ };
 
-    fn take(&mut self, row: &Row) -> bool {
+    fn see(&mut self, row: &Row) -> bool {
         self.see_damage(row);
         self.see_number(row);
         true
     }
 
-    ghost took_none = { λ _. record { layout = refl; damage = λ _. refl; rises = λ _. refl } };
+    ghost saw_none = { λ _. record { layout = refl; damage = λ _. refl; rises = λ _. refl } };
 }

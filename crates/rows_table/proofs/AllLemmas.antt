@@ -63,11 +63,11 @@ lists_first layout s rows schema h =
     subst (λ k. EndsIn k db (timed [] c.formats it.now)) (sym command) tt) in
     (h.0, whole.0, lists layout s s (rows ++ whole.0) schema whole.1)
 
--- what was taken of an answer was taken of the listing
-pub took_first : {T : Type 0} (took : T → T → List Row → Type 0) (was now : T) (layout : Layout) (s : State) → (IsTrue s.is_open → s.now.schema ≡ layout_schema layout)
-    → (now ≡ was) ⊎ ((rows : List Row) × HasGivenFirst (all_text layout) s rows × took was now rows) → (now ≡ was) ⊎ ((rows : List Row) × ListsFirst layout s rows × took was now rows)
-took_first took was now layout s schema (inl same) = inl same
-took_first took was now layout s schema (inr h) = inr (h.0, lists_first layout s h.0 (schema h.1.0) h.1, h.2)
+-- what was seen of an answer was seen of the listing
+pub saw_first : {T : Type 0} (saw : T → T → List Row → Type 0) (was now : T) (layout : Layout) (s : State) → (IsTrue s.is_open → s.now.schema ≡ layout_schema layout)
+    → (now ≡ was) ⊎ ((rows : List Row) × HasGivenFirst (all_text layout) s rows × saw was now rows) → (now ≡ was) ⊎ ((rows : List Row) × ListsFirst layout s rows × saw was now rows)
+saw_first saw was now layout s schema (inl same) = inl same
+saw_first saw was now layout s schema (inr h) = inr (h.0, lists_first layout s h.0 (schema h.1.0) h.1, h.2)
 
 -- what holds of an answer
 pub mapped : {V E : Type 0} {P Q : V → Type 0} → ((v : V) → P v → Q v) → (r : Result V E) → IfOk r P → IfOk r Q

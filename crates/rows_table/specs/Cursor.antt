@@ -33,24 +33,24 @@ ReadsWithoutChange sql result old new = HasCleanDisk new → OnlyReads old sql �
 abbrev pub WritesNothingWhereRefused : {A E : Type 0} → List ℕ → Result A E → State → State → Type 0
 WritesNothingWhereRefused sql result old new = HasCleanDisk new → OnlyReads old sql → OnErr result (WritesNothing old new)
 
--- of a text that only reads, where these were all, the taker has had the rows that the query shows
-abbrev pub TakesAllShown : {T E : Type 0} → (T → T → List Row → Type 0) → T → T → List ℕ → Result Bool E → State → State → Type 0
-TakesAllShown took was now sql result old new =
-    HasCleanDisk new → OnlyReads old sql → IfOk result (λ all. IsTrue all → (rows : List Row) × Shown sql [] old new rows × took was now rows)
+-- of a text that only reads, where these were all, the visitor has seen the rows that the query shows
+abbrev pub SeesAllShown : {T E : Type 0} → (T → T → List Row → Type 0) → T → T → List ℕ → Result Bool E → State → State → Type 0
+SeesAllShown saw was now sql result old new =
+    HasCleanDisk new → OnlyReads old sql → IfOk result (λ all. IsTrue all → (rows : List Row) × Shown sql [] old new rows × saw was now rows)
 
--- and however it ends, the taker is as it was, or has had the first of them
-abbrev pub TakesFirstGiven : {T : Type 0} → (T → T → List Row → Type 0) → T → T → List ℕ → State → State → Type 0
-TakesFirstGiven took was now sql old new =
-    HasCleanDisk new → OnlyReads old sql → (now ≡ was) ⊎ ((rows : List Row) × HasGivenFirst sql old rows × took was now rows)
+-- and however it ends, the visitor is as it was, or has seen the first of them
+abbrev pub SeesFirstGiven : {T : Type 0} → (T → T → List Row → Type 0) → T → T → List ℕ → State → State → Type 0
+SeesFirstGiven saw was now sql old new =
+    HasCleanDisk new → OnlyReads old sql → (now ≡ was) ⊎ ((rows : List Row) × HasGivenFirst sql old rows × saw was now rows)
 
--- of a connection on the tables of the layout, where these were all, the taker has had the listing of its rows
-abbrev pub TakesListing : {T E : Type 0} → Layout → (T → T → List Row → Type 0) → T → T → Result Bool E → State → State → Type 0
-TakesListing layout took was now result old new =
+-- of a connection on the tables of the layout, where these were all, the visitor has seen the listing of its rows
+abbrev pub SeesListing : {T E : Type 0} → Layout → (T → T → List Row → Type 0) → T → T → Result Bool E → State → State → Type 0
+SeesListing layout saw was now result old new =
     HasCleanDisk new → old.now.schema ≡ layout_schema layout
-    → IfOk result (λ all. IsTrue all → (rows : List Row) × IsListing layout (old.now.trees (layout_tree layout)) rows × took was now rows)
+    → IfOk result (λ all. IsTrue all → (rows : List Row) × IsListing layout (old.now.trees (layout_tree layout)) rows × saw was now rows)
 
--- and however it ends, the taker is as it was, or has had the first of them
-abbrev pub TakesFirstListed : {T : Type 0} → Layout → (T → T → List Row → Type 0) → T → T → State → State → Type 0
-TakesFirstListed layout took was now old new =
+-- and however it ends, the visitor is as it was, or has seen the first of them
+abbrev pub SeesFirstListed : {T : Type 0} → Layout → (T → T → List Row → Type 0) → T → T → State → State → Type 0
+SeesFirstListed layout saw was now old new =
     HasCleanDisk new → (IsTrue old.is_open → old.now.schema ≡ layout_schema layout)
-    → (now ≡ was) ⊎ ((rows : List Row) × ListsFirst layout old rows × took was now rows)
+    → (now ≡ was) ⊎ ((rows : List Row) × ListsFirst layout old rows × saw was now rows)

@@ -8,7 +8,7 @@ use Rattle.sqlite.specs.State.{State, HasCleanDisk}
 use Rattle.rows_table.specs.Tables.{Layout, layout_schema, layout_tree, station_tree}
 use Rattle.rows_table.specs.Rows.{IsListing, Serves, columns_at}
 use Rattle.rows_table.specs.Station.{station_columns}
-use Rattle.rows_table.specs.Cursor.{TakesFirstListed, TakesListing}
+use Rattle.rows_table.specs.Cursor.{SeesFirstListed, SeesListing}
 use Rattle.rows_table.specs.Keeping.{BeginsToServe, ChangesNothing, CrashesAsBefore, LeavesAsBefore, ShowsTables, StaysAtRest, StaysKept, StaysOpen}
 
 -- what a reading leaves of a connection that serves
@@ -46,15 +46,15 @@ pub record ListsRows {E : Type 0} (layout : Layout) (result : Result (Vec Row Gl
   pub listed : HasCleanDisk new → old.now.schema ≡ layout_schema layout → IfOk result (λ rows. IsListing layout (old.now.trees (layout_tree layout)) rows.items)
   pub reads : ReadsTable layout result old new
 
--- the taker has had all rows, or the first of them where it has enough or the reading is refused
-pub record HandsRows {T E : Type 0} (layout : Layout) (took : T → T → List Row → Type 0) (has_enough : T → Type 0) (was now : T) (result : Result Bool E) (old new : State) : Type 0 where
-  pub listed : TakesListing layout took was now result old new
+-- the visitor has seen all rows, or the first of them where it has enough or the reading is refused
+pub record HandsRows {T E : Type 0} (layout : Layout) (saw : T → T → List Row → Type 0) (has_enough : T → Type 0) (was now : T) (result : Result Bool E) (old new : State) : Type 0 where
+  pub listed : SeesListing layout saw was now result old new
   -- where these were not all, it wanted no more
   pub enough : IfOk result (λ all. all ≡ false → has_enough now)
-  -- however it ends, the taker has had the first of them, or is as it was
-  pub front : TakesFirstListed layout took was now old new
-  -- it has had some rows, and nothing else
-  pub only : (rows : List Row) × took was now rows
+  -- however it ends, the visitor has seen the first of them, or is as it was
+  pub front : SeesFirstListed layout saw was now old new
+  -- it has seen some rows, and nothing else
+  pub only : (rows : List Row) × saw was now rows
   pub reads : ReadsTable layout result old new
 
 -- of a connection on the tables of any layout, an Ok has what each row of the station's table shows

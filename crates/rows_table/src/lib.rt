@@ -12,7 +12,7 @@ mod station;
 mod tables;
 mod upgrade;
 
-pub use cursor::Taker;
+pub use cursor::TableVisitor;
 pub use entry_table::{EntryColumns, add_entries, add_entry, make_entry_table};
 pub use layout::{Layout, LayoutOrigin};
 pub use puts::{RowColumns, put_entry, put_row};

@@ -3,7 +3,7 @@
 ghost use Rattle.sqlite.specs.Held.{state};
 ghost use Rattle.rows_table.specs.Reading.{FindsRow, HandsRows, ListsRows};
 
-use crate::cursor::{Taker, each_row};
+use crate::cursor::{TableVisitor, each_row};
 use crate::layout::{Layout, all_text, get_text};
 use sqlite::{Alter, Connection, Error, Row, params};
 
@@ -29,16 +29,16 @@ pub fn all_rows<S: Alter>(conn: &mut Connection<S>, layout: Layout) -> Result<Ve
     conn.query_all(all_text(layout), &[])
 }
 
-/// Hands all rows to a taker, one by one, each with its number first, by their numbers, and answers whether these were all of them.
+/// Shows all rows to a visitor, one by one, each with its number first, by their numbers, and answers whether these were all of them.
 ///
-/// They are not all where the taker wanted no more. An error comes where the database refuses the statement, as in `get_row`;
-/// the taker may have had rows by then.
-pub fn visit_rows<S: Alter, T: Taker>(
+/// They are not all where the visitor wanted no more. An error comes where the database refuses the statement, as in `get_row`;
+/// the visitor may have seen rows by then.
+pub fn visit_rows<S: Alter, T: TableVisitor>(
     conn: &mut Connection<S>,
     layout: Layout,
-    taker: &mut T,
+    visitor: &mut T,
 ) -> Result<bool, Error>
-    ensures { HandsRows layout T.took T.has_enough taker.old taker.new result (state S.Store conn.old) (state S.Store conn.new) }
+    ensures { HandsRows layout T.saw T.has_enough visitor.old visitor.new result (state S.Store conn.old) (state S.Store conn.new) }
 {
-    each_row(conn, all_text(layout), taker)
+    each_row(conn, all_text(layout), visitor)
 }

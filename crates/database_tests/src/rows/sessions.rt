@@ -5,7 +5,7 @@ use crate::rows::identities::STATION;
 use crate::rows::known::is_known;
 use crate::rows::samples::{Sample, is_row};
 use crate::tables::statements::{Found, finds, save_long};
-use crate::tables::takers::are_shown;
+use crate::tables::visitors::are_shown;
 use acceptor_store::SqliteRows;
 use ballots::{Number, Row};
 use command_ends::End;

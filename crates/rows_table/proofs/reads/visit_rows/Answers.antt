@@ -6,7 +6,7 @@ use Rattle.rows_table.specs.Layouts.{all_text}
 use Rattle.rows_table.specs.Rows.{Serves}
 use Rattle.rows_table.specs.Cursor.{OnlyReads, WritesNothing}
 use Rattle.rows_table.proofs.ReadTexts.{all_is}
-use Rattle.rows_table.proofs.AllLemmas.{lists, took_first, mapped, as_answered}
+use Rattle.rows_table.proofs.AllLemmas.{lists, saw_first, mapped, as_answered}
 use Rattle.rows_table.proofs.RisingLemmas.{opens}
 use Rattle.rows_table.proofs.PutClauses.{IsSettled, was_early, reads_in, reads_open, reads_serving, reading_serves, reading_kept, reading_open, reading_has, reading_rests, query_crash, query_left}
 use Rattle.rows_table.proofs.reads.visit_rows.Goals as goal
@@ -30,7 +30,7 @@ returns g c =
     record {
       listed = λ clean has. mapped (λ all h sure. let shown = h sure in (shown.0, lists layout old new shown.0 has shown.1, shown.2)) r (gives.all clean (reads has));
       enough = gives.enough;
-      front = λ clean has. took_first g.T.Taker.took c.args.taker.now c.each_row.new.taker layout old has (gives.front clean (reads_open layout text old plain has));
+      front = λ clean has. saw_first g.T.TableVisitor.saw c.args.visitor.now c.each_row.new.visitor layout old has (gives.front clean (reads_open layout text old plain has));
       only = gives.only;
       reads = record {
         serving = record {

@@ -1,4 +1,4 @@
-//! Rows that are taken one by one from a database, or shown as saved rows, to the last or to where it is enough.
+//! Rows that are shown one by one, as a database has them or as saved rows, to the last or to where it is enough.
 
 use crate::rows::databases::BOTH;
 use crate::rows::memory::PUT_TWO;
@@ -7,33 +7,33 @@ use crate::tables::columns::{promise, promise_in_layout_one};
 use acceptor_store::{RowVisitor, SqliteRows};
 use ballots::Number;
 use rows_table::{
-    Layout, LayoutOrigin, StationColumns, Taker, create_layout_one, create_layout_two, put_entry,
-    put_row, visit_rows,
+    Layout, LayoutOrigin, StationColumns, TableVisitor, create_layout_one, create_layout_two,
+    put_entry, put_row, visit_rows,
 };
 use sqlite::{Alter, Connection, Row};
 use std::alloc::Global;
 use tape_frames::Version;
 
-/// How many rows were taken, of at most so many that are wanted, and the number of the last.
+/// How many rows were seen, of at most so many that are wanted, and the number of the last.
 #[derive(Drop)]
 struct Count {
     most: usize,
-    taken: usize,
+    seen: usize,
     last: i64,
 }
 
-impl Taker for Count {
-    ghost took = { λ _ _ _. Unit {0} };
+impl TableVisitor for Count {
+    ghost saw = { λ _ _ _. Unit {0} };
 
     ghost has_enough = { λ _. Unit {0} };
 
-    fn take(&mut self, row: &Row) -> bool {
-        self.taken = self.taken.saturating_add(1);
+    fn see(&mut self, row: &Row) -> bool {
+        self.seen = self.seen.saturating_add(1);
         self.last = row.get(0).unwrap_or(0);
-        self.taken < self.most
+        self.seen < self.most
     }
 
-    ghost took_none = { λ _. tt };
+    ghost saw_none = { λ _. tt };
 }
 
 impl RowVisitor for Count {
@@ -42,19 +42,19 @@ impl RowVisitor for Count {
     ghost has_enough = { λ _. Unit {0} };
 
     fn see(&mut self, number: Number, _row: &ballots::Row) -> bool {
-        self.taken = self.taken.saturating_add(1);
+        self.seen = self.seen.saturating_add(1);
         self.last = i64::from(number.get());
-        self.taken < self.most
+        self.seen < self.most
     }
 
     ghost saw_none = { λ _. tt };
 }
 
-/// Whether all were taken, how many, and the number of the last.
-type Taken = (bool, usize, i64);
+/// Whether all were seen, how many, and the number of the last.
+type Seen = (bool, usize, i64);
 
-/// What is taken of the rows 3 and 12 where so many are wanted at most.
-const TAKEN: &[(usize, Taken)] = &[(1, (false, 1, 3)), (2, (false, 2, 12)), (3, (true, 2, 12))];
+/// What is seen of the rows 3 and 12 where so many are wanted at most.
+const SEEN: &[(usize, Seen)] = &[(1, (false, 1, 3)), (2, (false, 2, 12)), (3, (true, 2, 12))];
 
 /// The station whose tables are made.
 const STATION: StationColumns = StationColumns {
@@ -63,15 +63,15 @@ const STATION: StationColumns = StationColumns {
     members: 3,
 };
 
-/// What is taken of the rows of a table where so many are wanted at most.
-fn taken<S: Alter>(conn: &mut Connection<S>, layout: Layout, most: usize) -> Option<Taken> {
+/// What is seen of the rows of a table where so many are wanted at most.
+fn seen<S: Alter>(conn: &mut Connection<S>, layout: Layout, most: usize) -> Option<Seen> {
     let mut count = Count {
         most,
-        taken: 0,
+        seen: 0,
         last: 0,
     };
     let all = visit_rows(conn, layout, &mut count);
-    Some((all.ok()?, count.taken, count.last))
+    Some((all.ok()?, count.seen, count.last))
 }
 
 /// Makes the table in an empty database, with promises under 12 and 3.
@@ -94,13 +94,13 @@ fn fill<S: Alter>(conn: &mut Connection<S>, layout: Layout) -> Option<()> {
     Some(())
 }
 
-/// Whether the rows of this table of an empty database are taken until it is enough, once they are there.
-fn takes<S: Alter>(conn: &mut Connection<S>, layout: Layout) -> bool {
+/// Whether the rows of this table of an empty database are seen until it is enough, once they are there.
+fn sees<S: Alter>(conn: &mut Connection<S>, layout: Layout) -> bool {
     if fill(conn, layout).is_none() {
         return false;
     }
-    for (most, wanted) in TAKEN {
-        if taken(conn, layout, *most) != Some(*wanted) {
+    for (most, wanted) in SEEN {
+        if seen(conn, layout, *most) != Some(*wanted) {
             return false;
         }
     }
@@ -108,27 +108,27 @@ fn takes<S: Alter>(conn: &mut Connection<S>, layout: Layout) -> bool {
 }
 
 /// The same of a new database.
-fn are_taken(alloc: Global, layout: Layout) -> bool {
+fn are_seen(alloc: Global, layout: Layout) -> bool {
     match Connection::open_in_memory(alloc) {
-        Ok(mut conn) => takes(&mut conn, layout),
+        Ok(mut conn) => sees(&mut conn, layout),
         Err(_) => false,
     }
 }
 
 /// What is shown of saved rows where so many are wanted at most.
-fn shown<S: Alter + Drop>(rows: &mut SqliteRows<S>, most: usize) -> Option<Taken> {
+fn shown<S: Alter + Drop>(rows: &mut SqliteRows<S>, most: usize) -> Option<Seen> {
     let mut count = Count {
         most,
-        taken: 0,
+        seen: 0,
         last: 0,
     };
     let all = rows.visit(&mut count).ok()?;
-    Some((all, count.taken, count.last))
+    Some((all, count.seen, count.last))
 }
 
 /// Whether the saved rows 3 and 12 are shown until it is enough.
 pub fn are_shown<S: Alter + Drop>(rows: &mut SqliteRows<S>) -> bool {
-    for (most, wanted) in TAKEN {
+    for (most, wanted) in SEEN {
         if shown(rows, *most) != Some(*wanted) {
             return false;
         }
@@ -137,9 +137,9 @@ pub fn are_shown<S: Alter + Drop>(rows: &mut SqliteRows<S>) -> bool {
 }
 
 #[test]
-fn rows_are_taken_until_it_is_enough(rt: HostRuntime) {
-    assert!(rt; are_taken(rt.alloc(), Layout::One));
-    assert!(rt; are_taken(rt.alloc(), Layout::Two(LayoutOrigin::Created)));
+fn rows_are_seen_until_it_is_enough(rt: HostRuntime) {
+    assert!(rt; are_seen(rt.alloc(), Layout::One));
+    assert!(rt; are_seen(rt.alloc(), Layout::Two(LayoutOrigin::Created)));
 }
 
 /// Two rows are saved, and shown, at version 1 and at version 2.

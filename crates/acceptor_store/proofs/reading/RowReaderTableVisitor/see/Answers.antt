@@ -7,37 +7,37 @@ use Rattle.rows_saved.specs.declared.fault.RowsFault.{RowsFault}
 use Rattle.acceptor_store.specs.Sqlite.{IsRefusal}
 use Rattle.acceptor_store.specs.Reading.{HasSeen}
 use Rattle.acceptor_store.proofs.ReadingLemmas.{seen_after, seen_at_fault, seen_more}
-use Rattle.acceptor_store.proofs.reading.RowReaderTaker.take.Goals as goal
+use Rattle.acceptor_store.proofs.reading.RowReaderTableVisitor.see.Goals as goal
 
-pub returns-then-is_some-clause-took : goal.returns-then-is_some-clause-took
-returns-then-is_some-clause-took g c = λ first rows took.
+pub returns-then-is_some-clause-saw : goal.returns-then-is_some-clause-saw
+returns-then-is_some-clause-saw g c = λ first rows leads.
     let some : IsSome c.args.self.now.fault = search rules in
-    (took.0, took.1, λ none. seen_after g.V.RowVisitor.saw first.layout first.visitor.now rows c.args.columns.now c.args.self.now.fault c.args.self.now.visitor.now some (took.2 none))
+    (leads.0, leads.1, λ none. seen_after g.V.RowVisitor.saw first.layout first.visitor.now rows c.args.columns.now c.args.self.now.fault c.args.self.now.visitor.now some (leads.2 none))
 
-pub returns-in-Err-clause-took : goal.returns-in-Err-clause-took
-returns-in-Err-clause-took g c = λ first rows took.
+pub returns-in-Err-clause-saw : goal.returns-in-Err-clause-saw
+returns-in-Err-clause-saw g c = λ first rows leads.
     let whole : c.args.self.now.fault ≡ None = search rules in
     let here : IsRefusal c.in-Err.fault ⊎ IsSome (damage_of (column c.args.columns.now 0) (row_in c.args.self.now.layout 1 c.args.columns.now)) = search rules in
     let cause : IsRefusal c.in-Err.fault ⊎ IsSome (damage_of (column c.args.columns.now 0) (row_in first.layout 1 c.args.columns.now)) =
-    subst (λ layout. IsRefusal c.in-Err.fault ⊎ IsSome (damage_of (column c.args.columns.now 0) (row_in layout 1 c.args.columns.now))) took.1 here in (
-      took.0,
-      took.1,
+    subst (λ layout. IsRefusal c.in-Err.fault ⊎ IsSome (damage_of (column c.args.columns.now 0) (row_in layout 1 c.args.columns.now))) leads.1 here in (
+      leads.0,
+      leads.1,
       λ none. seen_at_fault g.V.RowVisitor.saw first.layout first.visitor.now rows c.args.columns.now c.args.self.now.visitor.now c.in-Err.fault cause
-          (subst (λ (fault : Option RowsFault). HasSeen g.V.RowVisitor.saw first.layout fault first.visitor.now c.args.self.now.visitor.now rows) whole (took.2 none)),
+          (subst (λ (fault : Option RowsFault). HasSeen g.V.RowVisitor.saw first.layout fault first.visitor.now c.args.self.now.visitor.now rows) whole (leads.2 none)),
     )
 
-pub returns-in-Ok-clause-took : goal.returns-in-Ok-clause-took
-returns-in-Ok-clause-took g c = λ first rows took.
+pub returns-in-Ok-clause-saw : goal.returns-in-Ok-clause-saw
+returns-in-Ok-clause-saw g c = λ first rows leads.
     let whole : c.args.self.now.fault ≡ None = search rules in
     let saw = g.V.RowVisitor.saw in
     let mid = c.args.self.now in
     let now = c.see.new.self in (
-      took.0,
-      took.1,
+      leads.0,
+      leads.1,
       λ none.
-          let before = subst (λ (fault : Option RowsFault). HasSeen saw first.layout fault first.visitor.now mid.visitor.now rows) whole (took.2 none) in
-          let same_layout = subst (λ (layout : Layout). HasSeen saw layout None first.visitor.now mid.visitor.now rows) (sym took.1) before in
+          let before = subst (λ (fault : Option RowsFault). HasSeen saw first.layout fault first.visitor.now mid.visitor.now rows) whole (leads.2 none) in
+          let same_layout = subst (λ (layout : Layout). HasSeen saw layout None first.visitor.now mid.visitor.now rows) (sym leads.1) before in
           let more = seen_more saw mid.layout first.visitor.now rows c.args.columns.now mid.visitor.now now _ c.in-Ok.ensures.item (c.see.ensures.saw first.visitor.now) same_layout in
           let with_fault = subst (λ (fault : Option RowsFault). HasSeen saw mid.layout fault first.visitor.now now (rows ++ c.args.columns.now ∷ [])) (sym whole) more in
-          subst (λ (layout : Layout). HasSeen saw layout mid.fault first.visitor.now now (rows ++ c.args.columns.now ∷ [])) took.1 with_fault,
+          subst (λ (layout : Layout). HasSeen saw layout mid.fault first.visitor.now now (rows ++ c.args.columns.now ∷ [])) leads.1 with_fault,
     )
