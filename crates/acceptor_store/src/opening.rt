@@ -29,7 +29,7 @@ fn read_station<S: Alter>(conn: &mut Connection<S>) -> Result<(u32, Identity), R
 }
 
 /// The identity that the database holds in this layout, where it is the one given, if any.
-fn take_station<S: Alter>(
+fn test_station<S: Alter>(
     conn: &mut Connection<S>,
     layout: Layout,
     given: Option<Identity>,
@@ -70,7 +70,7 @@ fn test_rows<S: Alter>(conn: &mut Connection<S>, layout: Layout) -> Result<(), R
 
 /// Tests a database, in this order: the station and its layout, whose rows they are, and the rows.
 /// It gives the layout, which the tables tell, and the identity. Nothing is written.
-pub(crate) fn take_up<S: Alter>(
+pub(crate) fn test_database<S: Alter>(
     conn: &mut Connection<S>,
     given: Option<Identity>,
 ) -> Result<(Layout, Identity), RowsFault>
@@ -79,7 +79,7 @@ pub(crate) fn take_up<S: Alter>(
     let Some(layout) = layout_in(conn.schema()) else {
         return Err(refuse_without_rows(conn, given));
     };
-    let station = take_station(conn, layout, given)?;
+    let station = test_station(conn, layout, given)?;
     test_rows(conn, layout)?;
     Ok((layout, station))
 }

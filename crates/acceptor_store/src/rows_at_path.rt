@@ -36,8 +36,8 @@ pub(crate) enum Wanted {
     Made(Identity, Version),
 }
 
-/// Takes up the rows of a database, as [`SqliteRows::open`] does, and tells what is the matter where there are none.
-fn take_rows<S: Alter + Drop>(
+/// Opens the rows of a database, as [`SqliteRows::open`] does, and tells what is the matter where there are none.
+fn open_rows<S: Alter + Drop>(
     alloc: Global,
     conn: Connection<S>,
     given: Option<Identity>,
@@ -73,7 +73,7 @@ fn make_rows<S: Alter + Drop>(
     }
 }
 
-/// Takes up the rows of a database or makes its tables, whichever is wanted. A database that is refused comes back.
+/// Opens the rows of a database or makes its tables, whichever is wanted. A database that is refused comes back.
 fn wanted_rows<S: Alter + Drop>(
     alloc: Global,
     conn: Connection<S>,
@@ -83,7 +83,7 @@ fn wanted_rows<S: Alter + Drop>(
     ensures { GivesWanted S.Store wanted conn result }
 {
     match wanted {
-        Wanted::Stored(given) => take_rows(alloc, conn, given),
+        Wanted::Stored(given) => open_rows(alloc, conn, given),
         Wanted::Made(identity, version) => make_rows(alloc, conn, identity, version),
     }
 }

@@ -18,7 +18,7 @@ use crate::found_tables::has_any;
 use crate::group::save_all;
 use crate::layout::{made_in, upgraded_from, version_in};
 use crate::make_tables::make_tables;
-use crate::opening::take_up;
+use crate::opening::test_database;
 use crate::reading::{RowVisitor, show_all};
 use crate::statements::{Numbered, fault_of, list, read, save};
 use crate::upgrade::go_over;
@@ -173,14 +173,14 @@ impl<S: Alter + Drop> SqliteRows<S> {
             Ok(schema) => schema,
             Err(_) => return Err((RowsFault::OutOfMemory, conn)),
         };
-        match take_up(&mut conn, given) {
-            Ok(taken) => Ok(SqliteRows {
+        match test_database(&mut conn, given) {
+            Ok(tested) => Ok(SqliteRows {
                 conn,
-                identity: taken.1,
+                identity: tested.1,
                 alone: true,
                 found: Some(found),
-                was: taken.0,
-                layout: taken.0,
+                was: tested.0,
+                layout: tested.0,
                 stopped: false,
                 refusals: 0,
                 alloc,

@@ -10,30 +10,30 @@ invariant_of-result g c = (
   inl refl,
   λ running ours.
       let old = c.args.conn in
-      let new = c.take_up.new.conn in
-      let layout = c.in-Ok-take_up.taken.0 in
+      let new = c.test_database.new.conn in
+      let layout = c.in-Ok-test_database.tested.0 in
       let tables : (state g.S.Store old).now.schema ≡ layout_schema layout = search rules in
       let free : IsTrue c.is_autocommit.result = search rules in
       let alone : old.in_transaction ≡ false = search rules in
-      taken_stands g.S.Store old new layout c.in-Ok-take_up.taken.1 tables c.schema.ensures.live (λ clean. c.in-Ok-take_up.ensures.holds clean layout tables)
-      (λ clean. c.in-Ok-take_up.ensures.serves clean layout tables alone (c.is_autocommit.ensures.settled free)) (λ clean. c.in-Ok-take_up.ensures.unchanged clean layout tables),
+      taken_stands g.S.Store old new layout c.in-Ok-test_database.tested.1 tables c.schema.ensures.live (λ clean. c.in-Ok-test_database.ensures.holds clean layout tables)
+      (λ clean. c.in-Ok-test_database.ensures.serves clean layout tables alone (c.is_autocommit.ensures.settled free)) (λ clean. c.in-Ok-test_database.ensures.unchanged clean layout tables),
 )
 
-pub returns-in-Ok-take_up-clause-taken : goal.returns-in-Ok-take_up-clause-taken
-returns-in-Ok-take_up-clause-taken g c = record {
+pub returns-in-Ok-test_database-clause-taken : goal.returns-in-Ok-test_database-clause-taken
+returns-in-Ok-test_database-clause-taken g c = record {
   is_open = search rules;
   rests = λ kept.
       let old = c.args.conn in
-      let new = c.take_up.new.conn in
-      let layout = c.in-Ok-take_up.taken.0 in
+      let new = c.test_database.new.conn in
+      let layout = c.in-Ok-test_database.tested.0 in
       let tables : (state g.S.Store old).now.schema ≡ layout_schema layout = search rules in
       let free : IsTrue c.is_autocommit.result = search rules in
       let alone : old.in_transaction ≡ false = search rules in
       let law : IsSettled (state g.S.Store new) = λ db. g.met.S.Store.settled new.store db in
       let stands =
-      taken_stands g.S.Store old new layout c.in-Ok-take_up.taken.1 tables c.schema.ensures.live (λ clean. c.in-Ok-take_up.ensures.holds clean layout tables)
-      (λ clean. c.in-Ok-take_up.ensures.serves clean layout tables alone (c.is_autocommit.ensures.settled free)) (λ clean. c.in-Ok-take_up.ensures.unchanged clean layout tables) in
-      rests g.S.Store _ law stands kept (c.in-Ok-take_up.ensures.unchanged kept.0 layout tables).0.is_open;
+      taken_stands g.S.Store old new layout c.in-Ok-test_database.tested.1 tables c.schema.ensures.live (λ clean. c.in-Ok-test_database.ensures.holds clean layout tables)
+      (λ clean. c.in-Ok-test_database.ensures.serves clean layout tables alone (c.is_autocommit.ensures.settled free)) (λ clean. c.in-Ok-test_database.ensures.unchanged clean layout tables) in
+      rests g.S.Store _ law stands kept (c.in-Ok-test_database.ensures.unchanged kept.0 layout tables).0.is_open;
   same = search rules;
   unwritten = search rules;
   agrees = search rules;
@@ -43,19 +43,19 @@ returns-in-Ok-take_up-clause-taken g c = record {
   unstopped = search rules;
   clean = search rules;
   crash = λ kept.
-      let layout = c.in-Ok-take_up.taken.0 in
+      let layout = c.in-Ok-test_database.tested.0 in
       let tables : (state g.S.Store c.args.conn).now.schema ≡ layout_schema layout = search rules in
-      c.take_up.ensures.leaves kept.0 layout tables;
+      c.test_database.ensures.leaves kept.0 layout tables;
   ours = search rules;
   kept = search rules;
 }
 
-pub returns-in-Err-take_up-clause-refused : goal.returns-in-Err-take_up-clause-refused
-returns-in-Err-take_up-clause-refused g c = record {
+pub returns-in-Err-test_database-clause-refused : goal.returns-in-Err-test_database-clause-refused
+returns-in-Err-test_database-clause-refused g c = record {
   refuses = search rules;
   unwritten = λ clean layout laid opened.
       let free : IsTrue c.is_autocommit.result = search rules in
-      (c.take_up.ensures.kept clean layout laid (c.is_autocommit.ensures.settled free) opened).same;
+      (c.test_database.ensures.kept clean layout laid (c.is_autocommit.ensures.settled free) opened).same;
   crash = search rules;
   clean = search rules;
 }

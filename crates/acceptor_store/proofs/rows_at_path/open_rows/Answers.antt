@@ -1,7 +1,7 @@
 use Rattle.std.proofs.Common.{rules, ◌≡◌, true, false, refl}
 use Rattle.sqlite.specs.Held.{state}
 use Rattle.acceptor_store.specs.FoundTables.{has_none}
-use Rattle.acceptor_store.proofs.rows_at_path.take_rows.Goals as goal
+use Rattle.acceptor_store.proofs.rows_at_path.open_rows.Goals as goal
 
 pub returns-then-has_none : goal.returns-then-has_none
 returns-then-has_none g c =

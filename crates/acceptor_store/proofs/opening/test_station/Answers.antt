@@ -1,7 +1,7 @@
 use Rattle.std.proofs.Common.{rules}
 use Rattle.sqlite.specs.Held.{state}
 use Rattle.acceptor_store.proofs.OpeningLemmas.{refuses_station}
-use Rattle.acceptor_store.proofs.opening.take_station.Goals as goal
+use Rattle.acceptor_store.proofs.opening.test_station.Goals as goal
 
 pub returns : goal.returns
 returns g c = record {

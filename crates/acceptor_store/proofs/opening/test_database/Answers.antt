@@ -9,14 +9,14 @@ use Rattle.acceptor_store.specs.Columns.{AreSound}
 use Rattle.acceptor_store.specs.Sqlite.{RefusesRows, RefusesToOpen}
 use Rattle.acceptor_store.specs.StationRow.{IsStationOf}
 use Rattle.acceptor_store.proofs.OpeningLemmas.{refuses_to_open}
-use Rattle.acceptor_store.proofs.opening.take_up.Goals as goal
+use Rattle.acceptor_store.proofs.opening.test_database.Goals as goal
 
 pub returns : goal.returns
 returns g c = record {
   laid = search rules;
   holds = λ clean layout laid.
       let old = state g.S.Store c.args.conn.now in
-      let mid = state g.S.Store c.take_station.new.conn in
+      let mid = state g.S.Store c.test_station.new.conn in
       let early : HasCleanDisk mid = omega (arith, clean, c.test_rows.ensures.tables.clean) in
       let is : c.in-Some.layout ≡ layout = c.in-Some.ensures.laid layout (c.schema.ensures.value ∙ laid) in
       let has : old.now.schema ≡ layout_schema c.in-Some.layout = laid ∙ ap layout_schema (sym is) in
@@ -34,13 +34,13 @@ returns g c = record {
   kept = search rules;
   leaves = λ clean layout laid db left.
       let old = state g.S.Store c.args.conn.now in
-      let mid = state g.S.Store c.take_station.new.conn in
+      let mid = state g.S.Store c.test_station.new.conn in
       let early : HasCleanDisk mid = omega (arith, clean, c.test_rows.ensures.tables.clean) in
       let is : c.in-Some.layout ≡ layout = c.in-Some.ensures.laid layout (c.schema.ensures.value ∙ laid) in
       let has : old.now.schema ≡ layout_schema c.in-Some.layout = laid ∙ ap layout_schema (sym is) in
       let same : IsUnchanged old mid = c.in_ok-station.ensures.tables.unchanged early has in
       let still : mid.now.schema ≡ layout_schema c.in-Some.layout = ap (λ (d : Database). d.schema) same.0.now_is ∙ has in
-      c.take_station.ensures.tables.leaves early has db (c.test_rows.ensures.tables.leaves clean still db left);
+      c.test_station.ensures.tables.leaves early has db (c.test_rows.ensures.tables.leaves clean still db left);
   clean = search rules;
 }
 
@@ -52,7 +52,7 @@ returns-in_err-test_rows g c = record {
   agrees = search rules;
   refuses = λ clean layout laid.
       let old = state g.S.Store c.args.conn.now in
-      let mid = state g.S.Store c.take_station.new.conn in
+      let mid = state g.S.Store c.test_station.new.conn in
       let early : HasCleanDisk mid = omega (arith, clean, c.in_err-test_rows.ensures.tables.clean) in
       let is : c.in-Some.layout ≡ layout = c.in-Some.ensures.laid layout (c.schema.ensures.value ∙ laid) in
       let has : old.now.schema ≡ layout_schema c.in-Some.layout = laid ∙ ap layout_schema (sym is) in
@@ -68,13 +68,13 @@ returns-in_err-test_rows g c = record {
   kept = search rules;
   leaves = λ clean layout laid db left.
       let old = state g.S.Store c.args.conn.now in
-      let mid = state g.S.Store c.take_station.new.conn in
+      let mid = state g.S.Store c.test_station.new.conn in
       let early : HasCleanDisk mid = omega (arith, clean, c.test_rows.ensures.tables.clean) in
       let is : c.in-Some.layout ≡ layout = c.in-Some.ensures.laid layout (c.schema.ensures.value ∙ laid) in
       let has : old.now.schema ≡ layout_schema c.in-Some.layout = laid ∙ ap layout_schema (sym is) in
       let same : IsUnchanged old mid = c.in_ok-station.ensures.tables.unchanged early has in
       let still : mid.now.schema ≡ layout_schema c.in-Some.layout = ap (λ (d : Database). d.schema) same.0.now_is ∙ has in
-      c.take_station.ensures.tables.leaves early has db (c.test_rows.ensures.tables.leaves clean still db left);
+      c.test_station.ensures.tables.leaves early has db (c.test_rows.ensures.tables.leaves clean still db left);
   clean = search rules;
 }
 
@@ -93,7 +93,7 @@ returns-in_err-station g c =
           rw (p.1, p.2)
           (subst (λ (l : Layout). RefusesToOpen l c.args.given old.now.trees c.in_err-station.field-0.0) (is layout laid) (c.in_err-station.ensures.refuses clean (has layout laid)));
       unchanged = λ clean layout laid. rw p.1 tt;
-      kept = λ clean layout laid settled opened. (c.take_station.ensures.tables.rests clean (has layout laid) settled opened).0;
-      leaves = λ clean layout laid. c.take_station.ensures.tables.leaves clean (has layout laid);
-      clean = c.take_station.ensures.tables.clean;
+      kept = λ clean layout laid settled opened. (c.test_station.ensures.tables.rests clean (has layout laid) settled opened).0;
+      leaves = λ clean layout laid. c.test_station.ensures.tables.leaves clean (has layout laid);
+      clean = c.test_station.ensures.tables.clean;
     }
