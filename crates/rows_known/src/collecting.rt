@@ -1,4 +1,4 @@
-//! The numbers of rows, taken down as the rows come.
+//! The numbers of rows, noted as the rows come.
 
 ghost use Rattle.std.specs.Prelude.{IfOk, is_some};
 ghost use Rattle.std.proofs.Common.{sym};
@@ -11,7 +11,7 @@ use ballots::{Number, Row};
 use gone_out::Known;
 use std::alloc::{AllocError, Global};
 
-/// Takes down the numbers of the rows that it sees. It never has enough.
+/// Notes the numbers of the rows that it sees. It never has enough.
 #[derive(Drop)]
 pub(crate) struct Collector {
     pub(crate) known: Known,
@@ -28,8 +28,8 @@ impl Collector {
         })
     }
 
-    /// Takes down the number of a row.
-    fn take(&mut self, number: Number, row: &Row)
+    /// Notes the number of a row.
+    fn note(&mut self, number: Number, row: &Row)
         ensures { IsAdded self.old.known self.new.known number (is_some row.now.vote) }
     {
         self.known.add(number, row.vote().is_some());
@@ -42,7 +42,7 @@ impl RowVisitor for Collector {
     ghost has_enough = { λ _. ⊥ };
 
     fn see(&mut self, number: Number, row: &Row) -> bool {
-        self.take(number, row);
+        self.note(number, row);
         true
     }
 
