@@ -86,8 +86,8 @@ impl<'a> Reader<'a> {
         self.taken as usize >= MAX_FRAMES
     }
 
-    /// Takes in the next frame, and adds the line that it cuts, if it has an item.
-    fn take(&mut self, frame: u8, lines: &mut Vec<Line>) -> Result<(), ReadFault>
+    /// Reads the next frame, and adds the line that it cuts, if it has an item.
+    fn read_frame(&mut self, frame: u8, lines: &mut Vec<Line>) -> Result<(), ReadFault>
         ensures by { (self.new.table ≡ self.old.table) × (self.new.widths ≡ self.old.widths) }
         ensures fault { self.new.fault ≡ self.old.fault }
         ensures step { TakesFrame frame result lines.old.items lines.new.items self.old self.new }
@@ -127,7 +127,7 @@ impl<'a> Reader<'a> {
         }
         let mut lines = Vec::new(self.alloc);
         for frame in piece {
-            if let Err(fault) = self.take(*frame, &mut lines) {
+            if let Err(fault) = self.read_frame(*frame, &mut lines) {
                 self.fault = Some(fault);
                 return stopped(lines, fault);
             }

@@ -10,7 +10,7 @@ use Rattle.slug_reader.specs.Assembling.{Takes, line_cut}
 use Rattle.slug_reader.specs.Pieces.{InHand}
 use Rattle.slug_reader.specs.declared.assembler.Taken.TheVariants.{Kept, Cut}
 use Rattle.slug_reader.proofs.Standing.{IsUnknownAbove, kept_on, cut_on, flawed_here, one_too_many, flawed_steps, above_is}
-use Rattle.slug_reader.proofs.reader.Reader.take.Goals as goal
+use Rattle.slug_reader.proofs.reader.Reader.read_frame.Goals as goal
 
 pub returns-then-is_full-clause-step : goal.returns-then-is_full-clause-step
 returns-then-is_full-clause-step c = λ tape i s f.
