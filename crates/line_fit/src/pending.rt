@@ -124,7 +124,7 @@ impl Pending {
         }
     }
 
-    /// Takes in a frame that means this, and answers whether it cuts the line.
+    /// Reads a frame that means this, and answers whether it cuts the line.
     #[tactic(auto, using(crate::proofs::Reading::cause_is))]
     fn read(&mut self, sizes: &Sizes<'_>, meaning: &Meaning, at: u32) -> Result<bool, AllocError>
         ensures cuts { IfOk result (λ cuts. cuts ≡ is_elevate (Some meaning.now)) }
@@ -139,8 +139,8 @@ impl Pending {
         Ok(is_elevate(meaning))
     }
 
-    /// Takes in the frame at this place, and answers whether it cuts the line.
-    fn take(&mut self, tape: &Reading<'_>, at: usize) -> Result<bool, AllocError>
+    /// Reads the frame at this place, and answers whether it cuts the line.
+    fn read_frame(&mut self, tape: &Reading<'_>, at: usize) -> Result<bool, AllocError>
         requires { StandsBefore (mean tape.now.table.now) tape.now.sizes.now tape.now.frames.now at self.old }
         ensures cuts { IfOk result (λ cuts. cuts ≡ is_cut (mean tape.now.table.now) tape.now.frames.now at) }
         ensures taken { OnOk result (IsTaken (mean tape.now.table.now) tape.now.sizes.now tape.now.frames.now at self.new) }
@@ -193,7 +193,7 @@ impl Pending {
         ensures fit { IfOk result (λ fit. IsFitAt (mean tape.now.table.now) tape.now.sizes.now tape.now.frames.now at fit) }
         ensures stands { OnOk result (Stands (mean tape.now.table.now) tape.now.sizes.now tape.now.frames.now (suc at) self.new) }
     {
-        if self.take(tape, at)? {
+        if self.read_frame(tape, at)? {
             let fit = self.cut(alloc, tape.sizes.widths(), at as u32)?;
             Ok(Some(fit))
         } else {

@@ -6,7 +6,7 @@ use Rattle.slug_reader.specs.Lines.{is_cut}
 use Rattle.line_fit.specs.Pending.{IsRead}
 use Rattle.line_fit.specs.declared.pending.Pending.{Pending}
 use Rattle.line_fit.proofs.Reading.{cut_is, taken_is, on_ok}
-use Rattle.line_fit.proofs.pending.Pending.take.Goals as goal
+use Rattle.line_fit.proofs.pending.Pending.read_frame.Goals as goal
 
 pub returns-in-Some-clause-cuts : goal.returns-in-Some-clause-cuts
 returns-in-Some-clause-cuts c =
