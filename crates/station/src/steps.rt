@@ -48,7 +48,7 @@ impl<R: Rows> Station<R> {
         match tape.copy() {
             Ok(tape) => {
                 let entry = Entry::Tape(tape);
-                self.take(Event::Offer { number, entry, now }, Some(checked))
+                self.run_turn(Event::Offer { number, entry, now }, Some(checked))
             }
             Err(_) => Err(self.stop(StepRefusal::OutOfMemory)),
         }
@@ -67,7 +67,7 @@ impl<R: Rows> Station<R> {
         self.follow_rows();
         let number = self.check_offer(number, EntryRef::Void)?;
         let entry = Entry::Void;
-        self.take(Event::Offer { number, entry, now }, None)
+        self.run_turn(Event::Offer { number, entry, now }, None)
     }
 
     /// Seeks the entry of a number, at a moment in milliseconds.
@@ -82,7 +82,7 @@ impl<R: Rows> Station<R> {
         }
         self.follow_rows();
         let number = self.check_number(number)?;
-        self.take(Event::Seek { number, now }, None)
+        self.run_turn(Event::Seek { number, now }, None)
     }
 
     /// Sees to the least number that is due at a moment in milliseconds. Where none is due, the note is
@@ -98,7 +98,7 @@ impl<R: Rows> Station<R> {
         self.follow_rows();
         match self.speaker.core().next_due(now) {
             None => Ok(Answer::idle(self.alloc)),
-            Some(number) => self.take(Event::Due { number, now }, None),
+            Some(number) => self.run_turn(Event::Due { number, now }, None),
         }
     }
 
@@ -115,7 +115,7 @@ impl<R: Rows> Station<R> {
         }
         self.follow_rows();
         let packet = self.speaker.read(bytes)?;
-        self.take(Event::Arrived { packet, now }, None)
+        self.run_turn(Event::Arrived { packet, now }, None)
     }
 
     /// Tells the vote of a number's row again to a member: to another in a datagram, and to the station itself by hearing it, which
@@ -130,7 +130,7 @@ impl<R: Rows> Station<R> {
         }
         self.follow_rows();
         let (number, to) = self.check_recall(number, to)?;
-        self.take(Event::Recall { number, to }, None)
+        self.run_turn(Event::Recall { number, to }, None)
     }
 
     /// The number, where it is one that can be asked for.
@@ -179,10 +179,10 @@ impl<R: Rows> Station<R> {
         }
     }
 
-    /// Takes the turn of an event at its number's saved row, and saves the row before anything is handed out.
+    /// Runs the turn of an event at its number's saved row, and saves the row before anything is handed out.
     /// A tape that was checked is not set again.
     #[tactic(auto, using(crate::proofs::Refused::spent_stays, crate::proofs::Refused::spent_none, crate::proofs::Refused::not_released, crate::proofs::Refused::not_open, crate::proofs::Refused::not_failed))]
-    fn take(
+    fn run_turn(
         &mut self,
         event: Event<'_>,
         checked: Option<Checked<'_>>,
@@ -193,7 +193,7 @@ impl<R: Rows> Station<R> {
         requires fits { EventFits self.old.speaker.wire (event_value event) }
         requires checked { WasChecked self.old.table self.old.widths checked }
         requires free { OfItsMarks self.old.speaker.core (λ marks. IsFree marks (event_value event)) }
-        ensures takes { R.kept self.new.rows → OfItsMarks self.old.speaker.core (λ marks. Ends (sight R.Rows) (event_value event.entry) self.old self.new marks result) }
+        ensures ends { R.kept self.new.rows → OfItsMarks self.old.speaker.core (λ marks. Ends (sight R.Rows) (event_value event.entry) self.old self.new marks result) }
 
         // What is refused early is so before the turn.
         ensures late { IfErr result (λ r. is_early r ≡ false) }

@@ -24,9 +24,9 @@ pub returns-in-Some : goal.returns-in-Some
 returns-in-Some g c =
     let mid = c.follow_rows.new.self in
     let call = Falling_due c.args.now in
-    let t = c.take.ensures in
-    from_found g.R.Rows call c.args.self.now mid c.take.new.self c.take.result c.if-self.false c.follow_rows.ensures.same c.follow_rows.ensures.follows
-    (λ goes. took g.R.Rows call mid (Came_due c.in-Some.number c.args.now) c.take.new.self c.take.result
+    let t = c.run_turn.ensures in
+    from_found g.R.Rows call c.args.self.now mid c.run_turn.new.self c.run_turn.result c.if-self.false c.follow_rows.ensures.same c.follow_rows.ensures.follows
+    (λ goes. took g.R.Rows call mid (Came_due c.in-Some.number c.args.now) c.run_turn.new.self c.run_turn.result
     (λ marks stands. came_due mid marks c.in-Some.number c.args.now goes
     (due_at mid marks c.args.now c.core.result.now c.next_due.result c.core.ensures (c.next_due.ensures.value marks) stands ∙ c.in-Some.is))
-    t.takes t.late t.rows.was_kept t.rows.made t.few t.numbered t.cause t.blames t.rows.version t.wire t.stops)
+    t.ends t.late t.rows.was_kept t.rows.made t.few t.numbered t.cause t.blames t.rows.version t.wire t.stops)

@@ -8,8 +8,8 @@ use Rattle.station.proofs.Asking.{offered, offered_early, offer_free_at, offer_s
 use Rattle.station.proofs.Calling.{from_found, stays, refused, refused_at, wanted, took}
 use Rattle.station.proofs.station.Station.offer.Goals as goal
 
-pub take-requires-clause-free : goal.take-requires-clause-free
-take-requires-clause-free g c = λ marks stands.
+pub run_turn-requires-clause-free : goal.run_turn-requires-clause-free
+run_turn-requires-clause-free g c = λ marks stands.
     let mid = c.follow_rows.new.self in
     offer_free_at mid.speaker.wire c.args.number c.in_ok-number.number marks (Taped c.args.tape.now) c.in_ok-number.ensures.asked.value
     (offer_of mid marks c.args.number c.args.now _ _ c.lend.ensures (c.in_ok-number.ensures.asked.checks marks stands))
@@ -51,13 +51,13 @@ returns-in-Ok g c =
     let mid = c.follow_rows.new.self in
     let entry = Taped c.args.tape.now in
     let call = Offering c.args.number entry c.args.now in
-    let t = c.take.ensures in
-    from_found g.R.Rows call c.args.self.now mid c.take.new.self c.take.result c.if-self.false c.follow_rows.ensures.same c.follow_rows.ensures.follows
-    (λ goes. took g.R.Rows call mid (Offered c.in_ok-number.number (Taped c.in-Ok.tape) c.args.now) c.take.new.self c.take.result
+    let t = c.run_turn.ensures in
+    from_found g.R.Rows call c.args.self.now mid c.run_turn.new.self c.run_turn.result c.if-self.false c.follow_rows.ensures.same c.follow_rows.ensures.follows
+    (λ goes. took g.R.Rows call mid (Offered c.in_ok-number.number (Taped c.in-Ok.tape) c.args.now) c.run_turn.new.self c.run_turn.result
     (λ marks stands. offered mid marks c.args.number c.in_ok-number.number entry (Taped c.in-Ok.tape) c.args.now goes
     (offer_of mid marks c.args.number c.args.now _ _ c.lend.ensures (c.in_ok-number.ensures.asked.checks marks stands))
     (ap unless_faulty (rw c.in-Ok-Ok.field-0-is at c.in-Ok-Ok.ensures).0) c.in_ok-number.ensures.asked.value (ap Taped c.in-Ok.ensures))
-    t.takes t.late t.rows.was_kept t.rows.made t.few t.numbered t.cause t.blames t.rows.version t.wire t.stops)
+    t.ends t.late t.rows.was_kept t.rows.made t.few t.numbered t.cause t.blames t.rows.version t.wire t.stops)
 
 pub returns-in-Err-copy : goal.returns-in-Err-copy
 returns-in-Err-copy g c =

@@ -21,9 +21,9 @@ pub returns : goal.returns
 returns g c =
     let mid = c.follow_rows.new.self in
     let call = Recalling c.args.number c.args.to in
-    let t = c.take.ensures in
-    from_found g.R.Rows call c.args.self.now mid c.take.new.self c.take.result c.if-self.false c.follow_rows.ensures.same c.follow_rows.ensures.follows
-    (λ goes. took g.R.Rows call mid (Recalled c.in_ok-number.number c.in_ok-number.to) c.take.new.self c.take.result
+    let t = c.run_turn.ensures in
+    from_found g.R.Rows call c.args.self.now mid c.run_turn.new.self c.run_turn.result c.if-self.false c.follow_rows.ensures.same c.follow_rows.ensures.follows
+    (λ goes. took g.R.Rows call mid (Recalled c.in_ok-number.number c.in_ok-number.to) c.run_turn.new.self c.run_turn.result
     (λ marks stands. recalled mid marks c.args.number c.in_ok-number.number c.args.to c.in_ok-number.to goes
     c.in_ok-number.ensures.checks c.in_ok-number.ensures.number c.in_ok-number.ensures.to)
-    t.takes t.late t.rows.was_kept t.rows.made t.few t.numbered t.cause t.blames t.rows.version t.wire t.stops)
+    t.ends t.late t.rows.was_kept t.rows.made t.few t.numbered t.cause t.blames t.rows.version t.wire t.stops)

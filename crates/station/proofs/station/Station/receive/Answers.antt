@@ -21,8 +21,8 @@ pub returns : goal.returns
 returns g c =
     let mid = c.follow_rows.new.self in
     let call = Receiving c.args.bytes.now c.args.now in
-    let t = c.take.ensures in
-    from_found g.R.Rows call c.args.self.now mid c.take.new.self c.take.result c.if-self.false c.follow_rows.ensures.same c.follow_rows.ensures.follows
-    (λ goes. took g.R.Rows call mid (Arrived c.in_ok-packet.packet c.args.now) c.take.new.self c.take.result
+    let t = c.run_turn.ensures in
+    from_found g.R.Rows call c.args.self.now mid c.run_turn.new.self c.run_turn.result c.if-self.false c.follow_rows.ensures.same c.follow_rows.ensures.follows
+    (λ goes. took g.R.Rows call mid (Arrived c.in_ok-packet.packet c.args.now) c.run_turn.new.self c.run_turn.result
     (λ marks stands. received mid marks c.args.bytes.now c.args.now c.in_ok-packet.packet goes c.in_ok-packet.ensures.checks.0 c.in_ok-packet.ensures.checks.1)
-    t.takes t.late t.rows.was_kept t.rows.made t.few t.numbered t.cause t.blames t.rows.version t.wire t.stops)
+    t.ends t.late t.rows.was_kept t.rows.made t.few t.numbered t.cause t.blames t.rows.version t.wire t.stops)
