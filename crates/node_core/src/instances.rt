@@ -45,8 +45,8 @@ pub(crate) fn put(
     }
 }
 
-/// Takes out what is in hand of the number, if anything is.
-pub(crate) fn take_out(instances: &mut BTreeMap<u32, InstanceBox>, number: Number)
+/// Removes what is in hand of the number, if anything is.
+pub(crate) fn remove(instances: &mut BTreeMap<u32, InstanceBox>, number: Number)
     ensures { Updates nat_cmp instances.old instances.new number None }
 {
     instances.remove(&number.get());

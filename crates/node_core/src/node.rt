@@ -132,7 +132,7 @@ impl NodeCore {
     {
         if is_released {
             instances::note(&mut self.released, number)?;
-            instances::take_out(&mut self.instances, number);
+            instances::remove(&mut self.instances, number);
         }
         Ok(())
     }
@@ -170,7 +170,7 @@ impl NodeCore {
     }
 
     /// The turn of the event, or why there is none; memory that was refused may leave anything behind.
-    fn take_turn(&mut self, event: Event<'_>, row: &Row) -> Result<Turn, CoreRefusal>
+    fn run_turn(&mut self, event: Event<'_>, row: &Row) -> Result<Turn, CoreRefusal>
         requires { MayTakeTurn event self.old }
         ensures { TakesTurn event.entry row.now result self.old self.new }
     {
@@ -202,7 +202,7 @@ impl NodeCore {
         if self.failed {
             return Err(CoreRefusal::Failed);
         }
-        let answer = self.take_turn(event, row);
+        let answer = self.run_turn(event, row);
         if matches!(answer, Err(CoreRefusal::OutOfMemory)) {
             self.clear();
             self.failed = true;

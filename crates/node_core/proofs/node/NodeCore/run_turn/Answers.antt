@@ -4,7 +4,7 @@ use Rattle.std.specs.Prelude.{if◌then◌else◌}
 use Rattle.std.proofs.lemmas.Result.{err_from_is_err_and, MatchResult-from_err}
 use Rattle.node_core.specs.Standing.{Moves, instance_at, seat_of}
 use Rattle.node_core.proofs.Calling.{turn_so, released_stirs}
-use Rattle.node_core.proofs.node.NodeCore.take_turn.Goals as goal
+use Rattle.node_core.proofs.node.NodeCore.run_turn.Goals as goal
 
 pub returns : goal.returns
 returns c = record {
