@@ -72,7 +72,7 @@ impl CatchUp {
     }
 
     /// The numbers of the page that a roll tells, if it tells one that was asked for.
-    fn take_page(&mut self, roll: &Roll, now: u64) -> Result<(), AllocError>
+    fn hear_page(&mut self, roll: &Roll, now: u64) -> Result<(), AllocError>
         ensures taken { OnOk result (AreTaken self.old self.new (page_in roll.now self.old.rolls) (record { member = roll.now.from; moment = now })) }
         ensures refused { OnErr result (is_some (page_in roll.now self.old.rolls) ≡ true) }
         ensures keeps { KeepsRest self.old self.new }
@@ -94,13 +94,13 @@ impl CatchUp {
     }
 
     /// A roll came that is of this circuit, from another member of it.
-    fn take_roll(&mut self, roll: &Roll, now: u64)
+    fn hear_checked_roll(&mut self, roll: &Roll, now: u64)
         requires { IsHeardRoll self.old.own roll.now }
         ensures { IsRollHeard self.old self.new roll.now now }
     {
-        let taken = self.take_page(roll, now);
+        let heard = self.hear_page(roll, now);
         self.is_stirred = true;
-        if taken.is_ok() {
+        if heard.is_ok() {
             calls::hear(&mut self.rolls, roll);
             self.before.settle(calls::is_told(&self.rolls));
         }
@@ -111,7 +111,7 @@ impl CatchUp {
         ensures { IsHeardBy (roll_ticket roll.now) self.old self.new (IsRollHeard self.old self.new roll.now now) result }
     {
         check(self.own, roll.ticket())?;
-        self.take_roll(roll, now);
+        self.hear_checked_roll(roll, now);
         Ok(())
     }
 
