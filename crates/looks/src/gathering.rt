@@ -125,8 +125,8 @@ impl LookFindings {
         }
     }
 
-    /// Takes in a file.
-    fn take_file(&mut self, file: folders::Found)
+    /// Adds a file.
+    fn add_file(&mut self, file: folders::Found)
         ensures { self.new.is_broken ≡ false → TakesFile file self.old self.new }
     {
         if self.put(file).is_err() {
@@ -134,17 +134,17 @@ impl LookFindings {
         }
     }
 
-    /// Takes in files.
-    fn take_files(&mut self, files: Vec<folders::Found>)
+    /// Adds files.
+    fn add_files(&mut self, files: Vec<folders::Found>)
         ensures { self.new.is_broken ≡ false → TakesFiles files.items self.old self.new }
     {
         for file in files {
-            self.take_file(file);
+            self.add_file(file);
         }
     }
 
-    /// Takes in what is passed over.
-    fn take_other(&mut self, other: PassedOver)
+    /// Adds what is passed over.
+    fn add_other(&mut self, other: PassedOver)
         ensures { self.new.is_broken ≡ false → TakesOther other self.old self.new }
     {
         if self.others.insert(other.name, other.fault).is_err() {
@@ -152,21 +152,21 @@ impl LookFindings {
         }
     }
 
-    /// Takes in all that is passed over.
-    fn take_others(&mut self, others: Vec<PassedOver>)
+    /// Adds all that is passed over.
+    fn add_others(&mut self, others: Vec<PassedOver>)
         ensures { self.new.is_broken ≡ false → TakesOthers others.items self.old self.new }
     {
         for other in others {
-            self.take_other(other);
+            self.add_other(other);
         }
     }
 
-    /// Takes in what was found now.
+    /// Adds what was found now.
     pub(crate) fn push(&mut self, listing: Listing)
         ensures { self.new.is_broken ≡ false → Takes listing self.old self.new }
     {
-        self.take_files(listing.files);
-        self.take_others(listing.others);
+        self.add_files(listing.files);
+        self.add_others(listing.others);
         self.skipped = self.skipped.saturating_add(listing.skipped);
     }
 

@@ -2,7 +2,7 @@ use Rattle.std.proofs.Common.{Some, refl, sym, ◌∙◌, string_bytes}
 use Rattle.std.specs.Str.{bytes_eq}
 use Rattle.std.proofs.lemmas.Map.Text.{btree_map_updates_text}
 use Rattle.looks.proofs.Taking.{no_error_gives, or_before}
-use Rattle.looks.proofs.gathering.LookFindings.take_other.Goals as goal
+use Rattle.looks.proofs.gathering.LookFindings.add_other.Goals as goal
 
 pub returns-else-is_err : goal.returns-else-is_err
 returns-else-is_err c = rw (← c.self.view_is) (λ whole. record {
