@@ -125,8 +125,8 @@ impl GoneKeeper {
         }
     }
 
-    /// Takes over a file that came to stand under the name: what it lacks waits, and what is another station's is set aside.
-    fn take_over(
+    /// Adopts a file that came to stand under the name: what it lacks waits, and what is another station's is set aside.
+    fn adopt(
         &mut self,
         rt: &HostRuntime,
         folder: &str,
@@ -150,7 +150,7 @@ impl GoneKeeper {
         }
         self.held = None;
         match find(rt, folder, &self.own)? {
-            Some(found) => self.take_over(rt, folder, found),
+            Some(found) => self.adopt(rt, folder, found),
             None => Ok(()),
         }
     }
