@@ -1,4 +1,5 @@
 pub mod Cells
+pub mod Lengths
 pub mod Texts
 pub mod Document
 pub mod Laws

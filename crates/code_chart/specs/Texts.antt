@@ -1,17 +1,13 @@
 -- The texts of a chart that are always the same.
 use Rattle.std.specs.Prelude.{ℕ, List, codes}
 
--- how a chart looks
+-- how a chart looks, behind the size of the page
 unfoldable pub style : List ℕ
-style = codes "@page{size:840px 820px;margin:0}\ntext{font-family:'Times New Roman',Times,serif;font-size:20px;text-anchor:middle;fill:#1a1a1a}\npath{fill:none;stroke:#1a1a1a;stroke-width:6;stroke-linecap:round}\n.p{fill:#f6edd2;stroke:#cdbd91}\n.d{stroke:#9c9376;stroke-width:2;stroke-dasharray:0 18}\n.c,.n,.g,.o,.w,.h,.i{font-family:Helvetica,Arial,sans-serif}\n.c{font-size:13px;font-weight:bold;fill:#1256a8}\n.n{font-size:10px;fill:#55585e}\n.w{font-size:9px;text-anchor:start;fill:#66696f}\n.g{font-size:9px;text-anchor:start;fill:#7a4b00}\n.o{font-size:9px;text-anchor:start}\n.i{font-size:11px;text-anchor:start;fill:#55585e}\n.h{font-size:16px;font-weight:bold;text-anchor:start}\n.m{fill:#ffffff;stroke:#d5d9df}\n.v{fill:#fadcdc;stroke:#c00000}\n.x{fill:#c00000}\n.z{fill:#fdfcf8}\n"
+style = codes "text{font-family:'Times New Roman',Times,serif;font-size:20px;text-anchor:middle;fill:#1a1a1a}\npath{fill:none;stroke:#1a1a1a;stroke-width:6;stroke-linecap:round}\n.p{fill:#f6edd2;stroke:#cdbd91}\n.d{stroke:#9c9376;stroke-width:2;stroke-dasharray:0 18}\n.c,.n,.g,.o,.w,.h,.i{font-family:Helvetica,Arial,sans-serif}\n.c{font-size:13px;font-weight:bold;fill:#1256a8}\n.n{font-size:10px;fill:#55585e}\n.w{font-size:9px;text-anchor:start;fill:#66696f}\n.g{font-size:9px;text-anchor:start;fill:#7a4b00}\n.o{font-size:9px;text-anchor:start}\n.i{font-size:11px;text-anchor:start;fill:#55585e}\n.h{font-size:16px;font-weight:bold;text-anchor:start}\n.m{fill:#ffffff;stroke:#d5d9df}\n.v{fill:#fadcdc;stroke:#c00000}\n.x{fill:#c00000}\n.z{fill:#fdfcf8}\n"
 
--- a document behind its height, as far as its title
-unfoldable pub svg_middle : List ℕ
-svg_middle = codes "808' viewBox='0 0 840 808'>\n<title>"
-
--- the end of its title, and what begins its style
+-- what begins the style of a document
 unfoldable pub svg_style_lead : List ℕ
-svg_style_lead = codes "</title>\n<style type='text/css'>\n"
+svg_style_lead = codes "<style type='text/css'>\n"
 
 -- the end of its style, and the ground
 unfoldable pub svg_ground : List ℕ

@@ -6,6 +6,11 @@ ghost use Rattle.code_table.specs.declared.case.Case.TheVariants as cases;
 ghost use Rattle.code_chart.specs.Cells.{cell, chart};
 ghost use Rattle.code_chart.specs.Document.{corner, lead_text, units_text, between_text, lacking_text, span_text, shared_text, twin_text, name_text, nothing_text, told_text, said_by, card_lead, card_text, paper_text, number_text, view_text, open_text, close_text, title_text, ground_text, cell_at, cell_text, cells_text};
 
+use crate::lengths::{
+    CARD_HEIGHT, CARD_WIDTH, CELL_HEIGHT, CELL_WIDTH, CELLS_LEFT, CELLS_TOP, FRAME_NUMBER_FOOT,
+    LACKING_LEFT, NAME_MIDDLE, NAME_WIDTH, NOTE_LEFT, NOTE_STEP, PAPER_INSET, PAPER_MIDDLE,
+    SHIFT_FOOT, SPAN_LEFT, UNSHIFT_FOOT,
+};
 use crate::said::{MeaningNote, MeaningSpan, tell};
 use code_table::{Case, CodeTable, Meaning};
 use std::alloc::AllocError;
@@ -38,8 +43,8 @@ fn corner(frame: u8) -> Point
     ensures small { (result.x ≤ 1000) × (result.y ≤ 2900) }
 {
     Point {
-        x: 20 + 100 * u64::from(frame % 8),
-        y: 120 + 84 * u64::from(frame / 8),
+        x: CELLS_LEFT + CELL_WIDTH * u64::from(frame % 8),
+        y: CELLS_TOP + CELL_HEIGHT * u64::from(frame / 8),
     }
 }
 
@@ -86,12 +91,12 @@ fn add_span(text: &mut Vec<u8>, spot: ChartSpot, span: MeaningSpan) -> Result<()
 {
     let at = spot.at;
     let beside = Point {
-        x: at.x + 66,
+        x: at.x + SPAN_LEFT,
         y: at.y,
     };
     let below = Point {
-        x: at.x + 58,
-        y: at.y + 12,
+        x: at.x + LACKING_LEFT,
+        y: at.y + NOTE_STEP,
     };
     match span {
         MeaningSpan::Nothing => Ok(()),
@@ -118,8 +123,8 @@ fn add_twin(text: &mut Vec<u8>, spot: ChartSpot, twin: Option<u8>) -> Result<(),
     ensures { OnOk result (text.new.items ≡ text.old.items ++ twin_text spot.at twin) }
 {
     let below = Point {
-        x: spot.at.x + 30,
-        y: spot.at.y + 12,
+        x: spot.at.x + NOTE_LEFT,
+        y: spot.at.y + NOTE_STEP,
     };
     match twin {
         Some(other) => add_shared(text, below, other),
@@ -134,13 +139,13 @@ fn add_name(text: &mut Vec<u8>, spot: ChartSpot, meaning: &Meaning) -> Result<()
     let word = mark_word(Some(meaning));
     let style = mark_style(Some(meaning));
     let middle = Point {
-        x: spot.at.x + 46,
+        x: spot.at.x + NAME_MIDDLE,
         y: spot.at.y,
     };
     if word.len() >= 4 {
         let room = Room {
             at: middle,
-            length: 34,
+            length: NAME_WIDTH,
         };
         add_fitted(text, style, room, word)
     } else {
@@ -154,12 +159,12 @@ fn add_nothing(text: &mut Vec<u8>, spot: ChartSpot) -> Result<(), AllocError>
     ensures { OnOk result (text.new.items ≡ text.old.items ++ nothing_text spot.at) }
 {
     let middle = Point {
-        x: spot.at.x + 46,
+        x: spot.at.x + NAME_MIDDLE,
         y: spot.at.y,
     };
     let below = Point {
-        x: spot.at.x + 30,
-        y: spot.at.y + 12,
+        x: spot.at.x + NOTE_LEFT,
+        y: spot.at.y + NOTE_STEP,
     };
     add_words(text, Style::Unknown, middle, b"?")?;
     add_words(text, Style::Fault, below, b"no meaning")
@@ -208,7 +213,8 @@ fn add_card(text: &mut Vec<u8>, meaning: Option<&Meaning>, at: Point) -> Result<
     ensures { OnOk result (text.new.items ≡ text.old.items ++ card_text (option_copied meaning.entry) at) }
 {
     add_lead(text, card_lead(meaning), at)?;
-    text.extend_from_slice(b"' width='96' height='80'/>\n")
+    add_pair(text, "' width='", "' height='", (CARD_WIDTH, CARD_HEIGHT))?;
+    text.extend_from_slice(b"'/>\n")
 }
 
 /// Adds the paper of a combination with its holes.
@@ -217,12 +223,12 @@ fn add_strip(text: &mut Vec<u8>, spot: ChartSpot) -> Result<(), AllocError>
     ensures { OnOk result (text.new.items ≡ text.old.items ++ paper_text spot.frame spot.at) }
 {
     let paper = Point {
-        x: spot.at.x + 6,
-        y: spot.at.y + 6,
+        x: spot.at.x + PAPER_INSET,
+        y: spot.at.y + PAPER_INSET,
     };
     let column = Point {
-        x: spot.at.x + 15,
-        y: spot.at.y + 6,
+        x: spot.at.x + PAPER_MIDDLE,
+        y: spot.at.y + PAPER_INSET,
     };
     add_paper(text, paper, 1)?;
     text.extend_from_slice(b"<path d='")?;
@@ -236,8 +242,8 @@ fn add_frame_number(text: &mut Vec<u8>, spot: ChartSpot) -> Result<(), AllocErro
     ensures { OnOk result (text.new.items ≡ text.old.items ++ number_text spot.frame spot.at) }
 {
     let below = Point {
-        x: spot.at.x + 15,
-        y: spot.at.y + 76,
+        x: spot.at.x + PAPER_MIDDLE,
+        y: spot.at.y + FRAME_NUMBER_FOOT,
     };
     add_lead(text, "<text class='n' x='", below)?;
     add_count(text, "'>", u64::from(spot.frame))?;
@@ -251,7 +257,8 @@ fn add_view(text: &mut Vec<u8>, number: u64, at: Point) -> Result<(), AllocError
 {
     add_count(text, "<svg id='frame", number)?;
     add_pair(text, "' viewBox='", " ", (at.x, at.y))?;
-    text.extend_from_slice(b" 100 84'>\n")
+    add_pair(text, " ", " ", (CELL_WIDTH, CELL_HEIGHT))?;
+    text.extend_from_slice(b"'>\n")
 }
 
 /// Adds what begins a cell.
@@ -315,14 +322,14 @@ fn add_cell(text: &mut Vec<u8>, sheet: &Sheet<'_>, frame: u8) -> Result<(), Allo
         frame,
         at: Point {
             x: at.x,
-            y: at.y + 26,
+            y: at.y + UNSHIFT_FOOT,
         },
     };
     let below = ChartSpot {
         frame,
         at: Point {
             x: at.x,
-            y: at.y + 60,
+            y: at.y + SHIFT_FOOT,
         },
     };
     let unshift = sheet.table.meaning(Case::Unshift, frame);

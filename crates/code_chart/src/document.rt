@@ -4,16 +4,23 @@ ghost use Rattle.std.specs.Prelude.{◌≡◌, ◌++◌, OnOk, IfOk};
 ghost use Rattle.code_table.specs.Tables.{mean};
 ghost use Rattle.tape_drawing.specs.Shapes.{escaped};
 ghost use Rattle.code_chart.specs.Cells.{chart};
-ghost use Rattle.code_chart.specs.Document.{title_words, legend_text, svg_open, svg_head, page_open, page_head, text_with, chart_text};
+ghost use Rattle.code_chart.specs.Document.{title_words, legend_text, chart_open, style_text, svg_head, page_open, page_head, text_with, chart_text};
 
 use crate::cells::{Sheet, add_cells};
+use crate::lengths::{
+    CELL_LEGEND_FOOT, CHART_HEIGHT, FUNCTION_LEGEND_FOOT, PAGE_HEIGHT, QUAD_LEGEND_FOOT,
+    SIGN_LEGEND_FOOT,
+};
 use crate::texts::{
     cell_legend, function_legend, page_end, page_legend, page_style_end, page_style_lead,
-    quad_legend, sign_legend, style, svg_ground, svg_middle, svg_style_lead,
+    quad_legend, sign_legend, style, svg_ground, svg_style_lead,
 };
 use code_table::CodeTable;
 use std::alloc::{AllocError, Global};
-use tape_drawing::{DrawingForm, Point, Style, add_escaped, add_words, page_lead, svg_lead};
+use tape_drawing::{
+    DrawingForm, Style, TITLE_FOOT, add_escaped, add_head_line, add_page_size, add_svg_open,
+    page_lead,
+};
 use widths::Widths;
 
 /// What is to be charted: a table and widths, with the names that they were given by, and as what it is written.
@@ -44,41 +51,32 @@ fn title_of(alloc: Global, order: &ChartOrder<'_>) -> Result<Vec<u8>, AllocError
 fn add_legend(text: &mut Vec<u8>) -> Result<(), AllocError>
     ensures { OnOk result (text.new.items ≡ text.old.items ++ legend_text) }
 {
-    add_words(
-        text,
-        Style::Head,
-        Point { x: 20, y: 52 },
-        cell_legend().as_bytes(),
-    )?;
-    add_words(
-        text,
-        Style::Head,
-        Point { x: 20, y: 70 },
-        sign_legend().as_bytes(),
-    )?;
-    add_words(
-        text,
-        Style::Head,
-        Point { x: 20, y: 88 },
-        function_legend().as_bytes(),
-    )?;
-    add_words(
-        text,
-        Style::Head,
-        Point { x: 20, y: 104 },
-        quad_legend().as_bytes(),
-    )
+    let cells = cell_legend().as_bytes();
+    let signs = sign_legend().as_bytes();
+    let functions = function_legend().as_bytes();
+    let quads = quad_legend().as_bytes();
+    add_head_line(text, Style::Head, CELL_LEGEND_FOOT, cells)?;
+    add_head_line(text, Style::Head, SIGN_LEGEND_FOOT, signs)?;
+    add_head_line(text, Style::Head, FUNCTION_LEGEND_FOOT, functions)?;
+    add_head_line(text, Style::Head, QUAD_LEGEND_FOOT, quads)
 }
 
 /// Adds what begins a document, with its title.
-#[tactic(auto, unfolding(crate::specs::Document::svg_open))]
-fn add_svg_open(text: &mut Vec<u8>, title: &[u8]) -> Result<(), AllocError>
-    ensures { OnOk result (text.new.items ≡ text.old.items ++ svg_open title.now) }
+#[tactic(auto, unfolding(crate::specs::Document::chart_open))]
+fn add_chart_open(text: &mut Vec<u8>, title: &[u8]) -> Result<(), AllocError>
+    ensures { OnOk result (text.new.items ≡ text.old.items ++ chart_open title.now) }
 {
-    text.extend_from_slice(svg_lead().as_bytes())?;
-    text.extend_from_slice(svg_middle().as_bytes())?;
-    add_escaped(text, title)?;
+    add_svg_open(text, CHART_HEIGHT, title)?;
     text.extend_from_slice(svg_style_lead().as_bytes())
+}
+
+/// Adds how a chart looks, with the page that it is printed on.
+#[tactic(auto, unfolding(crate::specs::Document::style_text))]
+fn add_style(text: &mut Vec<u8>) -> Result<(), AllocError>
+    ensures { OnOk result (text.new.items ≡ text.old.items ++ style_text) }
+{
+    add_page_size(text, PAGE_HEIGHT)?;
+    text.extend_from_slice(style().as_bytes())
 }
 
 /// Adds how a document looks, and its head.
@@ -86,9 +84,9 @@ fn add_svg_open(text: &mut Vec<u8>, title: &[u8]) -> Result<(), AllocError>
 fn add_svg_head(text: &mut Vec<u8>, title: &[u8]) -> Result<(), AllocError>
     ensures { OnOk result (text.new.items ≡ text.old.items ++ svg_head title.now) }
 {
-    text.extend_from_slice(style().as_bytes())?;
+    add_style(text)?;
     text.extend_from_slice(svg_ground().as_bytes())?;
-    add_words(text, Style::Heading, Point { x: 20, y: 30 }, title)?;
+    add_head_line(text, Style::Heading, TITLE_FOOT, title)?;
     add_legend(text)
 }
 
@@ -107,7 +105,7 @@ fn add_page_open(text: &mut Vec<u8>, title: &[u8]) -> Result<(), AllocError>
 fn add_page_head(text: &mut Vec<u8>, title: &[u8]) -> Result<(), AllocError>
     ensures { OnOk result (text.new.items ≡ text.old.items ++ page_head title.now) }
 {
-    text.extend_from_slice(style().as_bytes())?;
+    add_style(text)?;
     text.extend_from_slice(page_style_end().as_bytes())?;
     add_escaped(text, title)?;
     text.extend_from_slice(page_legend().as_bytes())
@@ -120,7 +118,7 @@ fn add_chart(text: &mut Vec<u8>, sheet: &Sheet<'_>, title: &[u8]) -> Result<(), 
 {
     match sheet.page {
         DrawingForm::Svg => {
-            add_svg_open(text, title)?;
+            add_chart_open(text, title)?;
             add_svg_head(text, title)?;
             add_cells(text, sheet)?;
             text.extend_from_slice(b"</svg>\n")

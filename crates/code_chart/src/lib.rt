@@ -4,6 +4,7 @@
 mod cells;
 mod document;
 pub mod laws;
+mod lengths;
 mod said;
 mod texts;
 

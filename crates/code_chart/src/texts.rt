@@ -1,15 +1,14 @@
 //! The texts of a chart that are always the same.
 
 ghost use Rattle.std.specs.Prelude.{◌≡◌};
-ghost use Rattle.code_chart.specs.Texts.{style, svg_middle, svg_style_lead, svg_ground, cell_legend, sign_legend, function_legend, quad_legend, page_style_lead, page_style_end, page_legend, page_end};
+ghost use Rattle.code_chart.specs.Texts.{style, svg_style_lead, svg_ground, cell_legend, sign_legend, function_legend, quad_legend, page_style_lead, page_style_end, page_legend, page_end};
 
-/// How a chart looks.
+/// How a chart looks, behind the size of the page.
 #[tactic(auto, unfolding(crate::specs::Texts::style))]
 pub(crate) fn style() -> &'static str
     ensures { result.now ≡ style }
 {
     "\
-@page{size:840px 820px;margin:0}\n\
 text{font-family:'Times New Roman',Times,serif;font-size:20px;text-anchor:middle;fill:#1a1a1a}\n\
 path{fill:none;stroke:#1a1a1a;stroke-width:6;stroke-linecap:round}\n\
 .p{fill:#f6edd2;stroke:#cdbd91}\n\
@@ -29,23 +28,12 @@ path{fill:none;stroke:#1a1a1a;stroke-width:6;stroke-linecap:round}\n\
 "
 }
 
-/// A document behind its height, as far as its title.
-#[tactic(auto, unfolding(crate::specs::Texts::svg_middle))]
-pub(crate) fn svg_middle() -> &'static str
-    ensures { result.now ≡ svg_middle }
-{
-    "808' viewBox='0 0 840 808'>\n<title>"
-}
-
-/// The end of its title, and what begins its style.
+/// What begins the style of a document.
 #[tactic(auto, unfolding(crate::specs::Texts::svg_style_lead))]
 pub(crate) fn svg_style_lead() -> &'static str
     ensures { result.now ≡ svg_style_lead }
 {
-    "\
-</title>\n\
-<style type='text/css'>\n\
-"
+    "<style type='text/css'>\n"
 }
 
 /// The end of its style, and the ground.

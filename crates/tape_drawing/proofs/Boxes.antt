@@ -20,6 +20,7 @@ use Rattle.tape_drawing.specs.declared.elements.Look.{Look}
 use Rattle.tape_drawing.specs.declared.elements.Look.TheVariants as looks
 use Rattle.tape_drawing.specs.declared.layout.Stretch.{Stretch}
 use Rattle.tape_drawing.specs.declared.elements.Style.TheVariants as styles
+use Rattle.tape_drawing.specs.Lengths.{margin, measure_width, right_edge, width_room, behind_right, behind_foot}
 use Rattle.tape_drawing.specs.Shapes.{Shape, Words}
 use Rattle.tape_drawing.specs.Layout.{edge, across}
 use Rattle.tape_drawing.specs.Slugs.{stretch, look_in, box_shapes, blank_shapes, name_shapes, width_shapes, sort_shapes, item_shapes, item_width, laid, sorts_shapes, items_shapes, gap_shapes}
@@ -36,8 +37,8 @@ tiles_append a b c (x ∷ xs) ys p q = (p.0, tiles_append (a + x.1) b c xs ys p.
 
 pub edge_mono : (measure a b : ℕ) → 1 ≤ measure → a ≤ b → edge measure a ≤ edge measure b
 edge_mono measure a b some le =
-    let low = div-mul-le_self (a * 720) measure in
-    let fits = le-div (a * 720 / measure) (b * 720) measure (omega (arith, some)) (omega (arith, low, le)) in
+    let low = div-mul-le_self (a * measure_width) measure in
+    let fits = le-div (a * measure_width / measure) (b * measure_width) measure (omega (arith, some)) (omega (arith, low, le)) in
     omega (arith, fits)
 
 reaches : (measure from width : ℕ) → 1 ≤ measure → edge measure from + (edge measure (from + width) - edge measure from) ≡ edge measure (from + width)
@@ -55,7 +56,7 @@ no_box_in_width_case true x e = refl
 no_box_in_width_case false x e = rw e refl
 
 no_box_in_width : (s : Stretch) → spans (width_shapes s) ≡ []
-no_box_in_width s = no_box_in_width_case (ltb (across s) 10) _ refl
+no_box_in_width s = no_box_in_width_case (ltb (across s) width_room) _ refl
 
 box_tiles : (measure top from width : ℕ) (look : Look) (more : List Shape) → 1 ≤ measure → spans more ≡ []
     → Tiles (edge measure from) (edge measure (from + width)) (spans (box_shapes look (stretch measure top from width) ++ more))
@@ -95,11 +96,11 @@ blank_case measure top from width false e some = (refl, reaches measure from wid
 blank_tiles : (measure top from width : ℕ) → 1 ≤ measure → Tiles (edge measure from) (edge measure (from + width)) (spans (blank_shapes (stretch measure top from width)))
 blank_tiles measure top from width some = blank_case measure top from width (width == 0) refl some
 
-left_edge : (measure : ℕ) → edge measure 0 ≡ 60
-left_edge measure = ap (λ n. 60 + n) (zero-div measure)
+at_left : (measure : ℕ) → edge measure 0 ≡ margin
+at_left measure = ap (λ n. margin + n) (zero-div measure)
 
-right_edge : (measure : ℕ) → 1 ≤ measure → edge measure measure ≡ 780
-right_edge measure some = ap (λ n. 60 + n) (mul-div_cancel_left 720 (omega (arith, some)))
+at_right : (measure : ℕ) → 1 ≤ measure → edge measure measure ≡ right_edge
+at_right measure some = ap (λ n. margin + n) (mul-div_cancel_left measure_width (omega (arith, some)))
 
 tiles_between : (a c b d : ℕ) (xs : List (ℕ × ℕ)) → a ≡ c → b ≡ d → Tiles a b xs → Tiles c d xs
 tiles_between a c b d xs p q t = subst (λ n. Tiles c n xs) q (subst (λ n. Tiles n b xs) p t)
@@ -114,11 +115,11 @@ boxes_add_up measure top slug some full =
     let first = blank_shapes (stretch measure top 0 slug.left) in
     let pieces = sorts_shapes measure top before slug.items in
     let last = blank_shapes (stretch measure top behind slug.right) in
-    let left = tiles_between (edge measure 0) 60 (edge measure (0 + slug.left)) (edge measure before) (spans first) (left_edge measure) (ap (edge measure) ends) (blank_tiles measure top 0 slug.left some) in
-    let right = tiles_between (edge measure behind) (edge measure behind) (edge measure (behind + slug.right)) 780 (spans last) refl (ap (edge measure) whole ∙ right_edge measure some) (blank_tiles measure top behind slug.right some) in
-    let rest : Tiles (edge measure before) 780 (spans pieces ++ spans last) = tiles_append (edge measure before) (edge measure behind) 780 (spans pieces) (spans last) (laid_tiles sort_shapes sort_width measure top before slug.items (sort_tiles measure top some)) right in
+    let left = tiles_between (edge measure 0) margin (edge measure (0 + slug.left)) (edge measure before) (spans first) (at_left measure) (ap (edge measure) ends) (blank_tiles measure top 0 slug.left some) in
+    let right = tiles_between (edge measure behind) (edge measure behind) (edge measure (behind + slug.right)) right_edge (spans last) refl (ap (edge measure) whole ∙ at_right measure some) (blank_tiles measure top behind slug.right some) in
+    let rest : Tiles (edge measure before) right_edge (spans pieces ++ spans last) = tiles_append (edge measure before) (edge measure behind) right_edge (spans pieces) (spans last) (laid_tiles sort_shapes sort_width measure top before slug.items (sort_tiles measure top some)) right in
     let apart : spans (first ++ (pieces ++ last)) ≡ spans first ++ (spans pieces ++ spans last) = filter_map-append box_span first (pieces ++ last) ∙ ap (λ ps. spans first ++ ps) (filter_map-append box_span pieces last) in
-    subst (λ ps. Tiles 60 780 ps) (sym apart) (tiles_append 60 (edge measure before) 780 (spans first) (spans pieces ++ spans last) left rest)
+    subst (λ ps. Tiles margin right_edge ps) (sym apart) (tiles_append margin (edge measure before) right_edge (spans first) (spans pieces ++ spans last) left rest)
 
 more_bands : (n band : ℕ) → (1 + n) * band ≡ band + n * band
 more_bands n band = grind arith
@@ -142,24 +143,24 @@ no_box_in_gap_case true x e = refl
 no_box_in_gap_case false x e = rw e refl
 
 some_tile : (widths : WidthFile) (top band all : ℕ) (fault : SetFault) (line : List Item) → 1 ≤ widths.measure → band_in widths fault.cause ≡ band → sum_by (item_width band) line ≡ all
-    → Tiles 60 (edge widths.measure all) (spans (unset_shapes widths top fault line))
+    → Tiles margin (edge widths.measure all) (spans (unset_shapes widths top fault line))
 some_tile widths top band all fault line some is e =
     let here = band_in widths fault.cause in
-    let words : List Shape = Words styles.Behind 836 (top + 58) (fault_words fault) ∷ [] in
+    let words : List Shape = Words styles.Behind behind_right (top + behind_foot) (fault_words fault) ∷ [] in
     let pieces = items_shapes widths.measure top here line in
     let gap = gap_shapes widths.measure top (sum_by (item_width here) line) in
     let no_gap : spans gap ≡ [] = no_box_in_gap_case (leb widths.measure (sum_by (item_width here) line)) _ refl in
     let filled : spans (pieces ++ gap) ≡ spans pieces = filter_map-append box_span pieces gap ∙ (ap (λ ps. spans pieces ++ ps) no_gap ∙ append-nil (spans pieces)) in
     let whole : spans ((pieces ++ gap) ++ words) ≡ spans pieces = filter_map-append box_span (pieces ++ gap) words ∙ (append-nil (spans (pieces ++ gap)) ∙ filled) in
     let reach : 0 + sum_by (item_width band) line ≡ all = omega (arith, e) in
-    let tiled : Tiles 60 (edge widths.measure all) (spans (items_shapes widths.measure top band line)) =
-    tiles_between (edge widths.measure 0) 60 (edge widths.measure (0 + sum_by (item_width band) line)) (edge widths.measure all) (spans (items_shapes widths.measure top band line)) (left_edge widths.measure) (ap (edge widths.measure) reach)
+    let tiled : Tiles margin (edge widths.measure all) (spans (items_shapes widths.measure top band line)) =
+    tiles_between (edge widths.measure 0) margin (edge widths.measure (0 + sum_by (item_width band) line)) (edge widths.measure all) (spans (items_shapes widths.measure top band line)) (at_left widths.measure) (ap (edge widths.measure) reach)
     (laid_tiles item_shapes (item_width band) widths.measure top 0 line (item_tiles widths.measure top band some)) in
-    let all_tiles : Tiles 60 (edge widths.measure all) (spans pieces) = subst (λ b. Tiles 60 (edge widths.measure all) (spans (items_shapes widths.measure top b line))) (sym is) tiled in
-    subst (λ ps. Tiles 60 (edge widths.measure all) ps) (sym whole) all_tiles
+    let all_tiles : Tiles margin (edge widths.measure all) (spans pieces) = subst (λ b. Tiles margin (edge widths.measure all) (spans (items_shapes widths.measure top b line))) (sym is) tiled in
+    subst (λ ps. Tiles margin (edge widths.measure all) ps) (sym whole) all_tiles
 
 faulty_by : (widths : WidthFile) (top : ℕ) (fault : SetFault) (cause : Cause) (line : List Item) → fault.cause ≡ cause → 1 ≤ widths.measure
-    → Tiles 60 (edge widths.measure (drawn_width widths cause line)) (spans (unset_shapes widths top fault line))
+    → Tiles margin (edge widths.measure (drawn_width widths cause line)) (spans (unset_shapes widths top fault line))
 faulty_by widths top fault causes.UnknownCode line is some = some_tile widths top widths.band_min (least_width widths line) fault line some (rw is refl) (items_sum line widths.band_min)
 faulty_by widths top fault causes.NoWidth line is some = some_tile widths top widths.band_min (least_width widths line) fault line some (rw is refl) (items_sum line widths.band_min)
 faulty_by widths top fault causes.Unfinished line is some = some_tile widths top widths.band_min (least_width widths line) fault line some (rw is refl) (items_sum line widths.band_min)

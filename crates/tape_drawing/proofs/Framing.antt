@@ -26,6 +26,7 @@ use Rattle.tape_drawing.specs.declared.elements.Look.{Look}
 use Rattle.tape_drawing.specs.declared.layout.Spot.{Spot}
 use Rattle.tape_drawing.specs.declared.layout.Stretch.{Stretch}
 use Rattle.tape_drawing.specs.declared.page.DrawingForm.{DrawingForm}
+use Rattle.tape_drawing.specs.Lengths.{frame_middle, width_room}
 use Rattle.tape_drawing.specs.Shapes.{Shape, Frame}
 use Rattle.tape_drawing.specs.Layout.{corner, next, after, first_spot, frames_in, AreLines}
 use Rattle.tape_drawing.specs.Frames.{paper_shapes, position_shapes, frame_shapes, strip_shapes}
@@ -61,7 +62,7 @@ name_none : (s : Stretch) (rail : Rail) (name : List ℕ) → NoFrame (name_shap
 name_none s rail name = either (leb 2 (length name)) _ _ refl refl
 
 width_none : (s : Stretch) → NoFrame (width_shapes s)
-width_none s = but (ltb _ 10) _ refl
+width_none s = but (ltb _ width_room) _ refl
 
 sort_none : (sort : Sort) (s : Stretch) → NoFrame (sort_shapes sort s)
 sort_none (sorts.Matrix name rail width) s = name_none s rail name
@@ -143,7 +144,7 @@ one_frame means tape from frames top k =
     let at = corner top k in
     let paper = paper_shapes k frames at in
     let position = position_shapes (from + k) at in
-    let frame : List Shape = Frame (at.x + 9) at.y (from + k) (frame_at tape (from + k)) (meaning_at means tape (from + k)) ∷ [] in
+    let frame : List Shape = Frame (at.x + frame_middle) at.y (from + k) (frame_at tape (from + k)) (meaning_at means tape (from + k)) ∷ [] in
     filter_map-append frame_drawn (paper ++ position) frame
     ∙ ap (λ ds. ds ++ framed frame) (both paper position (given _ _ refl) (given _ _ refl))
 

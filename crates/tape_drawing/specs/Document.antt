@@ -15,6 +15,7 @@ use Rattle.tape_drawing.specs.declared.page.DrawingForm.TheVariants as pages
 use Rattle.tape_drawing.specs.declared.elements.Style.TheVariants as styles
 use Rattle.tape_drawing.specs.declared.layout.Spot.{Spot}
 use Rattle.tape_drawing.specs.declared.lines.DrawingPlan.{DrawingPlan}
+use Rattle.tape_drawing.specs.Lengths.{page_width, page_height, head_left, title_foot, counts_foot, first_legend_foot, second_legend_foot}
 use Rattle.tape_drawing.specs.Shapes.{Shape, Words, pair_text, count_text, escaped, text_of}
 use Rattle.tape_drawing.specs.Texts.{style_head, style_tail, svg_lead, svg_style_end, first_legend, second_legend, page_lead, page_style_end, page_legend, page_main}
 use Rattle.tape_drawing.specs.Layout.{type_size, after, first_spot}
@@ -72,14 +73,21 @@ counted_words c = tape_counts c ++ line_counts c
 abbrev pub height_of : ℕ → Spot → ℕ
 height_of frames end = if nat_lt end.from frames then end.top + rest_height (frames - end.from) else end.top
 
+-- how large the page is that a document is printed on: as wide as a drawing, and this high
+unfoldable pub page_size : ℕ → List ℕ
+page_size height = pair_text (codes "@page{size:") page_width (codes "px ") height ++ codes "px;margin:0}\n"
+
 -- how what is drawn looks, with type of this size
 unfoldable pub style_text : ℕ → List ℕ
-style_text size = style_head ++ (decimal size ++ style_tail)
+style_text size = page_size page_height ++ (style_head ++ (decimal size ++ style_tail))
+
+-- what begins the element of a document of this height: how wide and high it is, and that a user unit is a px
+unfoldable pub svg_size : ℕ → List ℕ
+svg_size height = pair_text svg_lead page_width (codes "' height='") height ++ pair_text (codes "' viewBox='0 0 ") page_width (codes " ") height
 
 -- what begins a document of this height with this title
 unfoldable pub svg_open : ℕ → List ℕ → List ℕ
-svg_open height title =
-    pair_text svg_lead height (codes "' viewBox='0 0 840 ") height ++ (codes "'>\n<title>" ++ (escaped title ++ codes "</title>\n"))
+svg_open height title = svg_size height ++ (codes "'>\n<title>" ++ (escaped title ++ codes "</title>\n"))
 
 -- how a document looks, and its ground
 unfoldable pub svg_styled : ℕ → List ℕ
@@ -92,7 +100,8 @@ svg_style size = codes "<style type='text/css'>\n" ++ svg_styled size
 -- the head of a document: its title, what is counted, and what the marks stand for
 abbrev pub head_shapes : List ℕ → List ℕ → List Shape
 head_shapes title counts =
-    Words styles.Heading 20 30 title ∷ Words styles.Head 20 50 counts ∷ Words styles.Head 20 70 first_legend ∷ Words styles.Head 20 86 second_legend ∷ []
+    Words styles.Heading head_left title_foot title ∷ Words styles.Head head_left counts_foot counts
+    ∷ Words styles.Head head_left first_legend_foot first_legend ∷ Words styles.Head head_left second_legend_foot second_legend ∷ []
 
 -- all of a document as far as its lines
 unfoldable pub svg_head : ℕ → List ℕ → List ℕ → ℕ → List ℕ

@@ -8,7 +8,7 @@ use Rattle.slug_reader.specs.Meanings.{Meanings, frame_at, case_at, meaning_at}
 use Rattle.tape_drawing.specs.declared.elements.Point.{Point}
 use Rattle.tape_drawing.specs.declared.elements.Style.TheVariants as styles
 use Rattle.tape_drawing.specs.declared.frames.Strip.{Strip}
-use Rattle.tape_drawing.specs.Lengths.{frame_middle, row_frames}
+use Rattle.tape_drawing.specs.Lengths.{frame_middle, row_frames, position_rise}
 use Rattle.tape_drawing.specs.Shapes.{Shape, Paper, Frame, Words}
 use Rattle.tape_drawing.specs.Layout.{corner}
 
@@ -18,7 +18,7 @@ paper_shapes k frames at = if k % row_frames == 0 then Paper at.x at.y (min (fra
 
 -- the position of every tenth frame of the tape, from 0, above it
 abbrev pub position_shapes : ℕ → Point → List Shape
-position_shapes i at = if i % 10 == 0 then Words styles.Position (at.x + frame_middle) (at.y - 2) (decimal i) ∷ [] else []
+position_shapes i at = if i % 10 == 0 then Words styles.Position (at.x + frame_middle) (at.y - position_rise) (decimal i) ∷ [] else []
 
 -- what stands above the k-th frame of a line: the paper of its row, and its position
 abbrev pub above_shapes : ℕ → ℕ → ℕ → ℕ → List Shape

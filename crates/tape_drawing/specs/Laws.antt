@@ -13,6 +13,7 @@ use Rattle.line_check.specs.Slugs.{least_width, greatest_width}
 use Rattle.line_fit.specs.declared.fitting.Fitting.{Fitting}
 use Rattle.line_fit.specs.Fitting.{Fits}
 use Rattle.tape_drawing.specs.declared.page.DrawingForm.{DrawingForm}
+use Rattle.tape_drawing.specs.Lengths.{margin, right_edge}
 use Rattle.tape_drawing.specs.Shapes.{Shape, Paper, Frame, Box, Bar, Gap, Mark, Words, Fitted, Open, Close}
 use Rattle.tape_drawing.specs.Layout.{edge, IsFull}
 use Rattle.tape_drawing.specs.Slugs.{pieces_shapes}
@@ -65,10 +66,10 @@ abbrev pub Tiles : ℕ → ℕ → List (ℕ × ℕ) → Type 0
 Tiles from to [] = from ≡ to
 Tiles from to (span ∷ spans) = (span.0 ≡ from) × Tiles (from + span.1) to spans
 
--- the boxes of a slug add up to the measure: they lie side by side, from its left edge as far as the 720 units of the measure
+-- the boxes of a slug add up to the measure: they lie side by side, from its left edge as far as its right edge
 abbrev pub BoxesAddUp : Type 0
 BoxesAddUp =
-    (measure : ℕ) (top : ℕ) (slug : Slug) → 1 ≤ measure → IsFull measure slug → Tiles 60 780 (filter_map box_span (pieces_shapes measure top slug))
+    (measure : ℕ) (top : ℕ) (slug : Slug) → 1 ≤ measure → IsFull measure slug → Tiles margin right_edge (filter_map box_span (pieces_shapes measure top slug))
 
 -- the width of a line that does not set, as it is drawn: one that is loose at its greatest, else at its least
 abbrev pub drawn_width : WidthFile → Cause → List Item → ℕ
@@ -82,4 +83,4 @@ drawn_width widths (causes.Loose under) line = greatest_width widths line
 abbrev pub FaultyAddUp : Type 0
 FaultyAddUp =
     (widths : WidthFile) (top : ℕ) (fault : SetFault) (line : List Item) → 1 ≤ widths.measure
-    → Tiles 60 (edge widths.measure (drawn_width widths fault.cause line)) (filter_map box_span (unset_shapes widths top fault line))
+    → Tiles margin (edge widths.measure (drawn_width widths fault.cause line)) (filter_map box_span (unset_shapes widths top fault line))

@@ -23,7 +23,7 @@ use Rattle.tape_drawing.specs.declared.layout.Spot.{Spot}
 use Rattle.tape_drawing.specs.declared.lines.DrawingPlan.{DrawingPlan}
 use Rattle.tape_drawing.specs.declared.lines.Reached.{Reached}
 use Rattle.tape_drawing.specs.declared.lines.Taped.{Taped}
-use Rattle.tape_drawing.specs.Lengths.{margin, note_height}
+use Rattle.tape_drawing.specs.Lengths.{margin, number_right, number_foot, outline_rise, kind_foot, behind_right, behind_foot, note_height, note_foot}
 use Rattle.tape_drawing.specs.Shapes.{Shape, Bar, Mark, Words, Open, Close}
 use Rattle.tape_drawing.specs.Layout.{corner, rows_height, frames_in, line_height, next, after, first_spot, IsFilled, IsWithin, AreLines}
 use Rattle.tape_drawing.specs.Frames.{strip_shapes}
@@ -55,12 +55,12 @@ kind_words number slug = decimal number ++ (codes " " ++ kind_text slug.kind ∷
 
 -- a slug: its number, its kind and its pieces
 abbrev pub slug_shapes : ℕ → ℕ → ℕ → Slug → List Shape
-slug_shapes measure top number slug = Words styles.Kind 48 (top + 29) (kind_words number slug) ∷ pieces_shapes measure top slug
+slug_shapes measure top number slug = Words styles.Kind number_right (top + kind_foot) (kind_words number slug) ∷ pieces_shapes measure top slug
 
 -- the items of a line with this fault, with the bands of its cause, the gap behind them, and the fault
 abbrev pub unset_pieces : WidthFile → ℕ → SetFault → List Item → List Shape
 unset_pieces widths top fault line =
-    filled_shapes widths.measure top (band_in widths fault.cause) line ++ Words styles.Behind 836 (top + 58) (fault_words fault) ∷ []
+    filled_shapes widths.measure top (band_in widths fault.cause) line ++ Words styles.Behind behind_right (top + behind_foot) (fault_words fault) ∷ []
 
 -- what is drawn of a line with these items and this fault: the bar of a slug, and them
 abbrev pub unset_shapes : WidthFile → ℕ → SetFault → List Item → List Shape
@@ -69,14 +69,14 @@ unset_shapes widths top fault line = Bar margin top ∷ unset_pieces widths top 
 -- what stands below the frames of a line: its slug; what there is of one that does not set; or that there is nothing to cast
 abbrev pub foot_shapes : WidthFile → ℕ → ℕ → Verdict → Option Line → List Shape
 foot_shapes widths number top (Sets slug) line = slug_shapes widths.measure top number slug
-foot_shapes widths number top Nothing line = Words styles.Note margin (top + 11) (codes "nothing to cast") ∷ []
-foot_shapes widths number top (Faulty fault) None = Words styles.Fault margin (top + 11) (fault_words fault) ∷ []
+foot_shapes widths number top Nothing line = Words styles.Note margin (top + note_foot) (codes "nothing to cast") ∷ []
+foot_shapes widths number top (Faulty fault) None = Words styles.Fault margin (top + note_foot) (fault_words fault) ∷ []
 foot_shapes widths number top (Faulty fault) (Some line) = unset_shapes widths top fault line.items
 
 -- the mark of a fault, in a line that begins at this position and below this edge
 abbrev pub mark_shapes : ℕ → ℕ → Option SetFault → List Shape
 mark_shapes from top None = []
-mark_shapes from top (Some fault) = Mark (corner top (fault.at - from)).x ((corner top (fault.at - from)).y - 1) ∷ []
+mark_shapes from top (Some fault) = Mark (corner top (fault.at - from)).x ((corner top (fault.at - from)).y - outline_rise) ∷ []
 
 -- how the number of a line looks: red where it does not set
 abbrev pub number_style : Option SetFault → ℕ → Style
@@ -85,7 +85,7 @@ number_style (Some fault) faults = if faults == 0 then styles.FirstFaulty else s
 
 -- the number of a line that begins here
 abbrev pub number_shape : Spot → Option SetFault → Shape
-number_shape spot fault = Words (number_style fault spot.faults) 48 (spot.top + 45) (decimal spot.number)
+number_shape spot fault = Words (number_style fault spot.faults) number_right (spot.top + number_foot) (decimal spot.number)
 
 -- the number of a line, its frames, and the mark of its fault
 abbrev pub taped_shapes : Meanings → List ℕ → Spot → ℕ → Option SetFault → List Shape
@@ -112,8 +112,8 @@ rest_height frames = rows_height (frames + 1) + note_height
 
 -- what is said of the frames behind the last cut
 abbrev pub rest_words : ℕ → Option SetFault → Shape
-rest_words top None = Words styles.Note margin (top + 11) (codes "nothing to cast")
-rest_words top (Some fault) = Words styles.Fault margin (top + 11) (fault_words fault)
+rest_words top None = Words styles.Note margin (top + note_foot) (codes "nothing to cast")
+rest_words top (Some fault) = Words styles.Fault margin (top + note_foot) (fault_words fault)
 
 -- the frames behind the last cut, where there are any
 abbrev pub rest_shapes : DrawingForm → Meanings → List ℕ → Spot → Option SetFault → List Shape

@@ -8,7 +8,7 @@ use Rattle.tape_drawing.specs.declared.elements.Style.{Style}
 use Rattle.tape_drawing.specs.declared.page.DrawingForm.{DrawingForm}
 use Rattle.tape_drawing.specs.declared.page.DrawingForm.TheVariants as pages
 use Rattle.tape_drawing.specs.Meanings.{meaning_word, mark_style, mark_word}
-use Rattle.tape_drawing.specs.Lengths.{measure_width, frame_width, frame_middle, paper_height, feed_top, outline_height, slug_height}
+use Rattle.tape_drawing.specs.Lengths.{page_width, measure_width, frame_width, frame_middle, paper_height, feed_top, upper_top, lower_top, level_step, mark_foot, mark_width, outline_height, slug_height}
 use Rattle.tape_drawing.specs.Styles.{style_lead}
 
 -- an element of a drawing. By their upper left corner: the paper of a row of so many frames, with its feed holes; the box of a
@@ -69,13 +69,13 @@ dot_text level x y = if level == 111 then pair_text (codes "M") x (codes " ") y 
 
 -- three levels, one below the other
 abbrev pub dots_text : ℕ → ℕ → ℕ → ℕ → ℕ → List ℕ
-dots_text a b c x y = dot_text a x y ++ (dot_text b x (y + 8) ++ dot_text c x (y + 16))
+dots_text a b c x y = dot_text a x y ++ (dot_text b x (y + level_step) ++ dot_text c x (y + 2 * level_step))
 
 -- the holes of a frame: level 0, the lowest bit, on top, and room for the feed hole between levels 2 and 3
 unfoldable pub holes_text : ℕ → ℕ → ℕ → List ℕ
 holes_text frame x y =
-    dots_text (hole_at frame 1) (hole_at frame 2) (hole_at frame 4) x (y + 7)
-    ++ dots_text (hole_at frame 8) (hole_at frame 16) (hole_at frame 32) x (y + 35)
+    dots_text (hole_at frame 1) (hole_at frame 2) (hole_at frame 4) x (y + upper_top)
+    ++ dots_text (hole_at frame 8) (hole_at frame 16) (hole_at frame 32) x (y + lower_top)
 
 -- what a frame means, in full, and the end of its title
 unfoldable pub title_end : List ℕ → List ℕ
@@ -87,13 +87,13 @@ title_text at word = count_text (codes "<g><title>") at ++ (codes " " ++ title_e
 
 -- the mark below a frame, fitted to its column where it is long
 abbrev pub mark_text : Style → ℕ → ℕ → List ℕ → List ℕ
-mark_text style x y word = if nat_le 4 (length word) then fitted_text style x y 17 word else words_text style x y word
+mark_text style x y word = if nat_le 4 (length word) then fitted_text style x y mark_width word else words_text style x y word
 
 -- a frame: its title, its holes, and below them its mark
 abbrev pub frame_text : ℕ → ℕ → ℕ → ℕ → Option Meaning → List ℕ
 frame_text x y at frame meaning =
     (title_text at (meaning_word meaning) ++ (holes_text frame x y ++ codes "'/>"))
-    ++ (mark_text (mark_style meaning) x (y + 69) (mark_word meaning) ++ codes "</g>\n")
+    ++ (mark_text (mark_style meaning) x (y + mark_foot) (mark_word meaning) ++ codes "</g>\n")
 
 -- the element of a box of this look
 abbrev pub box_lead : Look → List ℕ
@@ -110,7 +110,7 @@ group_text lead number = count_text lead number ++ codes "'>\n"
 -- what begins a drawing with the number of a line, that reaches down from an upper edge
 unfoldable pub view_text : ℕ → ℕ → ℕ → List ℕ
 view_text number y height =
-    count_text (codes "<svg id='line") number ++ (pair_text (codes "' viewBox='0 ") y (codes " 840 ") height ++ codes "'>\n")
+    count_text (codes "<svg id='line") number ++ (pair_text (codes "' viewBox='0 ") y (codes " ") page_width ++ (count_text (codes " ") height ++ codes "'>\n"))
 
 -- the elements of a line are one group of a document, and one drawing of a page
 abbrev pub open_text : DrawingForm → ℕ → ℕ → ℕ → List ℕ

@@ -13,7 +13,7 @@ use Rattle.tape_drawing.specs.declared.elements.Look.TheVariants as looks
 use Rattle.tape_drawing.specs.declared.elements.Style.{Style}
 use Rattle.tape_drawing.specs.declared.elements.Style.TheVariants as styles
 use Rattle.tape_drawing.specs.declared.layout.Stretch.{Stretch}
-use Rattle.tape_drawing.specs.Lengths.{margin, right_edge}
+use Rattle.tape_drawing.specs.Lengths.{margin, right_edge, name_foot, letter_width, width_foot, width_room}
 use Rattle.tape_drawing.specs.Shapes.{Shape, Box, Bar, Gap, Words, Fitted, text_of}
 use Rattle.tape_drawing.specs.Layout.{edge, across}
 
@@ -42,13 +42,13 @@ blank_shapes s = if s.width == 0 then [] else box_shapes looks.Blank s
 abbrev pub name_shapes : Stretch → Rail → List ℕ → List Shape
 name_shapes s rail name =
     if nat_le 2 (length name)
-    then Fitted (type_style s rail) (edge s.measure s.from + across s / 2) (s.top + 34) (min (across s) (22 * length name)) name ∷ []
-    else Words (type_style s rail) (edge s.measure s.from + across s / 2) (s.top + 34) name ∷ []
+    then Fitted (type_style s rail) (edge s.measure s.from + across s / 2) (s.top + name_foot) (min (across s) (letter_width * length name)) name ∷ []
+    else Words (type_style s rail) (edge s.measure s.from + across s / 2) (s.top + name_foot) name ∷ []
 
 -- the width of a band or a space at the foot of its box, where there is room
 abbrev pub width_shapes : Stretch → List Shape
 width_shapes s =
-    if nat_lt (across s) 10 then [] else Words styles.Width (edge s.measure s.from + across s / 2) (s.top + 43) (decimal s.width) ∷ []
+    if nat_lt (across s) width_room then [] else Words styles.Width (edge s.measure s.from + across s / 2) (s.top + width_foot) (decimal s.width) ∷ []
 
 -- a matrix with its name
 abbrev pub matrix_shapes : Stretch → Rail → List ℕ → List Shape

@@ -1,17 +1,17 @@
 -- The texts of a document that are always the same.
 use Rattle.std.specs.Prelude.{ℕ, List, codes}
 
--- how what is drawn looks, as far as the size of the type
+-- how what is drawn looks, behind the size of the page and as far as that of the type
 unfoldable pub style_head : List ℕ
-style_head = codes "@page{size:840px 1120px;margin:0}\ntext{font-family:'Times New Roman',Times,serif;font-size:13px;text-anchor:middle;fill:#1a1a1a}\npath{fill:none;stroke:#1a1a1a;stroke-width:6;stroke-linecap:round}\n.p{fill:#f6edd2;stroke:#cdbd91}\n.d{stroke:#9c9376;stroke-width:2;stroke-dasharray:0 18}\n.c,.n,.l,.g,.o,.e,.w,.h,.i{font-family:Helvetica,Arial,sans-serif}\n.c{font-size:8.5px;font-weight:bold;fill:#1256a8}\n.n,.w{font-size:8px;fill:#66696f}\n.l{font-size:15px;text-anchor:end}\n.g{font-size:12px;text-anchor:end;fill:#55585e}\n.o,.i{font-size:11px;text-anchor:start;fill:#55585e}\n.e{font-size:11px;font-weight:bold;text-anchor:end}\n.h{font-size:16px;font-weight:bold;text-anchor:start}\n.k{fill:#eef0f3;stroke:#8f959e}\n.m{fill:none;stroke:#d5d9df;stroke-width:.7}\n.b{fill:url(#band)}\n.s{fill:#dadde2;stroke:#c3c8cf;stroke-width:.7}\n.q{fill:#c9cdd3}\n.v{fill:#fadcdc;stroke:#c00000}\n.a{fill:#ffffff;stroke:#c00000;stroke-dasharray:3 3}\n.f{fill:none;stroke:#c00000;stroke-width:1.5}\n.u{font-weight:bold}\n.z{fill:#fdfcf8}\n.t{font-size:"
+style_head = codes "text{font-family:'Times New Roman',Times,serif;font-size:13px;text-anchor:middle;fill:#1a1a1a}\npath{fill:none;stroke:#1a1a1a;stroke-width:6;stroke-linecap:round}\n.p{fill:#f6edd2;stroke:#cdbd91}\n.d{stroke:#9c9376;stroke-width:2;stroke-dasharray:0 18}\n.c,.n,.l,.g,.o,.e,.w,.h,.i{font-family:Helvetica,Arial,sans-serif}\n.c{font-size:8.5px;font-weight:bold;fill:#1256a8}\n.n,.w{font-size:8px;fill:#66696f}\n.l{font-size:15px;text-anchor:end}\n.g{font-size:12px;text-anchor:end;fill:#55585e}\n.o,.i{font-size:11px;text-anchor:start;fill:#55585e}\n.e{font-size:11px;font-weight:bold;text-anchor:end}\n.h{font-size:16px;font-weight:bold;text-anchor:start}\n.k{fill:#eef0f3;stroke:#8f959e}\n.m{fill:none;stroke:#d5d9df;stroke-width:.7}\n.b{fill:url(#band)}\n.s{fill:#dadde2;stroke:#c3c8cf;stroke-width:.7}\n.q{fill:#c9cdd3}\n.v{fill:#fadcdc;stroke:#c00000}\n.a{fill:#ffffff;stroke:#c00000;stroke-dasharray:3 3}\n.f{fill:none;stroke:#c00000;stroke-width:1.5}\n.u{font-weight:bold}\n.z{fill:#fdfcf8}\n.t{font-size:"
 
 -- how what is drawn looks, behind the size of the type
 unfoldable pub style_tail : List ℕ
 style_tail = codes "px}\n.x{fill:#c00000}\n"
 
--- the element of a document, as far as its height
+-- the element of a document, as far as its width
 unfoldable pub svg_lead : List ℕ
-svg_lead = codes "<svg xmlns='http://www.w3.org/2000/svg' version='1.1' width='840' height='"
+svg_lead = codes "<svg xmlns='http://www.w3.org/2000/svg' version='1.1' width='"
 
 -- behind the style of a document: what spacebands are filled with, and the ground
 unfoldable pub svg_style_end : List ℕ

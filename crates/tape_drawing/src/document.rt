@@ -5,14 +5,19 @@ ghost use Rattle.code_table.specs.Tables.{mean};
 ghost use Rattle.line_fit.specs.Fitting.{Fits, first_told, fault_in};
 ghost use Rattle.line_check.specs.Laws.{AddsUp};
 ghost use Rattle.slug_reader.specs.Positions.{first, or_else};
-ghost use Rattle.tape_drawing.specs.Shapes.{text_of, escaped};
+ghost use Rattle.tape_drawing.specs.Lengths.{head_left};
+ghost use Rattle.tape_drawing.specs.Shapes.{text_of, shape_text, escaped, Words};
 ghost use Rattle.tape_drawing.specs.Layout.{after, first_spot, IsWithin};
 ghost use Rattle.tape_drawing.specs.Lines.{AreLinesOf, tape_by};
-ghost use Rattle.tape_drawing.specs.Document.{called_by, title_words, rest_lines, rest_faults, counted, tape_counts, line_counts, counted_words, height_of, style_text, svg_open, svg_styled, svg_style, svg_head, head_shapes, fault_link, page_styled, page_look, page_titled, page_open, page_told, page_head, head_by, end_text, document_by, IsDrawingBy};
+ghost use Rattle.tape_drawing.specs.Document.{called_by, title_words, rest_lines, rest_faults, counted, tape_counts, line_counts, counted_words, height_of, page_size, style_text, svg_size, svg_open, svg_styled, svg_style, svg_head, head_shapes, fault_link, page_styled, page_look, page_titled, page_open, page_told, page_head, head_by, end_text, document_by, IsDrawingBy};
 
 use crate::elements::{Point, Style, add_count, add_number, add_pair, add_words};
 use crate::escaping::add_escaped;
 use crate::layout::{Spot, after, type_size};
+use crate::lengths::{
+    COUNTS_FOOT, FIRST_LEGEND_FOOT, HEAD_LEFT, PAGE_HEIGHT, PAGE_WIDTH, SECOND_LEGEND_FOOT,
+    TITLE_FOOT,
+};
 use crate::lines::{DrawingPlan, add_tape, fault_in, rest_height};
 use crate::page::DrawingForm;
 use crate::texts::{
@@ -160,22 +165,41 @@ fn height_of(frames: u64, end: Spot) -> u64
     }
 }
 
+/// Adds how large the page is that a document is printed on: as wide as a drawing, and this high.
+#[tactic(auto, unfolding(crate::specs::Document::page_size))]
+pub fn add_page_size(text: &mut Vec<u8>, height: u64) -> Result<(), AllocError>
+    ensures { OnOk result (text.new.items ≡ text.old.items ++ page_size height) }
+{
+    add_pair(text, "@page{size:", "px ", (PAGE_WIDTH, height))?;
+    text.extend_from_slice(b"px;margin:0}\n")
+}
+
 /// Adds how what is drawn looks, with type of this size.
 #[tactic(auto, unfolding(crate::specs::Document::style_text))]
 fn add_style(text: &mut Vec<u8>, size: u64) -> Result<(), AllocError>
     ensures { OnOk result (text.new.items ≡ text.old.items ++ style_text size) }
 {
+    add_page_size(text, PAGE_HEIGHT)?;
     text.extend_from_slice(style_head().as_bytes())?;
     add_number(text, size)?;
     text.extend_from_slice(style_tail().as_bytes())
 }
 
+/// Adds what begins the element of a document of this height: how wide and high it is, and that a user unit is a px.
+#[tactic(auto, unfolding(crate::specs::Document::svg_size))]
+fn add_svg_size(text: &mut Vec<u8>, height: u64) -> Result<(), AllocError>
+    ensures { OnOk result (text.new.items ≡ text.old.items ++ svg_size height) }
+{
+    add_pair(text, svg_lead(), "' height='", (PAGE_WIDTH, height))?;
+    add_pair(text, "' viewBox='0 0 ", " ", (PAGE_WIDTH, height))
+}
+
 /// Adds what begins a document of this height with this title.
 #[tactic(auto, unfolding(crate::specs::Document::svg_open))]
-fn add_svg_open(text: &mut Vec<u8>, height: u64, title: &[u8]) -> Result<(), AllocError>
+pub fn add_svg_open(text: &mut Vec<u8>, height: u64, title: &[u8]) -> Result<(), AllocError>
     ensures { OnOk result (text.new.items ≡ text.old.items ++ svg_open height title.now) }
 {
-    add_pair(text, svg_lead(), "' viewBox='0 0 840 ", (height, height))?;
+    add_svg_size(text, height)?;
     text.extend_from_slice(b"'>\n<title>")?;
     add_escaped(text, title)?;
     text.extend_from_slice(b"</title>\n")
@@ -199,16 +223,32 @@ fn add_svg_style(text: &mut Vec<u8>, size: u64) -> Result<(), AllocError>
     add_svg_styled(text, size)
 }
 
+/// Adds a line of the head of a document, with its foot so far down.
+pub fn add_head_line(
+    text: &mut Vec<u8>,
+    style: Style,
+    foot: u64,
+    words: &[u8],
+) -> Result<(), AllocError>
+    ensures { OnOk result (text.new.items ≡ text.old.items ++ shape_text (Words style head_left foot words.now)) }
+{
+    let at = Point {
+        x: HEAD_LEFT,
+        y: foot,
+    };
+    add_words(text, style, at, words)
+}
+
 /// Adds the head of a document: its title, what is counted, and what the marks stand for.
 fn add_head(text: &mut Vec<u8>, title: &[u8], counts: &[u8]) -> Result<(), AllocError>
     ensures { OnOk result (text.new.items ≡ text.old.items ++ text_of (head_shapes title.now counts.now)) }
 {
     let legend = first_legend().as_bytes();
     let others = second_legend().as_bytes();
-    add_words(text, Style::Heading, Point { x: 20, y: 30 }, title)?;
-    add_words(text, Style::Head, Point { x: 20, y: 50 }, counts)?;
-    add_words(text, Style::Head, Point { x: 20, y: 70 }, legend)?;
-    add_words(text, Style::Head, Point { x: 20, y: 86 }, others)
+    add_head_line(text, Style::Heading, TITLE_FOOT, title)?;
+    add_head_line(text, Style::Head, COUNTS_FOOT, counts)?;
+    add_head_line(text, Style::Head, FIRST_LEGEND_FOOT, legend)?;
+    add_head_line(text, Style::Head, SECOND_LEGEND_FOOT, others)
 }
 
 /// Adds a document in SVG as far as its lines.

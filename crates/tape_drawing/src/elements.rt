@@ -7,7 +7,8 @@ ghost use Rattle.tape_drawing.specs.Shapes.{pair_text, count_text, words_end, sh
 
 use crate::escaping::add_escaped;
 use crate::lengths::{
-    FEED_TOP, FRAME_MIDDLE, FRAME_WIDTH, MEASURE_WIDTH, OUTLINE_HEIGHT, PAPER_HEIGHT, SLUG_HEIGHT,
+    FEED_TOP, FRAME_MIDDLE, FRAME_WIDTH, MEASURE_WIDTH, OUTLINE_HEIGHT, PAGE_WIDTH, PAPER_HEIGHT,
+    SLUG_HEIGHT,
 };
 use crate::page::DrawingForm;
 use itoa::Buffer;
@@ -305,7 +306,8 @@ fn add_view(text: &mut Vec<u8>, number: u64, extent: Extent) -> Result<(), Alloc
     ensures { OnOk result (text.new.items ≡ text.old.items ++ view_text number extent.top extent.height) }
 {
     add_count(text, "<svg id='line", number)?;
-    add_pair(text, "' viewBox='0 ", " 840 ", (extent.top, extent.height))?;
+    add_pair(text, "' viewBox='0 ", " ", (extent.top, PAGE_WIDTH))?;
+    add_count(text, " ", extent.height)?;
     text.extend_from_slice(b"'>\n")
 }
 

@@ -4,13 +4,17 @@ ghost use Rattle.std.specs.Prelude.{◌≡◌, ◌++◌, ◌+◌, ◌≤◌, ◌
 ghost use Rattle.tape_frames.specs.Frames.{most_frames};
 ghost use Rattle.code_table.specs.Tables.{mean};
 ghost use Rattle.slug_reader.specs.Meanings.{case_at};
+ghost use Rattle.tape_drawing.specs.Lengths.{position_rise};
 ghost use Rattle.tape_drawing.specs.Shapes.{text_of, shape_text, title_end, title_text, dot_text, dots_text, holes_text, mark_text, frame_text, Frame};
 ghost use Rattle.tape_drawing.specs.Frames.{paper_shapes, position_shapes, above_shapes, IsStrip, HoldsAtKth, alone_in, kth_in, strip_in};
 
 use crate::elements::{Point, Room, Style, add_count, add_fitted, add_pair, add_paper, add_words};
 use crate::escaping::add_escaped;
 use crate::layout::corner;
-use crate::lengths::{FRAME_MIDDLE, ROW_FRAMES};
+use crate::lengths::{
+    FRAME_MIDDLE, LEVEL_STEP, LOWER_TOP, MARK_FOOT, MARK_WIDTH, POSITION_RISE, ROW_FRAMES,
+    UPPER_TOP,
+};
 use crate::meanings::{mark_style, mark_word, meaning_word, next_case};
 use code_table::{Case, CodeTable, Meaning};
 use itoa::Buffer;
@@ -79,8 +83,8 @@ fn add_dots(text: &mut Vec<u8>, levels: (u8, u8, u8), at: Point) -> Result<(), A
     ensures { OnOk result (text.new.items ≡ text.old.items ++ dots_text levels.0 levels.1 levels.2 at.x at.y) }
 {
     add_dot(text, levels.0, at.x, at.y)?;
-    add_dot(text, levels.1, at.x, at.y + 8)?;
-    add_dot(text, levels.2, at.x, at.y + 16)
+    add_dot(text, levels.1, at.x, at.y + LEVEL_STEP)?;
+    add_dot(text, levels.2, at.x, at.y + 2 * LEVEL_STEP)
 }
 
 /// Adds the holes of a frame, level 0 on top.
@@ -94,11 +98,11 @@ pub fn add_holes(text: &mut Vec<u8>, frame: u8, at: Point) -> Result<(), AllocEr
     };
     let upper = Point {
         x: at.x,
-        y: at.y + 7,
+        y: at.y + UPPER_TOP,
     };
     let lower = Point {
         x: at.x,
-        y: at.y + 35,
+        y: at.y + LOWER_TOP,
     };
     add_dots(text, (levels[0], levels[1], levels[2]), upper)?;
     add_dots(text, (levels[3], levels[4], levels[5]), lower)
@@ -110,7 +114,11 @@ fn add_mark_word(text: &mut Vec<u8>, style: Style, at: Point, word: &[u8]) -> Re
     ensures { OnOk result (text.new.items ≡ text.old.items ++ mark_text style at.x at.y word.now) }
 {
     if word.len() >= 4 {
-        add_fitted(text, style, Room { at, length: 17 }, word)
+        let room = Room {
+            at,
+            length: MARK_WIDTH,
+        };
+        add_fitted(text, style, room, word)
     } else {
         add_words(text, style, at, word)
     }
@@ -139,7 +147,7 @@ fn add_frame(
     add_punched(text, punched, meaning_word(meaning))?;
     let below = Point {
         x: punched.at.x,
-        y: punched.at.y + 69,
+        y: punched.at.y + MARK_FOOT,
     };
     add_mark_word(text, mark_style(meaning), below, mark_word(meaning))?;
     text.extend_from_slice(b"</g>\n")
@@ -158,7 +166,7 @@ fn add_row(text: &mut Vec<u8>, k: usize, frames: usize, at: Point) -> Result<(),
 
 /// Adds the position of every tenth frame.
 fn add_position(text: &mut Vec<u8>, position: usize, at: Point) -> Result<(), AllocError>
-    requires { (at.x ≤ 2 ^ 59) × (2 ≤ at.y) }
+    requires { (at.x ≤ 2 ^ 59) × (position_rise ≤ at.y) }
     ensures { OnOk result (text.new.items ≡ text.old.items ++ text_of (position_shapes position at)) }
 {
     if position % 10 != 0 {
@@ -167,7 +175,7 @@ fn add_position(text: &mut Vec<u8>, position: usize, at: Point) -> Result<(), Al
     let mut digits = Buffer::new();
     let place = Point {
         x: at.x + FRAME_MIDDLE,
-        y: at.y - 2,
+        y: at.y - POSITION_RISE,
     };
     add_words(
         text,

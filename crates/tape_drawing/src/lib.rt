@@ -14,13 +14,16 @@ mod page;
 mod slugs;
 mod texts;
 
-pub use document::{Drawing, DrawingOrder, Names, draw_tape};
+pub use document::{
+    Drawing, DrawingOrder, Names, add_head_line, add_page_size, add_svg_open, draw_tape,
+};
 pub use elements::{
     Point, Room, Style, add_count, add_fitted, add_group, add_number, add_pair, add_paper,
     add_words,
 };
 pub use escaping::add_escaped;
 pub use frames::add_holes;
+pub use lengths::{FRAME_MIDDLE, TITLE_FOOT};
 pub use meanings::{mark_style, mark_word, meaning_word};
 pub use page::DrawingForm;
-pub use texts::{page_lead, svg_lead};
+pub use texts::page_lead;

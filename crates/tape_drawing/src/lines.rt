@@ -7,7 +7,7 @@ ghost use Rattle.slug_reader.specs.Meanings.{case_at};
 ghost use Rattle.line_check.specs.Galley.{kind_text};
 ghost use Rattle.line_fit.specs.Fitting.{fault_in};
 ghost use Rattle.tape_drawing.specs.Shapes.{text_of, shape_text, Words};
-ghost use Rattle.tape_drawing.specs.Lengths.{margin};
+ghost use Rattle.tape_drawing.specs.Lengths.{margin, behind_right, behind_foot, note_foot};
 ghost use Rattle.tape_drawing.specs.Layout.{IsFull, IsFilled, IsWithin, after, first_spot};
 ghost use Rattle.tape_drawing.specs.Lines.{cause_words, fault_words, band_in, kind_words, slug_shapes, unset_pieces, unset_shapes, foot_shapes, mark_shapes, number_style, number_shape, taped_shapes, rest_height, rest_words, rest_shapes, HoldsHere, IsTaped, IsLineOf, IsBehindLines, AreLinesOf, line_by, lines_by, tape_by};
 
@@ -16,7 +16,10 @@ use crate::elements::{
 };
 use crate::frames::{Strip, add_strip};
 use crate::layout::{Spot, corner, first_spot, frames_in, line_height, next, rows_height};
-use crate::lengths::{MARGIN, NOTE_HEIGHT};
+use crate::lengths::{
+    BEHIND_FOOT, BEHIND_RIGHT, KIND_FOOT, MARGIN, NOTE_FOOT, NOTE_HEIGHT, NUMBER_FOOT,
+    NUMBER_RIGHT, OUTLINE_RISE,
+};
 use crate::page::DrawingForm;
 use crate::slugs::{Bed, add_filled, add_pieces};
 use code_table::{Case, CodeTable};
@@ -166,8 +169,8 @@ fn add_slug(
 {
     let words = kind_words(plan.alloc, below.number, slug)?;
     let at = Point {
-        x: 48,
-        y: below.top + 29,
+        x: NUMBER_RIGHT,
+        y: below.top + KIND_FOOT,
     };
     add_words(text, Style::Kind, at, &words)?;
     add_pieces(text, bed_of(plan, below), slug)
@@ -180,12 +183,12 @@ fn add_fault_behind(
     below: Below,
     fault: SetFault,
 ) -> Result<(), AllocError>
-    ensures { OnOk result (text.new.items ≡ text.old.items ++ shape_text (Words Style.Behind 836 (below.top + 58) (fault_words fault))) }
+    ensures { OnOk result (text.new.items ≡ text.old.items ++ shape_text (Words Style.Behind behind_right (below.top + behind_foot) (fault_words fault))) }
 {
     let words = fault_words(plan.alloc, fault)?;
     let at = Point {
-        x: 836,
-        y: below.top + 58,
+        x: BEHIND_RIGHT,
+        y: below.top + BEHIND_FOOT,
     };
     add_words(text, Style::Behind, at, &words)
 }
@@ -197,23 +200,23 @@ fn add_fault(
     below: Below,
     fault: SetFault,
 ) -> Result<(), AllocError>
-    ensures { OnOk result (text.new.items ≡ text.old.items ++ shape_text (Words Style.Fault margin (below.top + 11) (fault_words fault))) }
+    ensures { OnOk result (text.new.items ≡ text.old.items ++ shape_text (Words Style.Fault margin (below.top + note_foot) (fault_words fault))) }
 {
     let words = fault_words(plan.alloc, fault)?;
     let at = Point {
         x: MARGIN,
-        y: below.top + 11,
+        y: below.top + NOTE_FOOT,
     };
     add_words(text, Style::Fault, at, &words)
 }
 
 /// Adds that there is nothing to cast.
 fn add_nothing(text: &mut Vec<u8>, below: Below) -> Result<(), AllocError>
-    ensures { OnOk result (text.new.items ≡ text.old.items ++ shape_text (Words Style.Note margin (below.top + 11) (codes "nothing to cast"))) }
+    ensures { OnOk result (text.new.items ≡ text.old.items ++ shape_text (Words Style.Note margin (below.top + note_foot) (codes "nothing to cast"))) }
 {
     let at = Point {
         x: MARGIN,
-        y: below.top + 11,
+        y: below.top + NOTE_FOOT,
     };
     add_words(text, Style::Note, at, b"nothing to cast")
 }
@@ -316,7 +319,7 @@ fn add_mark_of(text: &mut Vec<u8>, line: LineStart) -> Result<(), AllocError>
         text,
         Point {
             x: at.x,
-            y: at.y - 1,
+            y: at.y - OUTLINE_RISE,
         },
     )
 }
@@ -328,8 +331,8 @@ fn add_line_number(text: &mut Vec<u8>, line: LineStart) -> Result<(), AllocError
     let mut digits = Buffer::new();
     let style = number_style(line.fault, line.spot.faults);
     let at = Point {
-        x: 48,
-        y: line.spot.top + 45,
+        x: NUMBER_RIGHT,
+        y: line.spot.top + NUMBER_FOOT,
     };
     add_words(text, style, at, digits.format(line.spot.number).as_bytes())
 }

@@ -10,7 +10,7 @@ ghost use Rattle.tape_drawing.specs.Slugs.{is_over, look_in, type_style, box_sha
 
 use crate::elements::{Look, Point, Room, Style, add_bar, add_box, add_fitted, add_gap, add_words};
 use crate::layout::{Stretch, across, edge};
-use crate::lengths::{MARGIN, RIGHT_EDGE};
+use crate::lengths::{LETTER_WIDTH, MARGIN, NAME_FOOT, RIGHT_EDGE, WIDTH_FOOT, WIDTH_ROOM};
 use code_table::Name;
 use itoa::Buffer;
 use line_check::{Slug, Sort};
@@ -103,11 +103,11 @@ fn add_name(text: &mut Vec<u8>, piece: Drawn, rail: Rail, name: &Name) -> Result
     let width = across(stretch);
     let at = Point {
         x: edge(stretch.measure, stretch.from) + width / 2,
-        y: stretch.top + 34,
+        y: stretch.top + NAME_FOOT,
     };
     let style = type_style(piece, rail);
     if name.len() >= 2 {
-        let length = width.min(22 * name.len() as u64);
+        let length = width.min(LETTER_WIDTH * name.len() as u64);
         add_fitted(text, style, Room { at, length }, name)
     } else {
         add_words(text, style, at, name)
@@ -120,13 +120,13 @@ fn add_width(text: &mut Vec<u8>, piece: Drawn) -> Result<(), AllocError>
 {
     let stretch = piece.stretch;
     let width = across(stretch);
-    if width < 10 {
+    if width < WIDTH_ROOM {
         return Ok(());
     }
     let mut digits = Buffer::new();
     let at = Point {
         x: edge(stretch.measure, stretch.from) + width / 2,
-        y: stretch.top + 43,
+        y: stretch.top + WIDTH_FOOT,
     };
     add_words(
         text,

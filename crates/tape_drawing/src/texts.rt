@@ -3,13 +3,12 @@
 ghost use Rattle.std.specs.Prelude.{◌≡◌};
 ghost use Rattle.tape_drawing.specs.Texts.{style_head, style_tail, svg_lead, svg_style_end, first_legend, second_legend, page_lead, page_style_end, page_legend, page_main};
 
-/// How what is drawn looks, as far as the size of the type.
+/// How what is drawn looks, behind the size of the page and as far as that of the type.
 #[tactic(auto, unfolding(crate::specs::Texts::style_head))]
 pub(crate) fn style_head() -> &'static str
     ensures { result.now ≡ style_head }
 {
     "\
-@page{size:840px 1120px;margin:0}\n\
 text{font-family:'Times New Roman',Times,serif;font-size:13px;text-anchor:middle;fill:#1a1a1a}\n\
 path{fill:none;stroke:#1a1a1a;stroke-width:6;stroke-linecap:round}\n\
 .p{fill:#f6edd2;stroke:#cdbd91}\n\
@@ -46,12 +45,12 @@ px}\n\
 "
 }
 
-/// The element of a document, as far as its height.
+/// The element of a document, as far as its width.
 #[tactic(auto, unfolding(crate::specs::Texts::svg_lead))]
-pub fn svg_lead() -> &'static str
+pub(crate) fn svg_lead() -> &'static str
     ensures { result.now ≡ svg_lead }
 {
-    "<svg xmlns='http://www.w3.org/2000/svg' version='1.1' width='840' height='"
+    "<svg xmlns='http://www.w3.org/2000/svg' version='1.1' width='"
 }
 
 /// Behind the style of a document: what spacebands are filled with, and the ground.
