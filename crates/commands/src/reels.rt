@@ -3,10 +3,10 @@
 use crate::console::Console;
 use crate::story::Story;
 use crate::tapes::HostTapes;
-use command_ends::{End, Fault, end_with};
+use command_ends::{End, Fault, end_with, tell};
 use command_line::ReelPlan;
 use reel::{Cutting, Levels, LevelsFault, levels_of, mask_of};
-use reel_commands::{ChartPaths, Reel, ReelFault, Survey, end_by, import, put_import};
+use reel_commands::{ChartPaths, Reel, ReelFault, Survey, are_tapes, import, put_import};
 use rows_files::RowFiles;
 use std::alloc::Global;
 use std::io::{Read, Write};
@@ -43,17 +43,17 @@ fn cutting_by(plan: &ReelPlan<'_>) -> Cutting {
     }
 }
 
-/// Makes tapes of a reel, and tells of each.
+/// Makes tapes of a reel, and tells of each; whether none is longer than a tape may be.
 fn import_reel<'a, R: Read, W: Write>(
     rt: &HostRuntime,
     reel: &Reel<'a>,
     input: &mut R,
     out: &mut W,
-) -> Result<End, ReelFault<'a>> {
+) -> Result<bool, ReelFault<'a>> {
     let mut folder = HostTapes::at(rt, reel.folder);
     let done = import(rt.alloc(), reel, input, &mut folder)?;
     put_import(rt.alloc(), &done, out)?;
-    Ok(end_by(&done.tapes))
+    Ok(are_tapes(&done.tapes))
 }
 
 /// Makes tapes of the reel at its path. The levels are looked at first.
@@ -80,8 +80,8 @@ pub(crate) fn run_import<F: RowFiles, R: Read + Drop, W: Write + Drop, E: Write 
     };
     let mut bytes = Story::at(rt, plan.path, input);
     match import_reel(rt, &reel, &mut bytes, out) {
-        Ok(end) => end,
-        Err(fault) => fault.tell(err),
+        Ok(is_well) => End::found(is_well),
+        Err(fault) => tell(&fault, err),
     }
 }
 

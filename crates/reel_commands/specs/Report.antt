@@ -1,8 +1,6 @@
 -- What `import` tells of a reel: a line for each tape, and a last line.
 use Rattle.std.specs.Prelude.{ℕ, ◌+◌, ◌-◌, List, [], ◌∷◌, ◌++◌, codes, decimal, length, nat_lt, Bool, true, false, if◌then◌else◌}
 use Rattle.tape_frames.specs.Frames.{most_frames}
-use Rattle.command_ends.specs.declared.end.End.{End}
-use Rattle.command_ends.specs.Ends.{found}
 use Rattle.reel.specs.declared.piece.RollPiece.{RollPiece}
 use Rattle.reel.specs.Names.{tape_name}
 use Rattle.reel_commands.specs.declared.importing.Imported.{Imported}
@@ -41,7 +39,3 @@ import_text done = lines_from 1 done.tapes.items ++ foot_text (length done.tapes
 abbrev pub are_tapes : List RollPiece → Bool
 are_tapes [] = true
 are_tapes (piece ∷ pieces) = if is_long piece then false else are_tapes pieces
-
--- the end of an import: a tape that is too long is a fault of the input
-abbrev pub end_by : List RollPiece → End
-end_by pieces = found (are_tapes pieces)

@@ -1,16 +1,14 @@
 //! Why `import` or `survey` did not end well.
 
 ghost use Rattle.std.specs.Prelude.{◌≡◌};
-ghost use Rattle.command_ends.specs.Ends.{EndsBy};
 ghost use Rattle.command_ends.specs.declared.fault.Fault.TheVariants.{OutOfMemory, CannotWrite};
 ghost use Rattle.reel_commands.specs.Ends.{end_in};
 ghost use Rattle.reel_commands.specs.declared.cause.ReelFault.TheVariants.{Other};
 
-use command_ends::{CommandFault, End, Fault, tell};
+use command_ends::{CommandFault, End, Fault};
 use reel::MOST_TAPES;
 use std::alloc::AllocError;
 use std::fmt;
-use std::io::Write;
 use streams::CannotWrite;
 use tape_frames::TapeFault;
 
@@ -98,15 +96,6 @@ impl<'a> fmt::Display for ReelFault<'a> {
             }
             ReelFault::Tape { path, fault } => put_tape_fault(f, *path, *fault),
         }
-    }
-}
-
-impl<'a> ReelFault<'a> {
-    /// Writes the text, and gives how a command ends by this fault. That the writer fails is ignored.
-    pub fn tell<E: Write>(&self, err: &mut E) -> End
-        ensures { EndsBy (end_in self.now) result }
-    {
-        tell(self, err)
     }
 }
 

@@ -15,5 +15,5 @@ mod surveying;
 pub use cause::ReelFault;
 pub use files::{NotMade, TakenName, TapeFolder};
 pub use importing::{Imported, Reel, import};
-pub use report::{end_by, put_import};
+pub use report::{are_tapes, put_import};
 pub use surveying::{ChartPaths, Survey, Surveyed};

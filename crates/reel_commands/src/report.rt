@@ -3,13 +3,12 @@
 ghost use Rattle.std.specs.Prelude.{◌≡◌, ◌++◌, decimal, OnOk, IfOk};
 ghost use Rattle.std.specs.Io.KnownBytes.{Appends};
 ghost use Rattle.reel_commands.specs.Ends.{Gives};
-ghost use Rattle.reel_commands.specs.Report.{len_of, is_long, warning, tape_line, lines_from, foot_text, import_text, are_tapes, end_by};
+ghost use Rattle.reel_commands.specs.Report.{len_of, is_long, warning, tape_line, lines_from, foot_text, import_text, are_tapes};
 
 use crate::cause::ReelFault;
 use crate::importing::Imported;
 use crate::outputs::put_whole;
 use columns::put_digits;
-use command_ends::End;
 use reel::{RollPiece, tape_name};
 use std::alloc::{AllocError, Global};
 use std::io::Write;
@@ -111,7 +110,7 @@ pub fn put_import<'a, W: Write>(
 }
 
 /// Whether none of these pieces is longer than a tape may be.
-fn are_tapes(pieces: &[RollPiece]) -> bool
+pub fn are_tapes(pieces: &[RollPiece]) -> bool
     ensures { result ≡ are_tapes pieces.now }
 {
     match pieces {
@@ -119,11 +118,4 @@ fn are_tapes(pieces: &[RollPiece]) -> bool
         [piece, _rest @ ..] if is_long(*piece) => false,
         [_piece, rest @ ..] => are_tapes(rest),
     }
-}
-
-/// How `import` ends once all tapes are made: by a fault of the input where one of them is longer than a tape may be.
-pub fn end_by(tapes: &[RollPiece]) -> End
-    ensures { result ≡ end_by tapes.now }
-{
-    End::found(are_tapes(tapes))
 }
