@@ -5,9 +5,9 @@ use Rattle.std.specs.Io.KnownBytes.{Appends}
 use Rattle.command_ends.specs.declared.end.End.{End}
 use Rattle.command_ends.specs.declared.end.End.TheVariants.{Done, Input}
 use Rattle.command_ends.specs.declared.fault.Fault.{Fault}
-use Rattle.command_ends.specs.Ends.{end_of, EndsAfter, IsOfInput}
+use Rattle.command_ends.specs.Ends.{end_of, IsOfInput}
 use Rattle.draw_command.specs.Drawing.{BreaksOffText}
-use Rattle.draw_command.specs.Charting.{ToChart, IsChart, IsCharted, Charted, Whole, Unwritten, Cut, Charts}
+use Rattle.draw_command.specs.Charting.{ToChart, IsChart, IsCharted, Charted, Whole, Unwritten, Cut, Charts, ChartsBy}
 
 -- what follows of the texts follows where they are known
 mapped :
@@ -49,17 +49,19 @@ cut order text end told old new same fails is off = record {
       (λ ts ws c. broken order ts ws text end told old new same fails off c) is;
 }
 
--- so a command ends after the outcome of the writing
-pub written : (order : ToChart) (text : List ℕ) (outcome : Result (Unit {0}) Fault) (end : End) (old new : Option (List ℕ)) → EndsAfter end_of outcome end → IsCharted order text
-    → OnOk outcome (Appends old new text) → IfErr outcome (λ fault. BreaksOffText text (end_of fault) old new) → Charts order end old new
-written order text (Ok done) end old new by is wrote off = subst (λ e. Charts order e old new) (sym by.ok) (whole order text old new is wrote)
-written order text (Err fault) end old new by is wrote off = cut order text end (end_of fault) old new by.err.end by.err.fails is off
+-- so it does after the outcome of the writing
+pub written : (order : ToChart) (text : List ℕ) (outcome : Result (Unit {0}) Fault) (old new : Option (List ℕ)) → IsCharted order text
+    → OnOk outcome (Appends old new text) → IfErr outcome (λ fault. BreaksOffText text (end_of fault) old new) → ChartsBy order outcome old new
+written order text (Ok done) old new is wrote off = λ end by. subst (λ e. Charts order e old new) (sym by.ok) (whole order text old new is wrote)
+written order text (Err fault) old new is wrote off = λ end by. cut order text end (end_of fault) old new by.err.end by.err.fails is off
 
 -- an input that is not taken leaves nothing written
-pub unwritten : (order : ToChart) (end told : End) (old new : Option (List ℕ)) → end ≡ told → IsOfInput told → ¬ (end ≡ Done) → new ≡ old → Charts order end old new
-unwritten order end told old new kind is fails same =
-    let ends = subst IsOfInput (sym kind) is in
-    record {
-      ends = ends;
-      cause = always order.table order.widths (λ ts ws. Charted order ts ws end old new) (λ ts ws. Unwritten ends fails same);
-    }
+left : (order : ToChart) (end : End) (old new : Option (List ℕ)) → IsOfInput end → ¬ (end ≡ Done) → new ≡ old → Charts order end old new
+left order end old new ends fails same = record {
+  ends = ends;
+  cause = always order.table order.widths (λ ts ws. Charted order ts ws end old new) (λ ts ws. Unwritten ends fails same);
+}
+
+-- so it does whatever fault of an input it was
+pub unwritten : (order : ToChart) (fault : Fault) (old new : Option (List ℕ)) → IsOfInput (end_of fault) → new ≡ old → ChartsBy order (Err fault) old new
+unwritten order fault old new is same = λ end by. left order end old new (subst IsOfInput (sym by.err.end) is) by.err.fails same

@@ -1,13 +1,15 @@
 -- How `draw` ends, by its cause.
-use Rattle.std.proofs.Common.{◌≡◌, ℕ, List, Option, Some, None, inl, inr, sym, subst, ◌∙◌}
+use Rattle.std.proofs.Common.{◌≡◌, ℕ, List, Option, Some, None, Ok, Err, inl, inr, sym, subst, ◌∙◌}
 use Rattle.std.specs.Io.KnownBytes.{Appends}
 use Rattle.std.specs.Prelude.{IfSome}
 use Rattle.line_check.specs.declared.fault.SetFault.{SetFault}
 use Rattle.streams.specs.Fronts.{AppendsFront}
 use Rattle.command_ends.specs.declared.end.End.{End}
 use Rattle.command_ends.specs.declared.end.End.TheVariants.{Done, Input}
-use Rattle.command_ends.specs.Ends.{IsOfInput}
-use Rattle.draw_command.specs.Drawing.{ToDraw, IsDrawingOf, WasDrawn, BreaksOff, BreaksOffDrawing, end_by, Drew, Whole, Unset, Unwritten, Cut, Draws}
+use Rattle.command_ends.specs.declared.fault.Fault.{Fault}
+use Rattle.command_ends.specs.declared.fault.Fault.TheVariants as faults
+use Rattle.command_ends.specs.Ends.{end_of, IsOfInput}
+use Rattle.draw_command.specs.Drawing.{ToDraw, IsDrawingOf, WasDrawn, BreaksOff, BreaksOffDrawing, end_by, Drew, Whole, Unset, Unwritten, Cut, Draws, DrawsBy}
 
 -- what follows of the texts follows where they are known
 mapped :
@@ -38,7 +40,7 @@ whole order None end old new is h well = h
 whole order (Some fault) end old new is h well = absurd (input_is_not_done (sym is ∙ well))
 
 -- a drawing that was written ends the command by the fault of its tape
-pub drawn : (order : ToDraw) (fault : Option SetFault) (end : End) (old new : Option (List ℕ)) → end ≡ end_by fault → WasDrawn order fault old new → Draws order end old new
+drawn : (order : ToDraw) (fault : Option SetFault) (end : End) (old new : Option (List ℕ)) → end ≡ end_by fault → WasDrawn order fault old new → Draws order end old new
 drawn order fault end old new is h = record {
   ends = drawing_ends fault end is;
   done = (λ well. whole order fault end old new is h well);
@@ -62,6 +64,14 @@ broken_by order end old new fails off = record {
       (λ ts ws xs b. broken_off order ts ws xs end old new fails b) off.wrote;
 }
 
+-- a tape that sets ends the command well once it is drawn
+pub sets : (order : ToDraw) (old new : Option (List ℕ)) → WasDrawn order None old new → DrawsBy order (Ok tt) old new
+sets order old new drawn_whole = λ end by. drawn order None end old new by.ok drawn_whole
+
+-- one that does not set ends it by its first fault
+pub does_not_set : (order : ToDraw) (fault : SetFault) (old new : Option (List ℕ)) → WasDrawn order (Some fault) old new → DrawsBy order (Err (faults.Unset fault)) old new
+does_not_set order fault old new drawn_whole = λ end by. drawn order (Some fault) end old new by.err.end drawn_whole
+
 -- a command that breaks off ends by what broke it off
-pub broken : (order : ToDraw) (end told : End) (old new : Option (List ℕ)) → end ≡ told → ¬ (end ≡ Done) → BreaksOffDrawing order told old new → Draws order end old new
-broken order end told old new same fails off = broken_by order end old new fails (subst (λ e. BreaksOffDrawing order e old new) (sym same) off)
+pub broke_off : (order : ToDraw) (fault : Fault) (old new : Option (List ℕ)) → BreaksOffDrawing order (end_of fault) old new → DrawsBy order (Err fault) old new
+broke_off order fault old new off = λ end by. broken_by order end old new by.err.fails (subst (λ e. BreaksOffDrawing order e old new) (sym by.err.end) off)

@@ -1,5 +1,5 @@
 -- What `chart` writes: the chart of its two inputs, or what there is of it where it breaks off.
-use Rattle.std.specs.Prelude.{◌≡◌, ℕ, List, Option, Ok, IfSome}
+use Rattle.std.specs.Prelude.{◌≡◌, ℕ, List, Option, Result, Ok, IfSome}
 use Rattle.std.specs.Io.KnownBytes.{Appends}
 use Rattle.toml.specs.Parse.{parse_document}
 use Rattle.code_table.specs.Tables.{Places, mean}
@@ -11,7 +11,8 @@ use Rattle.tape_drawing.specs.declared.page.DrawingForm.{DrawingForm}
 use Rattle.code_chart.specs.Document.{chart_text}
 use Rattle.command_ends.specs.declared.end.End.{End}
 use Rattle.command_ends.specs.declared.end.End.TheVariants.{Done, Input}
-use Rattle.command_ends.specs.Ends.{IsOfInput}
+use Rattle.command_ends.specs.declared.fault.Fault.{Fault}
+use Rattle.command_ends.specs.Ends.{end_of, EndsAfter, IsOfInput}
 
 -- a chart that is asked for: what the files are called, their texts as far as they are known, and as what it is written
 pub record ToChart : Type 0 where
@@ -52,3 +53,7 @@ pub record Charts (order : ToChart) (end : End) (old new : Option (List ℕ)) : 
   pub ends : IsOfInput end
   -- what was written at each end
   pub cause : IfBoth order (λ ts ws. Charted order ts ws end old new)
+
+-- however a command ends after this outcome, that is what `chart` does
+abbrev pub ChartsBy : ToChart → Result (Unit {0}) Fault → Option (List ℕ) → Option (List ℕ) → Type 0
+ChartsBy order outcome old new = (end : End) → EndsAfter end_of outcome end → Charts order end old new

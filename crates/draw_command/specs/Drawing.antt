@@ -1,5 +1,5 @@
 -- What `draw` writes: the drawing of its three inputs, or what there is of it where it breaks off.
-use Rattle.std.specs.Prelude.{◌≡◌, ◌⊎◌, ℕ, List, Option, Some, None, Ok, IfSome}
+use Rattle.std.specs.Prelude.{◌≡◌, ◌⊎◌, ℕ, List, Option, Some, None, Result, Ok, IfSome}
 use Rattle.std.specs.Io.KnownBytes.{Appends}
 use Rattle.toml.specs.Parse.{parse_document}
 use Rattle.code_table.specs.Tables.{Places, mean}
@@ -13,7 +13,8 @@ use Rattle.tape_drawing.specs.declared.page.DrawingForm.{DrawingForm}
 use Rattle.tape_drawing.specs.Document.{Called, IsDrawing, IsDrawingBy}
 use Rattle.command_ends.specs.declared.end.End.{End}
 use Rattle.command_ends.specs.declared.end.End.TheVariants.{Done, Input}
-use Rattle.command_ends.specs.Ends.{IsOfInput}
+use Rattle.command_ends.specs.declared.fault.Fault.{Fault}
+use Rattle.command_ends.specs.Ends.{end_of, EndsAfter, IsOfInput}
 
 -- a drawing that is asked for: what the files are called, their texts as far as they are known, and as what it is written
 pub record ToDraw : Type 0 where
@@ -92,3 +93,7 @@ pub record Draws (order : ToDraw) (end : End) (old new : Option (List ℕ)) : Ty
   pub done : end ≡ Done → WasDrawn order None old new
   -- what was written at each end
   pub cause : IfKnown order (λ ts ws xs. Drew order ts ws xs end old new)
+
+-- however a command ends after this outcome, that is what `draw` does
+abbrev pub DrawsBy : ToDraw → Result (Unit {0}) Fault → Option (List ℕ) → Option (List ℕ) → Type 0
+DrawsBy order outcome old new = (end : End) → EndsAfter end_of outcome end → Draws order end old new

@@ -1,6 +1,6 @@
 //! The command `chart`: the chart of a code table and widths.
 
-ghost use Rattle.draw_command.specs.Charting.{IsCharted, Charts};
+ghost use Rattle.draw_command.specs.Charting.{IsCharted, Charts, ChartsBy};
 ghost use Rattle.command_ends.specs.Giving.{Gives};
 
 use crate::drawing::put_text;
@@ -43,7 +43,7 @@ impl<'a, R: Read + Drop, S: Read + Drop> Model for ChartingOrder<'a, R, S> {
 }
 
 /// The text of the chart that is asked for.
-fn charted<'a, R: Read + Drop, S: Read + Drop>(
+fn chart_text<'a, R: Read + Drop, S: Read + Drop>(
     alloc: Global,
     order: ChartingOrder<'a, R, S>,
 ) -> Result<Vec<u8>, Fault<'a>>
@@ -67,11 +67,23 @@ fn charted<'a, R: Read + Drop, S: Read + Drop>(
     Ok(draw_chart(alloc, &chart)?)
 }
 
+/// Charts what is asked for, up to the first fault.
+#[tactic(auto, using(crate::proofs::ChartEnds::unwritten))]
+fn charted<'a, R: Read + Drop, S: Read + Drop, W: Write>(
+    alloc: Global,
+    order: ChartingOrder<'a, R, S>,
+    out: &mut W,
+) -> Result<(), Fault<'a>>
+    ensures { ChartsBy order.entry result (W.contents out.old) (W.contents out.new) }
+{
+    let text = chart_text(alloc, order)?;
+    put_text(&text, out)
+}
+
 /// Charts a code table with a width file, as a document in SVG or a page in HTML.
 ///
 /// The table is read and taken before the widths are read. The first fault ends it. Nothing is written before both are
 /// taken; where the output can't be written, it has a prefix of the chart.
-#[tactic(auto, using(crate::proofs::ChartEnds::unwritten))]
 pub fn chart<R: Read + Drop, S: Read + Drop, W: Write, E: Write>(
     alloc: Global,
     order: ChartingOrder<'_, R, S>,
@@ -80,9 +92,5 @@ pub fn chart<R: Read + Drop, S: Read + Drop, W: Write, E: Write>(
 ) -> End
     ensures { Charts order.entry result (W.contents out.old) (W.contents out.new) }
 {
-    let text = match charted(alloc, order) {
-        Ok(text) => text,
-        Err(fault) => return fault.tell(err),
-    };
-    end_with(put_text(&text, out), err)
+    end_with(charted(alloc, order, out), err)
 }

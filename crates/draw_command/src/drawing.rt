@@ -1,8 +1,8 @@
 //! The command `draw`: the drawing of a tape.
 
-ghost use Rattle.std.specs.Prelude.{◌≡◌, OnOk, IfOk, IfErr};
+ghost use Rattle.std.specs.Prelude.{OnOk, IfOk, IfErr};
 ghost use Rattle.std.specs.Io.KnownBytes.{Appends};
-ghost use Rattle.draw_command.specs.Drawing.{WasOrdered, WasDrawn, BreaksOffText, BreaksOffOrder, BreaksOffDrawing, end_by, Draws};
+ghost use Rattle.draw_command.specs.Drawing.{WasOrdered, WasDrawn, BreaksOffText, BreaksOffOrder, BreaksOffDrawing, Draws, DrawsBy};
 ghost use Rattle.command_ends.specs.Ends.{end_of};
 
 use command_ends::{End, Fault, end_with};
@@ -63,7 +63,7 @@ fn put_tape<'a, W: Write>(
 }
 
 /// Draws the tape that is asked for, and answers its first fault, if it has one.
-fn drawn<'a, R: Read + Drop, S: Read + Drop, T: Read + Drop, W: Write>(
+fn put_drawing<'a, R: Read + Drop, S: Read + Drop, T: Read + Drop, W: Write>(
     alloc: Global,
     order: DrawOrder<'a, R, S, T>,
     out: &mut W,
@@ -95,15 +95,19 @@ fn drawn<'a, R: Read + Drop, S: Read + Drop, T: Read + Drop, W: Write>(
     put_tape(alloc, &drawing, out)
 }
 
-/// How the command ends once a drawing is written, by the fault of its tape, if it has one.
-fn end_by<E: Write>(fault: Option<SetFault>, err: &mut E) -> End
-    ensures { result ≡ end_by fault }
+/// Draws the tape that is asked for, up to the first fault. That of a tape that does not set comes once it is drawn.
+#[tactic(auto, using(crate::proofs::Ends::sets, crate::proofs::Ends::does_not_set, crate::proofs::Ends::broke_off))]
+fn drawn<'a, R: Read + Drop, S: Read + Drop, T: Read + Drop, W: Write>(
+    alloc: Global,
+    order: DrawOrder<'a, R, S, T>,
+    out: &mut W,
+) -> Result<(), Fault<'a>>
+    ensures { DrawsBy order.entry result (W.contents out.old) (W.contents out.new) }
 {
-    let outcome = match fault {
+    match put_drawing(alloc, order, out)? {
         None => Ok(()),
         Some(fault) => Err(Fault::Unset(fault)),
-    };
-    end_with(outcome, err)
+    }
 }
 
 /// Draws a tape by a code table and a width file, as a document in SVG or a page in HTML.
@@ -111,7 +115,6 @@ fn end_by<E: Write>(fault: Option<SetFault>, err: &mut E) -> End
 /// The table is read and taken before the widths are read, and the widths before the tape. The first fault ends it. A
 /// tape that does not set is drawn whole, and then its first fault ends the command. Nothing is written before all
 /// three are taken; where the output can't be written, it has a front of the drawing.
-#[tactic(auto, using(crate::proofs::Ends::broken))]
 pub fn draw<R: Read + Drop, S: Read + Drop, T: Read + Drop, W: Write, E: Write>(
     alloc: Global,
     order: DrawOrder<'_, R, S, T>,
@@ -120,8 +123,5 @@ pub fn draw<R: Read + Drop, S: Read + Drop, T: Read + Drop, W: Write, E: Write>(
 ) -> End
     ensures { Draws order.entry result (W.contents out.old) (W.contents out.new) }
 {
-    match drawn(alloc, order, out) {
-        Ok(found) => end_by(found, err),
-        Err(fault) => fault.tell(err),
-    }
+    end_with(drawn(alloc, order, out), err)
 }
