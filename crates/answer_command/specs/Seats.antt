@@ -1,5 +1,5 @@
 -- What is asked and answered at a seat: by the acceptor of its circuit and member, in its version.
-use Rattle.std.specs.Prelude.{◌≡◌, ℕ, List, [], Result, IfOk, OnOk}
+use Rattle.std.specs.Prelude.{◌≡◌, ℕ, List, [], Option, Result, IfOk, IfErr, OnOk}
 use Rattle.std.specs.Global.{Vec}
 use Rattle.hex.specs.Hex.{encode_lower}
 use Rattle.protocol.specs.Fitting.{BodyFits}
@@ -10,9 +10,11 @@ use Rattle.rows_saved.specs.Memory.{MemoryOf, saved}
 use Rattle.tape_frames.specs.Entries.{version_of}
 use Rattle.answer_command.specs.Asked.{Asked, asked_of}
 use Rattle.answer_command.specs.Replies.{answered, rows_after, back}
-use Rattle.answer_command.specs.AnswerText.{lines_text, answer_text}
+use Rattle.answer_command.specs.AnswerText.{lines_text, answer_text, WritesAnswer, WritesAnswerFront}
 use Rattle.answer_command.specs.declared.line.AcceptorSeat.{AcceptorSeat}
 use Rattle.refusals.specs.declared.line_refusal.Refusal.{Refusal}
+use Rattle.command_ends.specs.Ends.{end_of, IsOfInput}
+use Rattle.command_ends.specs.declared.fault.Fault.{Fault}
 
 -- what a line asks for
 abbrev pub asked_at : AcceptorSeat → List ℕ → Result Asked Refusal
@@ -62,3 +64,10 @@ lines_at s lines = lines_text s.circuit s.me (version_of s.wire) [] lines
 -- the whole text for an input
 abbrev pub answer_at : AcceptorSeat → List ℕ → List ℕ
 answer_at s input = answer_text s.circuit s.me (version_of s.wire) input
+
+-- what came of answering an input: the whole text was written where it ended well, and a front of it however it ended; nothing else
+-- than the input, the output or want of memory ended it before
+pub record AnswersInput (s : AcceptorSeat) (outcome : Result (Unit {0}) Fault) (input old new : Option (List ℕ)) : Type 0 where
+  pub done : OnOk outcome (WritesAnswer s.circuit s.me (version_of s.wire) input old new)
+  pub front : WritesAnswerFront s.circuit s.me (version_of s.wire) input old new
+  pub fault : IfErr outcome (λ fault. IsOfInput (end_of fault))

@@ -4,17 +4,18 @@ ghost use Rattle.std.specs.Prelude.{◌≡◌, ◌==◌, List, [], ◌∷◌, �
 ghost use Rattle.std.specs.List.{list_all, slice_split};
 ghost use Rattle.tape_frames.specs.Entries.{version_of};
 ghost use Rattle.answer_command.specs.AnswerText.{is_blank, lines_of, WritesAnswer, WritesAnswerFront};
-ghost use Rattle.answer_command.specs.Seats.{lines_at, answer_at};
+ghost use Rattle.answer_command.specs.Seats.{lines_at, answer_at, AnswersInput};
 ghost use Rattle.command_ends.specs.Ends.{end_of, IsOfInput};
 ghost use Rattle.streams.specs.Writing.{Writes};
 ghost use Rattle.command_ends.specs.declared.end.End.TheVariants.{Done};
 
 use crate::line::{AcceptorSeat, answer_line};
 use command_ends::{End, Fault, end_with};
+use inputs::read_text;
 use rows_saved::MemoryRows;
 use std::alloc::{AllocError, Global};
 use std::io::{Read, Write};
-use streams::{PutFault, hand_on, put_all, read_input};
+use streams::{PutFault, hand_on, put_all};
 
 fn is_blank(line: &[u8]) -> bool
     ensures { result ≡ is_blank line.now }
@@ -81,6 +82,19 @@ fn put_answer<'a, W: Write>(
     Ok(())
 }
 
+/// Reads the input to its end, and answers its lines, up to the first fault.
+fn answered<'a, R: Read + Drop, W: Write>(
+    alloc: Global,
+    order: AnswerOrder<R>,
+    out: &mut W,
+) -> Result<(), Fault<'a>>
+    ensures { AnswersInput order.seat result (R.remaining order.input) (W.contents out.old) (W.contents out.new) }
+{
+    let AnswerOrder { seat, mut input } = order;
+    let bytes = read_text(alloc, &mut input, "-")?;
+    put_answer(alloc, &seat, &bytes, out)
+}
+
 /// Answers each line of the input as one acceptor of this circuit and member, over rows that last for the run. It reads and
 /// replies in this version; at version 2 it reads version 1 too.
 ///
@@ -98,10 +112,5 @@ pub fn answer<R: Read + Drop, W: Write, E: Write>(
         (R.remaining order.input) (W.contents out.old) (W.contents out.new) }
     ensures ends { IsOfInput result }
 {
-    let AnswerOrder { seat, mut input } = order;
-    let bytes = match read_input(alloc, &mut input) {
-        Ok(bytes) => bytes,
-        Err(fault) => return Fault::of_input(fault, "-").tell(err),
-    };
-    end_with(put_answer(alloc, &seat, &bytes, out), err)
+    end_with(answered(alloc, order, out), err)
 }
