@@ -9,7 +9,7 @@ use command_ends::{End, Fault, tell};
 use configuration::{Config, ConfigInput, NoLookUp, read_config};
 use plant_status::{Health, Status, ages_of, health_of, seconds_now};
 use std::io::{IsTerminal, Write};
-use streams::InputFile;
+use streams::{InputFile, hand_on, put_parts};
 
 /// How a status is printed.
 #[derive(Clone, Copy)]
@@ -61,16 +61,11 @@ fn told_of(rt: &HostRuntime, asked: StatusPlan<'_>) -> Result<(String, bool), St
     told_by(rt, asked, &status)
 }
 
-/// Writes a text, and what stands before it.
+/// Writes a text behind what stands before it, and hands it on.
 fn put<W: Write>(before: &str, text: &str, out: &mut W) -> Result<(), StatusFault> {
-    let is_written = out.write_all(before.as_bytes()).is_ok()
-        && out.write_all(text.as_bytes()).is_ok()
-        && out.flush().is_ok();
-    if is_written {
-        Ok(())
-    } else {
-        Err(StatusFault::Unwritten)
-    }
+    put_parts(out, &[before.as_bytes(), text.as_bytes()])?;
+    hand_on(out)?;
+    Ok(())
 }
 
 /// Prints how a station stands; whether it is well.

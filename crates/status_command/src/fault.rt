@@ -9,6 +9,7 @@ use command_ends::{CommandFault, End, Fault};
 use plant_status::Unread;
 use std::alloc::AllocError;
 use std::fmt;
+use streams::CannotWrite;
 
 /// Why nothing can be told of a station.
 #[derive(Clone, Copy)]
@@ -47,6 +48,12 @@ impl From<Unread> for StatusFault {
             Unread::Later => StatusFault::Later,
             Unread::NoStatus => StatusFault::NoText,
         }
+    }
+}
+
+impl From<CannotWrite> for StatusFault {
+    fn from(_: CannotWrite) -> StatusFault {
+        StatusFault::Unwritten
     }
 }
 
