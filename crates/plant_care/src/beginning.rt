@@ -5,7 +5,7 @@ ghost use Rattle.plant_care.specs.Starting.{Begins, BeginsAgain, IsOpeningOf, sa
 
 use crate::care::Care;
 use ballots::Number;
-use catch_up::{CatchUp, Start as First};
+use catch_up::{CatchUp, Start};
 use catch_up_log::{tell_missing, tell_set_aside, tell_unread};
 use driver::{Log, TakenStep};
 use folders::{FolderFault, Folders, WentOut};
@@ -83,10 +83,10 @@ fn opened(
 }
 
 /// From what a station starts where it can't be read what went out: it asks for nothing.
-fn unread(own: Origin) -> First
+fn unread(own: Origin) -> Start
     ensures { (result.own ≡ own) × (result.asks ≡ false) }
 {
-    First {
+    Start {
         own,
         known: None,
         gone: None,
@@ -150,10 +150,10 @@ impl CareStart {
     }
 
     /// From what a station starts by its rows, and by what went out.
-    fn first(self, gone: Gone) -> First
+    fn first(self, gone: Gone) -> Start
         ensures { (result.own ≡ self.own) × (result.asks ≡ self.catches_up) }
     {
-        First {
+        Start {
             own: self.own,
             known: self.known,
             gone: gone.numbers,
