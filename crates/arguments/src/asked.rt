@@ -1,23 +1,12 @@
 //! What the command line asks for.
 
-use crate::plan::{Mismatch, Plan};
+use crate::plan::{CreatePlan, Mismatch, Plan};
 use ballots::Member;
 use clap::Error;
 use inputs::{ScriptPaths, TapePaths};
 use log_terms::LogTerms;
 use tape_drawing::DrawingForm;
 use tape_frames::Version;
-
-/// How it is told how a station stands.
-#[derive(Clone, Copy, PartialEq, Eq)]
-pub enum Telling {
-    /// By lines.
-    Lines,
-    /// As one object of JSON.
-    Json,
-    /// By lines, again each second.
-    Watched,
-}
 
 /// A command, with all that it is given.
 #[derive(Clone, Copy)]
@@ -70,11 +59,8 @@ pub enum Asked<'a> {
     Upgrade {
         path: &'a str,
     },
-    /// To make the row file that the configuration at a path names, in the layout for rows of this version.
-    Create {
-        config: &'a str,
-        layout: Version,
-    },
+    /// To make the row file of a station.
+    Create(CreatePlan<'a>),
     /// To serve a station.
     Serve(Plan<'a>),
     /// To run the station of the configuration at a path until it is stopped.
@@ -94,10 +80,14 @@ pub enum Asked<'a> {
     Stop {
         config: &'a str,
     },
-    /// To tell how the station of the configuration at a path stands.
+    /// To tell how the station of the configuration at a path stands, by lines, or where `json` is set as one object of JSON.
     Status {
         config: &'a str,
-        telling: Telling,
+        json: bool,
+    },
+    /// To tell by lines, again each second, how the station of the configuration at a path stands.
+    Watch {
+        config: &'a str,
     },
     /// To rehearse a circuit by a script.
     Rehearse {
@@ -139,6 +129,20 @@ pub enum Unasked {
     /// What `clap` says of its words: the help or the version that they ask for, the first mistake among them, or that
     /// memory was refused.
     Clap(Error),
-    /// They are options that do not go together.
+    /// What they ask for does not go together.
     Mismatched(Mismatch),
+    /// They name no command.
+    NoCommand,
+}
+
+impl From<Error> for Unasked {
+    fn from(error: Error) -> Unasked {
+        Unasked::Clap(error)
+    }
+}
+
+impl From<Mismatch> for Unasked {
+    fn from(mismatch: Mismatch) -> Unasked {
+        Unasked::Mismatched(mismatch)
+    }
 }

@@ -440,7 +440,7 @@ const SERVE: CommandForm = CommandForm {
                 absence: Absence::Empty,
                 goes_with: None,
             }),
-            help: "Then withdraw this number, 1 to 999999, so that no story goes out under it; refused by rows of version 1",
+            help: "Then withdraw this number, 1 to 999999, so that no story goes out under it; refused by rows in layout 1",
         },
         ArgumentForm {
             name: "seek",

@@ -6,7 +6,7 @@ mod grammar;
 mod plan;
 mod taking;
 
-pub use asked::{Asked, ReelPlan, Telling, Unasked};
+pub use asked::{Asked, ReelPlan, Unasked};
 pub use grammar::VERSION;
-pub use plan::{Mismatch, Plan, TapeOffer};
+pub use plan::{CreatePlan, Mismatch, Plan, TapeOffer};
 pub use taking::asked_by;

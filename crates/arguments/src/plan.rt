@@ -1,9 +1,18 @@
-//! What the command line of `serve` asks for: options that go together are one value.
+//! What the command lines of `create` and `serve` ask for: options that go together are one value.
 
 ghost use Rattle.std.specs.Prelude.{◌≡◌, IfOk, IfErr, IsErr, option_map};
 ghost use Rattle.arguments.specs.Plans.{IsLayoutAlone, IsUnpaired, made_in};
 
 use tape_frames::Version;
+
+/// What the command line of `create` asks for.
+#[derive(Clone, Copy)]
+pub struct CreatePlan<'a> {
+    /// The path of the configuration.
+    pub config: &'a str,
+    /// The layout in which the row file is made, by the version that it has rows of.
+    pub layout: Version,
+}
 
 /// A tape that is offered for a number.
 #[derive(Clone, Copy)]
@@ -31,13 +40,15 @@ pub struct Plan<'a> {
     pub seek: Option<u32>,
 }
 
-/// Which options of a line stand without those that they go with.
+/// What of a line does not go together.
 #[derive(Clone, Copy, PartialEq, Eq)]
 pub enum Mismatch {
     /// A number without a tape, or a tape without a number.
     Unpaired,
     /// A layout of saved rows that are not to be made.
     LayoutAlone,
+    /// Tapes with a `--` among them.
+    TapesApart,
 }
 
 /// The tape that is offered, if both its number and its path are given. The one without the other is refused.
@@ -58,7 +69,10 @@ pub(crate) fn offer_of<'a>(
 
 /// The version that the saved rows are made in, if they are made: version 1 where no layout is named. A layout of rows
 /// that are not made is refused.
-pub(crate) fn making_of(create: bool, layout: Option<Version>) -> Result<Option<Version>, Mismatch>
+pub(crate) fn creation_of(
+    create: bool,
+    layout: Option<Version>,
+) -> Result<Option<Version>, Mismatch>
     ensures made { IfOk result (λ made. made ≡ made_in create layout) }
     ensures alone { IsLayoutAlone create layout → IsErr result }
     ensures refused { IfErr result (λ mismatch. IsLayoutAlone create layout × (mismatch ≡ Mismatch.LayoutAlone)) }

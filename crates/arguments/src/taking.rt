@@ -1,8 +1,8 @@
 //! What the words of a call ask for.
 
-use crate::asked::{Asked, ReelPlan, Telling, Unasked};
+use crate::asked::{Asked, ReelPlan, Unasked};
 use crate::grammar::grammar;
-use crate::plan::{Mismatch, Plan, TapeOffer, making_of, offer_of};
+use crate::plan::{CreatePlan, Mismatch, Plan, TapeOffer, creation_of, offer_of};
 use ballots::Member;
 use clap::{ArgMatches, Error};
 use inputs::{ScriptPaths, TapePaths};
@@ -116,7 +116,7 @@ fn upgrade_of<'a>(matches: &ArgMatches<'a>) -> Option<Asked<'a>> {
 fn create_of<'a>(matches: &ArgMatches<'a>) -> Option<Asked<'a>> {
     let config = matches.get_str("CONFIG")?;
     let layout = version_of(matches, "layout")?;
-    Some(Asked::Create { config, layout })
+    Some(Asked::Create(CreatePlan { config, layout }))
 }
 
 fn check_config_of<'a>(matches: &ArgMatches<'a>) -> Option<Asked<'a>> {
@@ -129,21 +129,14 @@ fn stop_of<'a>(matches: &ArgMatches<'a>) -> Option<Asked<'a>> {
     Some(Asked::Stop { config })
 }
 
-/// How it is told how a station stands, by the flags of a line.
-fn telling_of(json: bool, watch: bool) -> Telling {
-    if json {
-        Telling::Json
-    } else if watch {
-        Telling::Watched
-    } else {
-        Telling::Lines
-    }
-}
-
+/// The grammar of a call takes one of the two flags at most.
 fn status_of<'a>(matches: &ArgMatches<'a>) -> Option<Asked<'a>> {
     let config = matches.get_str("CONFIG")?;
-    let telling = telling_of(matches.get_flag("json"), matches.get_flag("watch"));
-    Some(Asked::Status { config, telling })
+    if matches.get_flag("watch") {
+        return Some(Asked::Watch { config });
+    }
+    let json = matches.get_flag("json");
+    Some(Asked::Status { config, json })
 }
 
 /// To serve, with what is offered first and the version that rows are made in, if any are.
@@ -166,7 +159,7 @@ fn plan_of<'a>(
 /// Of two mismatches that of the offer is the first.
 fn serve_of<'a>(matches: &ArgMatches<'a>) -> Result<Option<Asked<'a>>, Mismatch> {
     let offer = offer_of(matches.get_one::<u32>("number"), matches.get_str("tape"))?;
-    let create = making_of(matches.get_flag("create"), version_of(matches, "layout"))?;
+    let create = creation_of(matches.get_flag("create"), version_of(matches, "layout"))?;
     Ok(plan_of(matches, offer, create))
 }
 
@@ -216,12 +209,27 @@ fn last_words<'a>(words: &'a [String], texts: &[&str]) -> Option<&'a [String]> {
     same.then_some(last)
 }
 
-fn survey_of<'a>(words: &'a [String], matches: &ArgMatches<'a>) -> Option<Asked<'a>> {
+/// To survey these tapes.
+fn survey_over<'a>(matches: &ArgMatches<'a>, tapes: &'a [String]) -> Option<Asked<'a>> {
     Some(Asked::Survey {
         table: matches.get_str("TABLE")?,
         widths: matches.get_str("WIDTHS")?,
-        tapes: last_words(words, matches.get_strs("TAPE")?)?,
+        tapes,
     })
+}
+
+/// The tapes are the last words of a line, unless a `--` is among them.
+fn survey_of<'a>(
+    words: &'a [String],
+    matches: &ArgMatches<'a>,
+) -> Result<Option<Asked<'a>>, Mismatch> {
+    let Some(texts) = matches.get_strs("TAPE") else {
+        return Ok(None);
+    };
+    match last_words(words, texts) {
+        Some(tapes) => Ok(survey_over(matches, tapes)),
+        None => Err(Mismatch::TapesApart),
+    }
 }
 
 fn asked_of<'a>(
@@ -249,24 +257,20 @@ fn asked_of<'a>(
         "status" => status_of(given),
         "rehearse" => rehearse_of(given),
         "import" => import_of(given),
-        "survey" => survey_of(words, given),
+        "survey" => return survey_of(words, given),
         _ => None,
     };
     Ok(asked)
 }
 
-/// The command that the words give, with all that it is given; the first word is the program's own name. `None` where they
-/// name no command.
+/// The command that the words give, with all that it is given; the first word is the program's own name.
 ///
-/// `Err` is what `clap` says of words that ask for no command, or that they are options which do not go together. Of two
-/// such mistakes `clap`'s is the first.
-pub fn asked_by<'a>(alloc: Global, words: &'a [String]) -> Result<Option<Asked<'a>>, Unasked> {
-    let matches = match matches_of(alloc, words) {
-        Ok(matches) => matches,
-        Err(error) => return Err(Unasked::Clap(error)),
-    };
-    match asked_of(words, &matches) {
-        Ok(asked) => Ok(asked),
-        Err(mismatch) => Err(Unasked::Mismatched(mismatch)),
+/// `Err` is what `clap` says of words that ask for no command, or what of them does not go together. Of two such mistakes
+/// `clap`'s is the first.
+pub fn asked_by<'a>(alloc: Global, words: &'a [String]) -> Result<Asked<'a>, Unasked> {
+    let matches = matches_of(alloc, words)?;
+    match asked_of(words, &matches)? {
+        Some(asked) => Ok(asked),
+        None => Err(Unasked::NoCommand),
     }
 }

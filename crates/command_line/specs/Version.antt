@@ -2,6 +2,7 @@
 use Rattle.std.specs.Prelude.{◌≡◌, ℕ, List, ◌++◌, Option, codes}
 use Rattle.std.specs.Io.KnownBytes.{Appends}
 use Rattle.streams.specs.Fronts.{AppendsFront}
+use Rattle.arguments.specs.declared.grammar.TheConstants.{VERSION}
 use Rattle.command_ends.specs.Ends.{IsOfInput}
 use Rattle.command_ends.specs.declared.end.End.{End}
 use Rattle.command_ends.specs.declared.end.End.TheVariants.{Done}
@@ -12,7 +13,7 @@ named_text version = codes "circuitd " ++ (version ++ codes "\n")
 
 -- the program's name and its own version, on a line
 abbrev pub version_text : List ℕ
-version_text = codes "circuitd 0.3.0\n"
+version_text = named_text VERSION.now
 
 -- they are written whole where it ends well, a prefix of them however it ends, and only the output or want of memory ends it before
 pub record PrintsVersion (old new : Option (List ℕ)) (end : End) : Type 0 where

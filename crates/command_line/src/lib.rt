@@ -4,6 +4,6 @@
 mod parsing;
 mod version;
 
-pub use arguments::{Asked, Plan, ReelPlan, TapeOffer, Telling};
+pub use arguments::{Asked, CreatePlan, Plan, ReelPlan, TapeOffer};
 pub use parsing::parse;
 pub use version::print_version;

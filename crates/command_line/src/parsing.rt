@@ -27,20 +27,27 @@ fn tell<W: Write, E: Write>(error: &Error, out: &mut W, err: &mut E) -> End
     End::Usage
 }
 
-/// The fault of options that do not go together.
+/// What is told where a `--` is among the tapes of a survey.
+const TAPES_APART: &str = "no -- goes between tapes";
+
+/// What is told where no command is named.
+const NO_COMMAND: &str = "no command is named";
+
+/// The fault of what does not go together.
 fn fault_of(mismatch: Mismatch) -> Fault<'static>
     ensures { end_of result ≡ Usage }
 {
     match mismatch {
         Mismatch::Unpaired => Fault::Unpaired,
         Mismatch::LayoutAlone => Fault::LayoutAlone,
+        Mismatch::TapesApart => Fault::Usage(TAPES_APART),
     }
 }
 
 /// The command that the words give; the first word is the program's own name.
 ///
 /// Help is written to `out` and mistakes to `err`, and end as usage: those of `clap` as it words them, and then the fault
-/// of options that do not go together. Where memory is refused, that fault is told and is the end. To ask for the version
+/// of what does not go together. Where memory is refused, that fault is told and is the end. To ask for the version
 /// is a command too, and nothing is written of it yet.
 pub fn parse<'a, W: Write, E: Write>(
     alloc: Global,
@@ -51,9 +58,9 @@ pub fn parse<'a, W: Write, E: Write>(
     ensures { IfErr result IsOfUsage }
 {
     match asked_by(alloc, words) {
-        Ok(Some(asked)) => Ok(asked),
-        Ok(None) => Err(End::Usage),
+        Ok(asked) => Ok(asked),
         Err(Unasked::Mismatched(mismatch)) => Err(fault_of(mismatch).tell(err)),
+        Err(Unasked::NoCommand) => Err(Fault::Usage(NO_COMMAND).tell(err)),
         Err(Unasked::Clap(error)) if error.kind() == ErrorKind::DisplayVersion => Ok(
             Asked::Version,
         ),

@@ -9,10 +9,10 @@ ghost use Rattle.command_line.specs.Version.{named_text, version_text, PrintsVer
 use arguments::VERSION;
 use command_ends::{End, Fault, end_with};
 use std::io::Write;
-use streams::{CannotWrite as WriteFault, put_parts};
+use streams::{CannotWrite, hand_on, put_parts};
 
 /// Writes the program's name and a version, on a line.
-fn put_line<W: Write>(out: &mut W, version: &str) -> Result<(), WriteFault>
+fn put_line<W: Write>(out: &mut W, version: &str) -> Result<(), CannotWrite>
     ensures ok { OnOk result (Appends (W.contents out.old) (W.contents out.new) (named_text version.now)) }
     ensures err { OnErr result (AppendsFront (W.contents out.old) (W.contents out.new) (named_text version.now)) }
 {
@@ -25,14 +25,9 @@ fn put_version<'a, W: Write>(out: &mut W) -> Result<(), Fault<'a>>
     ensures err { OnErr result (AppendsFront (W.contents out.old) (W.contents out.new) version_text) }
     ensures fault { IfErr result (λ fault. fault ≡ CannotWrite) }
 {
-    match put_line(out, VERSION) {
-        Ok(()) => {}
-        Err(_) => return Err(Fault::CannotWrite),
-    }
-    match out.flush() {
-        Ok(()) => Ok(()),
-        Err(_) => Err(Fault::CannotWrite),
-    }
+    put_line(out, VERSION)?;
+    hand_on(out)?;
+    Ok(())
 }
 
 /// Prints the program's name and its version. Where the output can't be written, `err` has that fault.

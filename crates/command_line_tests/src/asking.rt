@@ -2,7 +2,7 @@
 
 use super::splitting::words_of;
 use command_ends::End;
-use command_line::{Asked, Plan, TapeOffer, Telling, parse};
+use command_line::{Asked, Plan, TapeOffer, parse};
 use log_terms::LogTerms;
 use std::alloc::Global;
 use tape_frames::Version;
@@ -14,7 +14,7 @@ pub enum Wanted<'a> {
     Help(&'a str),
     /// It is usage, with this told between the word `error` and the hint at the help.
     Mistake(&'a str),
-    /// It is usage, and this line is told, since options do not go together.
+    /// It is usage, and this line is told, since something of it does not go together.
     Mismatch(&'a str),
     /// It asks for the version, which is not printed yet.
     Version,
@@ -28,8 +28,10 @@ pub enum Wanted<'a> {
     Create(Version),
     /// It asks to run the station of `station.toml`, with rows that are made in this layout, if they are, and to tell on these terms.
     Run(Option<Version>, LogTerms),
-    /// It asks how the station of `station.toml` stands, told so.
-    Status(Telling),
+    /// It asks how the station of `station.toml` stands, by lines or as JSON.
+    Status { json: bool },
+    /// It asks the same again each second.
+    Watch,
 }
 
 /// Whether the same is offered.
@@ -79,8 +81,8 @@ fn is_asked(asked: &Result<Asked<'_>, End>, wanted: &Wanted<'_>) -> bool {
                 && *ligatures == *named
                 && *room == *version
         }
-        (Ok(Asked::Create { config, layout }), Wanted::Create(wanted)) => {
-            *config == "station.toml" && *layout == *wanted
+        (Ok(Asked::Create(plan)), Wanted::Create(wanted)) => {
+            plan.config == "station.toml" && plan.layout == *wanted
         }
         (
             Ok(
@@ -92,9 +94,10 @@ fn is_asked(asked: &Result<Asked<'_>, End>, wanted: &Wanted<'_>) -> bool {
             ),
             Wanted::Run(made, terms),
         ) => *config == "station.toml" && *create == *made && *log == *terms,
-        (Ok(Asked::Status { config, telling }), Wanted::Status(wanted)) => {
-            *config == "station.toml" && *telling == *wanted
+        (Ok(Asked::Status { config, json }), Wanted::Status { json: wanted }) => {
+            *config == "station.toml" && *json == *wanted
         }
+        (Ok(Asked::Watch { config }), Wanted::Watch) => *config == "station.toml",
         _ => false,
     }
 }

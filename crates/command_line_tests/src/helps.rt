@@ -259,7 +259,7 @@ Options:
       --layout <L>    The layout of the row file that is made, 1 where none is named: in layout 2 a number may be withdrawn; goes with --create [possible values: 1, 2]
       --number <N>    First offer a story under this number, 1 to 999999; goes with --tape
       --tape <FILE>   The tape that is offered, one frame per byte; goes with --number
-      --withdraw <N>  Then withdraw this number, 1 to 999999, so that no story goes out under it; refused by rows of version 1
+      --withdraw <N>  Then withdraw this number, 1 to 999999, so that no story goes out under it; refused by rows in layout 1
       --seek <N>      Then ask the circuit for the story of this number
   -h, --help          Print help
 

@@ -2,7 +2,7 @@
 
 use super::asking::{Wanted, comes_to};
 use command_ends::End;
-use command_line::{Plan, TapeOffer, Telling, print_version};
+use command_line::{Plan, TapeOffer, print_version};
 use log_terms::{LogTerms, Loudness};
 use std::alloc::Global;
 use tape_frames::Version;
@@ -182,12 +182,17 @@ fn plans_of_run(rt: HostRuntime) {
 
 #[test]
 fn plans_of_status(rt: HostRuntime) {
-    let plain = Wanted::Status(Telling::Lines);
-    let json = Wanted::Status(Telling::Json);
-    let watched = Wanted::Status(Telling::Watched);
+    let plain = Wanted::Status { json: false };
+    let json = Wanted::Status { json: true };
     assert!(rt; comes_to(rt.alloc(), "circuitd status station.toml", plain));
     assert!(rt; comes_to(rt.alloc(), "circuitd status --json station.toml", json));
-    assert!(rt; comes_to(rt.alloc(), "circuitd status station.toml --watch", watched));
+    assert!(rt;
+        comes_to(
+            rt.alloc(),
+            "circuitd status station.toml --watch",
+            Wanted::Watch
+        )
+    );
 }
 
 /// Whether the version is printed, and nothing else is.

@@ -213,8 +213,10 @@ const UNPAIRED: Wanted<'static> = Wanted::Mismatch("usage: --number and --tape g
 
 const LAYOUT_ALONE: Wanted<'static> = Wanted::Mismatch("usage: --layout goes with --create\n");
 
-/// Lines whose options do not go together, each with what is told. Of two such mistakes the offer's is told, and before
-/// both one of `clap`'s.
+const TAPES_APART: Wanted<'static> = Wanted::Mismatch("usage: no -- goes between tapes\n");
+
+/// Lines of which something does not go together, each with what is told. Of two such mistakes the offer's is told, and
+/// before both one of `clap`'s.
 const MISMATCHES: &[(&str, Wanted<'static>)] = &[
     ("circuitd serve one.toml --turns 1 --number 12", UNPAIRED),
     (
@@ -230,6 +232,10 @@ const MISMATCHES: &[(&str, Wanted<'static>)] = &[
     (
         "circuitd serve one.toml --turns 1 --layout 2 --number 12 --tape story.tape",
         LAYOUT_ALONE,
+    ),
+    (
+        "circuitd survey codes.toml widths.toml one.tape -- two.tape",
+        TAPES_APART,
     ),
     (
         "circuitd serve one.toml --turns 0 --number 12",

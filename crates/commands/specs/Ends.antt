@@ -8,6 +8,7 @@ use Rattle.command_ends.specs.declared.end.End.TheVariants.{Done}
 use Rattle.rows_saved.specs.declared.identity.Identity.{Identity}
 use Rattle.arguments.specs.declared.asked.Asked.{Asked}
 use Rattle.arguments.specs.declared.asked.Asked.TheVariants.{Answer, Create}
+use Rattle.arguments.specs.declared.plan.CreatePlan.{CreatePlan}
 use Rattle.commands.specs.Creations.{CreateEnds}
 
 -- `answer` writes its answers to what comes in: all of them where it ends well, and the first of them however it ends
@@ -23,4 +24,4 @@ AnswersAsked asked input before after end =
 -- where it is asked to create a row file in a layout, that is what is done
 abbrev pub CreatesAsked : {F : Type 0} → Asked → (F → List ℕ → Identity → Version → Type 0) → F → Option (List ℕ) → Option (List ℕ) → End → Type 0
 CreatesAsked asked leaves files before after end =
-    (config : _) (layout : Version) → asked ≡ Create config layout → CreateEnds leaves files layout before after end
+    (plan : CreatePlan) → asked ≡ Create plan → CreateEnds leaves files plan.layout before after end

@@ -8,21 +8,13 @@ ghost use Rattle.commands.specs.Creations.{layout_number, made_line, CreateEnds,
 use crate::host::{Host, ThisHost};
 use crate::start_up::{Ground, make_rows};
 use command_ends::{End, Fault, end_with};
+use command_line::CreatePlan;
 use configuration::{ConfigInput, NoLookUp, read_config};
 use rows_files::{NewRows, RowFiles};
 use std::alloc::{AllocError, Global};
 use std::io::Write;
 use streams::put_whole;
 use tape_frames::Version;
-
-/// What `create` is asked for.
-#[derive(Clone, Copy)]
-pub struct CreatePlan<'a> {
-    /// The path of the configuration.
-    pub config: &'a str,
-    /// The version whose layout the row file is made in.
-    pub version: Version,
-}
 
 /// The number of the layout that rows of this version are made in.
 pub(crate) fn layout_number(version: Version) -> u8
@@ -64,7 +56,7 @@ fn created<'a, F: RowFiles, W: Write>(
     plan: CreatePlan<'a>,
     out: &mut W,
 ) -> Result<(), Fault<'a>>
-    ensures { Creates F.leaves ground.now.row_files.now plan.entry.version (W.contents out.old) (W.contents out.new) result }
+    ensures { Creates F.leaves ground.now.row_files.now plan.entry.layout (W.contents out.old) (W.contents out.new) result }
 {
     let rt = ground.rt;
     let file = ConfigInput {
@@ -73,7 +65,7 @@ fn created<'a, F: RowFiles, W: Write>(
     };
     // No station is talked to, so no host is looked up.
     let config = read_config(rt.alloc(), &NoLookUp, file)?;
-    let new = make_rows(ground, &config, plan.version)?;
+    let new = make_rows(ground, &config, plan.layout)?;
     put_made(rt.alloc(), new, out)
 }
 
@@ -87,7 +79,7 @@ pub fn create<F: RowFiles, W: Write, E: Write>(
     out: &mut W,
     err: &mut E,
 ) -> End
-    ensures ends { CreateEnds F.leaves ground.now.row_files.now plan.entry.version (W.contents out.old) (W.contents out.new) result }
+    ensures ends { CreateEnds F.leaves ground.now.row_files.now plan.entry.layout (W.contents out.old) (W.contents out.new) result }
 {
     end_with(created(ground, plan, out), err)
 }

@@ -7,7 +7,7 @@ ghost use Rattle.arguments.specs.declared.asked.Asked.TheVariants.{Upgrade};
 ghost use Rattle.commands.specs.Ends.{AnswersAsked, CreatesAsked};
 
 use crate::console::Console;
-use crate::create_start::{CreatePlan, create};
+use crate::create_start::create;
 use crate::editing::{run_fit, run_punch, run_spell};
 use crate::host::ThisHost;
 use crate::reels::{run_import, run_survey};
@@ -18,7 +18,7 @@ use crate::story::Story;
 use answer_command::{AcceptorSeat, AnswerOrder, answer};
 use check_command::{CheckOrder, check};
 use command_ends::{End, end_with};
-use command_line::{Asked, Telling, print_version};
+use command_line::{Asked, print_version};
 use draw_command::{ChartingOrder, DrawOrder, SettingPaths, chart, draw};
 use editor_commands::StoryPaths;
 use inputs::{ScriptPaths, TapePaths};
@@ -112,13 +112,15 @@ fn run_rehearse<F: RowFiles, R: Read + Drop, W: Write + Drop, E: Write + Drop>(
     rehearse(rt.alloc(), order, out, err)
 }
 
-/// How a status is printed.
-fn shape_of(telling: Telling) -> Shape {
-    match telling {
-        Telling::Lines => Shape::Lines,
-        Telling::Json => Shape::Json,
-        Telling::Watched => Shape::Watched,
-    }
+/// Tells in a shape how the station of the configuration at a path stands.
+fn run_status<F: RowFiles, R: Read + Drop, W: Write + Drop, E: Write + Drop>(
+    console: &mut Console<'_, F, R, W, E>,
+    config: &str,
+    shape: Shape,
+) -> End {
+    let rt = console.rt;
+    let Console { out, err, .. } = console;
+    status(rt, StatusOrder { config, shape }, out, err)
 }
 
 /// Runs the command that was asked for. A tape or a text whose path is `-` is read from the console's input; a path that can't be opened is
@@ -194,13 +196,7 @@ pub fn carry_out<F: RowFiles, R: Read + Drop, W: Write + Drop, E: Write + Drop>(
             let outcome = ground.row_files.upgrade(rt, *path, &mut console.out);
             end_with(outcome, &mut console.err)
         }
-        Asked::Create { config, layout } => {
-            let plan = CreatePlan {
-                config: *config,
-                version: *layout,
-            };
-            create(&ground, plan, &mut console.out, &mut console.err)
-        }
+        Asked::Create(plan) => create(&ground, *plan, &mut console.out, &mut console.err),
         Asked::Serve(plan) => serve(&ground, *plan, &mut console.out, &mut console.err),
         Asked::Run {
             config,
@@ -218,14 +214,11 @@ pub fn carry_out<F: RowFiles, R: Read + Drop, W: Write + Drop, E: Write + Drop>(
             check_config(rt, *config, &mut console.out, &mut console.err)
         }
         Asked::Stop { config } => stop(rt, *config, &mut console.err),
-        Asked::Status { config, telling } => {
-            let Console { out, err, .. } = console;
-            let order = StatusOrder {
-                config: *config,
-                shape: shape_of(*telling),
-            };
-            status(rt, order, out, err)
+        Asked::Status { config, json } => {
+            let shape = if *json { Shape::Json } else { Shape::Lines };
+            run_status(console, *config, shape)
         }
+        Asked::Watch { config } => run_status(console, *config, Shape::Watched),
         Asked::Rehearse { paths } => run_rehearse(console, paths),
         Asked::Import(plan) => run_import(console, plan),
         Asked::Survey {

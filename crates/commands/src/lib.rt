@@ -24,7 +24,7 @@ mod story;
 mod tapes;
 
 pub use console::Console;
-pub use create_start::{CreatePlan, create};
+pub use create_start::create;
 pub use dispatch::carry_out;
 pub use host::{Host, ThisHost};
 pub use host_door::HostDoor;
