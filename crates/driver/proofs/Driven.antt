@@ -12,7 +12,7 @@ use Rattle.station.specs.Steps.{IsStep, tears, stopped_after}
 use Rattle.recalls.specs.Spelling.{spelling}
 use Rattle.rolls.specs.Spelling.{spelling as roll_spelling}
 use Rattle.wire.specs.Passing.{Passed, Passes, Trace, sent, told}
-use Rattle.command_ends.specs.Ends.{end_of, end_of_step, EndsAfter, IsOfWriting}
+use Rattle.command_ends.specs.Ends.{end_of, end_of_step, IsOfWriting}
 use Rattle.command_ends.specs.declared.end.End.{End}
 use Rattle.command_ends.specs.declared.end.End.TheVariants as ends
 use Rattle.command_ends.specs.declared.fault.Fault.{Fault}
@@ -74,10 +74,10 @@ pub went_on : {A : Type 0} (r : Result A Fault) (P : Type 0) → OnOk r P → en
 went_on (Ok x) P p done = p
 went_on (Err f) P p done = absurd (ends_badly f done)
 
--- a command that ends after a result ends as this did
-pub ends_so : {A : Type 0} (r : Result A Fault) (end : End) → EndsAfter end_of r end → end ≡ ended r
-ends_so (Ok x) end is = is.ok
-ends_so (Err f) end is = is.err.end
+-- and what holds where it ended well holds of a good result
+pub when_well : {A : Type 0} (r : Result A Fault) (P : Type 0) → (ended r ≡ ends.Done → P) → OnOk r P
+when_well (Ok x) P p = p refl
+when_well (Err f) P p = tt
 
 -- a driver has the hands that it had before both
 pub hands_then : {R N S : Type 0} (a b c : Driver R N S) → SameHands a b → SameHands b c → SameHands a c

@@ -16,7 +16,7 @@ use crate::pacing::asking_of;
 use crate::sink::TakenStep;
 use crate::telling::{tell_lost, tell_strangers};
 use ballots::Ballot;
-use command_ends::{End, Fault, end_with};
+use command_ends::Fault;
 use folders::{FileRequest, OfferKind};
 use pace::Work;
 use rows_saved::{Rows, Settles};
@@ -236,16 +236,21 @@ impl<'a, R: Settles, N: Wire, S: Desk> Driver<'a, R, N, S> {
         self.settle_group(now, group, log)
     }
 
-    /// The same, where no step was taken yet; how the run ends. All is told to this writer, or faults alone, and so is a fault that ends it.
-    pub fn run<E: Write>(&mut self, alloc: Global, err: &mut E, quiet: bool) -> End
+    /// The same, where no step was taken yet. What comes on the way is told to this writer, or faults alone; the fault that ends the run is
+    /// not.
+    pub fn run<E: Write>(
+        &mut self,
+        alloc: Global,
+        err: &mut E,
+        quiet: bool,
+    ) -> Result<(), Fault<'static>>
         ensures station { self.new.station.ghost_name ≡ self.old.station.ghost_name }
         ensures wire { self.new.wire.ghost_name ≡ self.old.wire.ghost_name }
         ensures was_kept { R.kept self.new.station.now.rows → R.kept self.old.station.now.rows }
-        ensures drove { Drove (known R.Rows R.Settles.is_settled N.passed (fate_of S.Sink)) (post_of self.old) (post_of self.new) result Anyhow }
+        ensures drove { Drove (known R.Rows R.Settles.is_settled N.passed (fate_of S.Sink)) (post_of self.old) (post_of self.new) (ended result) Anyhow }
     {
         let mut group = Group::new(alloc);
         let mut log = Log { err, quiet };
-        let outcome = self.work_to_the_end(&mut group, &mut log);
-        end_with(outcome, log.err)
+        self.work_to_the_end(&mut group, &mut log)
     }
 }
