@@ -1,12 +1,12 @@
 -- What `run` did with its folders, by a story of its events: what a driver promises of `run` is told in its words.
-use Rattle.std.specs.Prelude.{◌≡◌, ◌++◌, List, [], Option, flat_map}
+use Rattle.std.specs.Prelude.{◌≡◌, ◌++◌, List, [], Option, Result, flat_map}
 use Rattle.rows_saved.specs.declared.rows.Rows.{Ghosts}
 use Rattle.wire.specs.Passing.{Trace}
-use Rattle.command_ends.specs.declared.end.End.{End}
+use Rattle.command_ends.specs.declared.fault.Fault.{Fault}
 use Rattle.folders.specs.Doings.{Doing, Does}
 use Rattle.folders.specs.Written.{File}
 use Rattle.run_command.specs.Standing.{Texts}
-use Rattle.driver.specs.Events.{Event}
+use Rattle.driver.specs.Events.{Event, ended}
 use Rattle.driver.specs.Driving.{Fate, known, post_in, Drove, Anyhow}
 use Rattle.driver.specs.declared.machine.Machine.{Machine}
 use Rattle.run_command.specs.ReleaseFiles.{filing}
@@ -30,10 +30,11 @@ pub record Tells {F : Type 0} (texts : Texts) (doings : F → Option (List Doing
 abbrev pub tells : {F : Type 0} → Texts → (F → Option (List Doing)) → Fate F
 tells texts doings = record { lived = Tells texts doings; front = Tells texts doings }
 
--- what `run` did up to this end, on a machine with the folders of a plant, as it was and as it is: the station took the steps of its events
+-- what `run` did up to this result, on a machine with the folders of a plant, as it was and as it is: the station took the steps of its events
 -- and no others; what passed over the wire is what came for them and, once what they saved was stored, what they handed out; and its folders
 -- are told of so, texts being read by this table
 abbrev pub RunsUpTo :
-    {R N F : Type 0} → Texts → End → Ghosts R → (R → Type 0) → (N → Trace) → (F → Option (List Doing)) → Machine R N F → Machine R N F → Type 0
-RunsUpTo texts end rows is_settled passed doings old new =
-    Drove (known rows is_settled passed (tells texts doings)) (post_in old) (post_in new) end Anyhow
+    {R N F : Type 0} → Texts → Result (Unit {0}) Fault → Ghosts R → (R → Type 0) → (N → Trace) → (F → Option (List Doing)) → Machine R N F
+    → Machine R N F → Type 0
+RunsUpTo texts result rows is_settled passed doings old new =
+    Drove (known rows is_settled passed (tells texts doings)) (post_in old) (post_in new) (ended result) Anyhow

@@ -1,14 +1,13 @@
 //! The command `run`: a station that stays up, until a file says that it ends.
 
-ghost use Rattle.std.specs.Prelude.{◌≡◌, false, codes};
-ghost use Rattle.command_ends.specs.declared.end.End.TheVariants.{Done};
+ghost use Rattle.std.specs.Prelude.{◌≡◌, OnOk, false, codes};
 ghost use Rattle.folders.specs.Doings.{removed_file, MayDo};
 ghost use Rattle.run_command.specs.Running.{RunsUpTo};
 
 use crate::desk::PlantDesk;
 use crate::plant::{Manner, Papers, Plant};
 use code_table::CodeTable;
-use command_ends::{End, Fault};
+use command_ends::Fault;
 use driver::{Driver, Machine, NewerLayouts};
 use folders::{FolderFault, Folders, STOP};
 use gone_out::{Known, Origin};
@@ -70,7 +69,7 @@ fn drive<R: Settles, N: Wire + Drop, F: Folders + Drop, E: Write, S: StatusFile 
     machine: &mut Machine<R, N, F>,
     outset: Outset<S>,
     err: &mut E,
-) -> End
+) -> Result<(), Fault<'static>>
     ensures { RunsUpTo outset.texts result R.Rows R.Settles.is_settled N.passed F.doings machine.old machine.new }
 {
     let Outset {
@@ -97,7 +96,7 @@ fn drive<R: Settles, N: Wire + Drop, F: Folders + Drop, E: Write, S: StatusFile 
 
 /// Runs a station over the folders of its plant, which its machine has outside, until a file `stop` lies among the offers, or the station
 /// stops, the network fails, or there is no memory for the files of a release. A file `stop` that lies there at the start is taken away.
-/// `err` has the fault, and what is told on the way; that it can't be written is ignored.
+/// The fault that ends it is its answer; `err` has what is told on the way, and that this can't be written is ignored.
 ///
 /// Steps of the station share a save. Once what they saved is stored, what they hand out is sent, and what they release is written among
 /// the releases, or waits to be where the folder does not take it. What went out before is read of the folders, and what is missing is
@@ -107,10 +106,10 @@ pub fn run_station<R: Settles, N: Wire + Drop, F: Folders + Drop, E: Write, S: S
     machine: &mut Machine<R, N, F>,
     terms: Terms<S>,
     err: &mut E,
-) -> End
+) -> Result<(), Fault<'static>>
     ensures was_kept { R.kept machine.new.station.rows → R.kept machine.old.station.rows }
     ensures runs { RunsUpTo terms.texts result R.Rows R.Settles.is_settled N.passed F.doings machine.old machine.new }
-    ensures goes_on { result ≡ Done → machine.new.station.stopped ≡ false }
+    ensures goes_on { OnOk result (machine.new.station.stopped ≡ false) }
 {
     let loudness = terms.loudness;
     let is_quiet = loudness == Loudness::Faults;
@@ -127,11 +126,9 @@ pub fn run_station<R: Settles, N: Wire + Drop, F: Folders + Drop, E: Write, S: S
         status: terms.status,
     };
     if machine.station.stopped() {
-        return Fault::of_step(StepRefusal::Stopped).tell(err);
+        return Err(Fault::of_step(StepRefusal::Stopped));
     }
-    let Ok(care) = begin(start, &mut machine.outside, err) else {
-        return Fault::OutOfMemory.tell(err);
-    };
+    let care = begin(start, &mut machine.outside, err)?;
     let outset = Outset {
         manner,
         texts: terms.texts,

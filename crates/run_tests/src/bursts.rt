@@ -6,7 +6,7 @@ use crate::stage::Name::{Seek12, Stop, Tape12};
 use crate::stage::What::{Burst, Laid};
 use crate::stage::{Act, Stage};
 use crate::wires::{Flooded, Threesome};
-use command_ends::End;
+use command_ends::{End, end_with};
 use driver::Machine;
 use log_terms::Loudness;
 use run_command::run_station;
@@ -74,7 +74,8 @@ fn three(alloc: Global, acts: &'static [Act], slowness: u32) -> Option<Came> {
         outside: Stage::new(alloc, acts),
     };
     let mut err = Vec::new(alloc);
-    let end = run_station(&mut machine, terms, &mut err);
+    let outcome = run_station(&mut machine, terms, &mut err);
+    let end = end_with(outcome, &mut err);
     Some(Came {
         end,
         err,
@@ -190,7 +191,8 @@ fn hears(alloc: Global) -> Option<bool> {
         outside: Stage::new(alloc, &[Act(3, Laid(Stop, Nothing))]),
     };
     let mut err = Vec::new(alloc);
-    let end = run_station(&mut machine, terms, &mut err);
+    let outcome = run_station(&mut machine, terms, &mut err);
+    let end = end_with(outcome, &mut err);
     let told = err.as_slice() == "socket: 7 datagrams found no place in memory\n".as_bytes();
     Some(end == End::Done && told && machine.wire.left > 3_000)
 }

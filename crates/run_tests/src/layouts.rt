@@ -2,7 +2,7 @@
 
 use crate::plant::terms;
 use ballots::Member;
-use command_ends::End;
+use command_ends::{End, end_with};
 use driver::Machine;
 use folders::NoFolders;
 use log_terms::Loudness;
@@ -60,7 +60,8 @@ fn told(alloc: Global, count: u32) -> Option<Vec<u8>> {
         outside: NoFolders,
     };
     let mut err = Vec::new(alloc);
-    let end = run_station(&mut machine, terms, &mut err);
+    let outcome = run_station(&mut machine, terms, &mut err);
+    let end = end_with(outcome, &mut err);
     (end == End::Socket).then_some(err)
 }
 

@@ -3,7 +3,7 @@
 use crate::plant::{RUN, Run, Saved, holds, machine_of, own, terms};
 use crate::stage::Stage;
 use ballots::Number;
-use command_ends::End;
+use command_ends::{End, end_with};
 use gone_out::{Known, head, record};
 use log_terms::Loudness;
 use run_command::run_station;
@@ -69,7 +69,8 @@ fn told(alloc: Global, kept: Kept, folders: &str) -> Option<Vec<u8>> {
     let mut machine = machine_of(alloc, &run)?;
     lay(alloc, &mut machine.outside, bytes.as_slice()).ok()?;
     let mut err = Vec::new(alloc);
-    let end = run_station(&mut machine, terms, &mut err);
+    let outcome = run_station(&mut machine, terms, &mut err);
+    let end = end_with(outcome, &mut err);
     let is_right = end == End::Socket && holds(alloc, &machine.outside.folders, folders);
     is_right.then_some(err)
 }

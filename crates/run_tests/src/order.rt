@@ -5,7 +5,6 @@ use crate::stage::Act as Happens;
 use crate::stage::Held::{Flood, Harvest, Nothing};
 use crate::stage::Name::{Stop, Tape12};
 use crate::stage::What::Laid;
-use command_ends::End;
 use folders::Act;
 use log_terms::Loudness;
 use run_command::run_station;
@@ -39,9 +38,7 @@ fn done(alloc: Global) -> Option<Vec<u8>> {
     let terms = terms(Loudness::Faults)?;
     let mut machine = machine_of(alloc, &run)?;
     let mut err = Vec::new(alloc);
-    if run_station(&mut machine, terms, &mut err) != End::Done {
-        return None;
-    }
+    run_station(&mut machine, terms, &mut err).ok()?;
     let mut text = Vec::new(alloc);
     for act in machine.outside.folders.acts() {
         if !put_act(act, &mut text) {

@@ -4,7 +4,7 @@ use crate::stage::{Act, Stage};
 use crate::wires::Ticking;
 use ballots::Member;
 use code_table::CodeTable;
-use command_ends::End;
+use command_ends::{End, end_with};
 use driver::Machine;
 use folders::{Act as Doing, MemoryFolders, Place};
 use gone_out::Origin;
@@ -194,7 +194,8 @@ pub fn machine_of(alloc: Global, run: &Run) -> Option<Machine<MemoryRows, Tickin
 pub fn comes_to(alloc: Global, terms: Terms<NoStatus>, run: &Run) -> Option<bool> {
     let mut machine = machine_of(alloc, run)?;
     let mut err = Vec::new(alloc);
-    let end = run_station(&mut machine, terms, &mut err);
+    let outcome = run_station(&mut machine, terms, &mut err);
+    let end = end_with(outcome, &mut err);
     let is_told = end == run.end && err.as_slice() == run.err.as_bytes();
     Some(is_told && holds(alloc, &machine.outside.folders, run.folders))
 }

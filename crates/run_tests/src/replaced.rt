@@ -5,7 +5,7 @@ use crate::stage::Act;
 use crate::stage::Held::{Flood, Harvest, Nothing, Why};
 use crate::stage::Name::{Seek14, Stop, Tape12, Tape14, Withdraw14};
 use crate::stage::What::{Laid, Strays, Taken};
-use command_ends::End;
+use command_ends::{End, end_with};
 use log_terms::Loudness;
 use run_command::run_station;
 use std::alloc::Global;
@@ -93,7 +93,8 @@ fn among_strays(alloc: Global) -> Option<(usize, bool)> {
     let terms = terms(Loudness::All)?;
     let mut machine = machine_of(alloc, &run)?;
     let mut err = Vec::new(alloc);
-    let end = run_station(&mut machine, terms, &mut err);
+    let outcome = run_station(&mut machine, terms, &mut err);
+    let end = end_with(outcome, &mut err);
     let text = str::from_utf8(&err).ok()?;
     let refused = text
         .lines()

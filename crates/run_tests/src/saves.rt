@@ -6,7 +6,7 @@ use crate::stage::Name::{Stop, Tape12};
 use crate::stage::What::Laid;
 use crate::stage::{Act, Stage};
 use crate::wires::Ticking;
-use command_ends::End;
+use command_ends::{End, end_with};
 use driver::Machine;
 use log_terms::Loudness;
 use rows_saved::{Balky, Grouped};
@@ -37,7 +37,8 @@ fn came_to(alloc: Global, is_refused: bool) -> Option<(End, usize)> {
         outside: Stage::new(alloc, ACTS),
     };
     let mut err = Vec::new(alloc);
-    let end = run_station(&mut machine, terms, &mut err);
+    let outcome = run_station(&mut machine, terms, &mut err);
+    let end = end_with(outcome, &mut err);
     Some((end, count_filed(&machine.outside.folders)))
 }
 

@@ -1,6 +1,6 @@
 -- The file is taken away, and then the station is driven.
 use Rattle.std.proofs.Common.{rules, ◌≡◌, ◌∙◌, [], codes, inl, refl, subst}
-use Rattle.command_ends.specs.declared.end.End.TheVariants as ends
+use Rattle.driver.specs.Events.{ended}
 use Rattle.folders.specs.Doings.{removed_file, MayDo}
 use Rattle.driver.specs.Driving.{post_of, Anyhow}
 use Rattle.driver.proofs.Driven.{came_from, left_so, seen_from}
@@ -20,6 +20,7 @@ returns g c =
     let texts : Texts = c.args.outset.texts in
     let desk = c.new-desk.result in
     let last = c.run.new.self in
+    let end = ended c.run.result in
     let f = c.args.machine.now.outside in
     let mid = c.remove_stop.new.folders in
     let h = last.sink.folders.now in
@@ -32,11 +33,11 @@ returns g c =
     let stop = removed_file (codes "stop") in
     let gone : Looked (doings f) (doings mid) m m =
     record { looks = looks_may (doings f) (doings mid) stop refl (c.remove_stop.ensures); follows = follows_same m m refl } in
-    let came = came_from _ _ (post_of last) _ _ _ c.run.result Anyhow c.new-driver.ensures.is c.run.ensures.drove in
+    let came = came_from _ _ (post_of last) _ _ _ end Anyhow c.new-driver.ensures.is c.run.ensures.drove in
     let same : last.sink.folders.ghost_name ≡ _ = came.1.0.0 ∙ c.new-desk.ensures.folders in
-    let seen = seen_from _ (tells texts doings) _ (post_of last) _ _ _ c.run.result Anyhow f h c.new-driver.ensures.is c.run.ensures.drove
+    let seen = seen_from _ (tells texts doings) _ (post_of last) _ _ _ end Anyhow f h c.new-driver.ensures.is c.run.ensures.drove
     (λ log p. tells_start texts doings (texts_of desk) f mid h q r m n log (kept_of desk) c.new-desk.ensures.texts none fresh gone c.new-desk.ensures.kept p.1)
     (λ log p.
     tells_start texts doings (texts_of desk) f mid h q r m n log (kept_of desk) c.new-desk.ensures.texts none fresh gone c.new-desk.ensures.kept
     (begun (texts_of desk) doings (kept_of desk) (kept_of last.sink) log p.1)) in
-    left_so _ _ last.station.now _ last.wire.now _ h _ c.run.result Anyhow (search rules) (search rules) (search rules) seen
+    left_so _ _ last.station.now _ last.wire.now _ h _ end Anyhow (search rules) (search rules) (search rules) seen
