@@ -1,5 +1,5 @@
 -- What `serve` did: what its station was asked and which turns it took, and what was printed of that.
-use Rattle.std.specs.Prelude.{◌≡◌, ◌+◌, ℕ, List, [], ◌∷◌, ◌++◌, flat_map, false, Option, Some, None, Result, Ok, Err}
+use Rattle.std.specs.Prelude.{◌≡◌, ◌+◌, ℕ, List, [], ◌∷◌, ◌++◌, flat_map, false, Option, Some, None, Result, Ok, Err, OnOk}
 use Rattle.std.specs.Io.KnownBytes.{Appends}
 use Rattle.streams.specs.Fronts.{AppendsFront}
 use Rattle.protocol.specs.Entries.{Entry, Tape, Void, Taped}
@@ -12,9 +12,8 @@ use Rattle.refusals.specs.declared.refusal.StepRefusal.{StepRefusal}
 use Rattle.station.specs.Readiness.{slugs_of}
 use Rattle.wire.specs.Passing.{Trace}
 use Rattle.release_texts.specs.ReleaseText.{release_text}
-use Rattle.command_ends.specs.declared.end.End.{End}
-use Rattle.command_ends.specs.declared.end.End.TheVariants.{Done}
-use Rattle.driver.specs.Events.{Event, asked, took, stored, aside}
+use Rattle.command_ends.specs.declared.fault.Fault.{Fault}
+use Rattle.driver.specs.Events.{Event, asked, took, stored, aside, ended}
 use Rattle.driver.specs.Driving.{Fate, known, post_in, Drove, AtClock, Then, IsTurn}
 use Rattle.driver.specs.declared.machine.Machine.{Machine}
 use Rattle.serve_command.specs.declared.serve_loop.ServeTask.{ServeTask}
@@ -47,13 +46,13 @@ prints contents = record {
   front = λ old new log. AppendsFront (contents old) (contents new) (flat_map writing log);
 }
 
--- what `serve` did up to this end by events of this form, on a machine with its output, as it was and as it is: rows that are kept in the end
--- were kept before, and a station that has stopped ends otherwise than well
-pub record ServesBy {R N W : Type 0} (Form : List Event → Type 0) (end : End) (rows : Ghosts R) (is_settled : R → Type 0) (passed : N → Trace)
-    (contents : W → Option (List ℕ)) (old new : Machine R N W) : Type 0 where
-  pub done : Drove (known rows is_settled passed (prints contents)) (post_in old) (post_in new) end Form
+-- what `serve` did up to this result by events of this form, on a machine with its output, as it was and as it is: rows that are kept in the
+-- end were kept before, and where the station has stopped the result is a fault
+pub record ServesBy {R N W : Type 0} (Form : List Event → Type 0) (result : Result (Unit {0}) Fault) (rows : Ghosts R) (is_settled : R → Type 0)
+    (passed : N → Trace) (contents : W → Option (List ℕ)) (old new : Machine R N W) : Type 0 where
+  pub done : Drove (known rows is_settled passed (prints contents)) (post_in old) (post_in new) (ended result) Form
   pub was_kept : rows.kept new.station.rows → rows.kept old.station.rows
-  pub goes_on : end ≡ Done → new.station.stopped ≡ false
+  pub goes_on : OnOk result (new.station.stopped ≡ false)
 
 -- the entry was taken, and what the station saved of it was stored
 abbrev pub IsOffering : ℕ → Entry → ℕ → List Event → Type 0

@@ -5,7 +5,7 @@ ghost use Rattle.driver.specs.Driving.{DroveUpTo, IsTurn};
 ghost use Rattle.serve_command.specs.Serving.{ServesBy, IsOffer, IsWithdrawal, IsSearch, IsLaterAsking, IsAsking, AreTurns, IsRun};
 
 use crate::printer::Printer;
-use command_ends::{End, Fault, end_with};
+use command_ends::Fault;
 use driver::{Call, Driver, Log, Machine, NewerLayouts, Outlet};
 use rows_saved::{Rows, Settles};
 use station::StepRefusal;
@@ -24,13 +24,13 @@ pub struct ServeTurn<'a> {
 ///
 /// What the station hands out is sent, and a release is written to the machine's output, once what it saved is stored. A datagram that it
 /// refuses is passed over, a datagram that can't be sent is lost and told, and so are, once a second at most, those of strangers. One of a
-/// layout that the station does not read is told once a minute at most. The turn ends otherwise than by `Done` where the wire fails to
-/// receive, the station stops, or the output can't be written; `err` has the fault.
+/// layout that the station does not read is told once a minute at most. The turn ends by a fault where the wire fails to receive, the
+/// station stops, or the output can't be written; `err` has what is told on the way.
 pub fn serve_turn<R: Settles, N: Wire + Drop, W: Write + Drop, E: Write>(
     machine: &mut Machine<R, N, W>,
     turn: ServeTurn<'_>,
     err: &mut E,
-) -> End
+) -> Result<(), Fault<'static>>
     ensures { ServesBy (IsTurn turn.entry.at) result R.Rows R.Settles.is_settled N.passed W.contents machine.old machine.new }
 {
     let ServeTurn { at, newer } = turn;
@@ -40,8 +40,7 @@ pub fn serve_turn<R: Settles, N: Wire + Drop, W: Write + Drop, E: Write>(
     };
     let mut log = Log { err, quiet: false };
     let mut driver = Driver::new(&mut machine.station, &mut machine.wire, printer, newer);
-    let done = driver.turn_at(at, &mut log);
-    end_with(done, log.err)
+    driver.turn_at(at, &mut log)
 }
 
 /// What a station under `serve` does: what it is asked, as far as it is given, and how many turns it takes then.
@@ -157,17 +156,17 @@ fn ask_and_turn<R: Settles, N: Wire, S: Outlet, E: Write>(
 /// Serves a station: the offer, then the withdrawal, then the search, if given, and then so many turns, up to the first
 /// that does not end well.
 ///
-/// An offer, a withdrawal or a search that the station refuses ends it, and so does that it has stopped; `err` has the
-/// word. A station at version 1 refuses each withdrawal. Releases are written to the machine's output.
+/// An offer, a withdrawal or a search that the station refuses ends it, and so does that it has stopped. A station at
+/// version 1 refuses each withdrawal. Releases are written to the machine's output; `err` has what is told on the way.
 pub fn serve_run<R: Settles, N: Wire + Drop, W: Write + Drop, E: Write>(
     machine: &mut Machine<R, N, W>,
     task: ServeTask,
     err: &mut E,
-) -> End
+) -> Result<(), Fault<'static>>
     ensures { ServesBy (IsRun task) result R.Rows R.Settles.is_settled N.passed W.contents machine.old machine.new }
 {
     if machine.station.stopped() {
-        return Fault::of_step(StepRefusal::Stopped).tell(err);
+        return Err(Fault::of_step(StepRefusal::Stopped));
     }
     let mut newer = NewerLayouts::new();
     let printer = Printer {
@@ -176,6 +175,5 @@ pub fn serve_run<R: Settles, N: Wire + Drop, W: Write + Drop, E: Write>(
     };
     let mut log = Log { err, quiet: false };
     let mut driver = Driver::new(&mut machine.station, &mut machine.wire, printer, &mut newer);
-    let done = ask_and_turn(&mut driver, task, &mut log);
-    end_with(done, log.err)
+    ask_and_turn(&mut driver, task, &mut log)
 }

@@ -2,7 +2,7 @@
 
 use crate::wires::{Manner, Scripted};
 use ballots::Number;
-use command_ends::{End, Fault};
+use command_ends::Fault;
 use driver::{
     Call, Chance, Declined, Denied, Desk, Driver, HeardDatagram, Log, NewerLayouts, Sink,
     TakenStep, Tasks, Todo,
@@ -143,9 +143,7 @@ fn counts(alloc: Global) -> Option<(usize, usize)> {
     let mut wire = Scripted::new(alloc, Manner::Passing);
     let mut told = Vec::new(alloc);
     let mut driver = Driver::new(&mut station, &mut wire, Counting::new(2), &mut newer);
-    if driver.run(alloc, &mut told, false) != End::Done {
-        return None;
-    }
+    driver.run(alloc, &mut told, false).ok()?;
     let desk = driver.sink();
     Some((desk.released, desk.denied))
 }

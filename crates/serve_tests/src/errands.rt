@@ -8,7 +8,7 @@ use crate::driven::released_by;
 use crate::wires::{Manner, Scripted};
 use ballots::{Member, Number};
 use catch_up::Errand;
-use command_ends::{End, Fault};
+use command_ends::Fault;
 use driver::{
     Call, Chance, Declined, Denied, Desk, Driver, HeardDatagram, Log, NewerLayouts, Sink,
     TakenStep, Tasks, Todo,
@@ -174,9 +174,7 @@ fn run_all(alloc: Global) -> Option<(Counts, Vec<u8>)> {
     };
     let mut told = Vec::new(alloc);
     let mut driver = Driver::new(&mut station, &mut wire, desk, &mut newer);
-    if driver.run(alloc, &mut told, false) != End::Done {
-        return None;
-    }
+    driver.run(alloc, &mut told, false).ok()?;
     let desk = driver.sink();
     let counts = (
         desk.recalled,

@@ -3,7 +3,7 @@
 use crate::driven::Counting;
 use crate::wires::{Manner, Scripted};
 use ballots::Member;
-use command_ends::End;
+use command_ends::{End, end_with};
 use driver::{Driver, NewerLayouts};
 use rows_saved::{Balky, Grouped, MemoryRows};
 use station::Station;
@@ -119,7 +119,8 @@ fn run_on(
     let mut newer = NewerLayouts::new();
     let mut told = Vec::new(alloc);
     let mut driver = Driver::new(station, wire, Counting::new(asks), &mut newer);
-    let end = driver.run(alloc, &mut told, false);
+    let outcome = driver.run(alloc, &mut told, false);
+    let end = end_with(outcome, &mut told);
     let desk = driver.sink();
     Some((end, desk.handed_out, desk.groups))
 }

@@ -1,6 +1,6 @@
 //! A station at work, and the steps that it is driven by.
 
-use command_ends::End;
+use command_ends::{End, end_with};
 use driver::{Machine, NewerLayouts};
 use fixtures::{Given, frames_of};
 use rows_saved::Settles;
@@ -113,7 +113,8 @@ impl<R: Settles, N: Wire + Drop> Plant<R, N> {
         let Ok(task) = task_of(self.machine.alloc, run) else {
             return End::Memory;
         };
-        serve_run(&mut self.machine, task, &mut self.err)
+        let outcome = serve_run(&mut self.machine, task, &mut self.err);
+        end_with(outcome, &mut self.err)
     }
 
     /// Whether this text and these faults have been printed, and no more.
@@ -130,6 +131,7 @@ impl<R: Settles, N: Wire + Drop> Plant<R, N> {
     pub fn turn(&mut self, newer: &mut NewerLayouts) -> End {
         let at = self.machine.wire.now();
         let turn = ServeTurn { at, newer };
-        serve_turn(&mut self.machine, turn, &mut self.err)
+        let outcome = serve_turn(&mut self.machine, turn, &mut self.err);
+        end_with(outcome, &mut self.err)
     }
 }

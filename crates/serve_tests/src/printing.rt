@@ -4,7 +4,7 @@ use crate::plant::{OFFER, RELEASE, Run, TURN, task_of};
 use crate::stories::{Story, is_true};
 use crate::wires::{Manner, Scripted};
 use crate::writers::{Held, Slow};
-use command_ends::End;
+use command_ends::{End, end_with};
 use driver::Machine;
 use rows_saved::MemoryRows;
 use serve_command::serve_run;
@@ -56,7 +56,8 @@ fn ends<W: Write + Drop>(
 ) -> Option<bool> {
     let task = task_of(machine.alloc, run).ok()?;
     let mut err = Vec::new(machine.alloc);
-    let end = serve_run(machine, task, &mut err);
+    let outcome = serve_run(machine, task, &mut err);
+    let end = end_with(outcome, &mut err);
     Some(end == run.end && err.as_slice() == run.err.as_bytes())
 }
 

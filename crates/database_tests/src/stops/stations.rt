@@ -3,7 +3,7 @@
 use crate::examples::{RELEASE, read_files};
 use crate::rows::samples::is_entry;
 use ballots::Member;
-use command_ends::End;
+use command_ends::{End, end_with};
 use driver::Machine;
 use line_check::Setting;
 use rows_saved::{Grouped, Rows, SavesAll, Settles};
@@ -140,7 +140,8 @@ fn serves<R: Settles>(machine: &mut Machine<R, Still, Vec<u8>>, frames: &[u8]) -
         turns: 1,
     };
     let mut err = Vec::new(machine.alloc);
-    let end = serve_run(machine, task, &mut err);
+    let outcome = serve_run(machine, task, &mut err);
+    let end = end_with(outcome, &mut err);
     ended(end, machine.outside.as_slice())
 }
 

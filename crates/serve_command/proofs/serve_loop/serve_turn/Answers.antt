@@ -1,31 +1,30 @@
 -- The turn that was taken, over the output behind the printer.
-use Rattle.std.proofs.Common.{rules, ◌≡◌, ◌∙◌, sym, false}
+use Rattle.std.proofs.Common.{rules, ◌≡◌, false}
 use Rattle.command_ends.specs.declared.end.End.TheVariants as ends
 use Rattle.driver.specs.Events.{ended}
 use Rattle.driver.specs.Driving.{known, post, post_of, IsTurn}
-use Rattle.driver.proofs.Driven.{answered, came_from, drove_kept, ends_so, left_so, seen_from, went_on}
+use Rattle.driver.proofs.Driven.{came_from, drove_kept, left_so, seen_from, went_on, when_well}
 use Rattle.serve_command.specs.Serving.{prints}
 use Rattle.serve_command.proofs.serve_loop.serve_turn.Goals as goal
 
 pub returns : goal.returns
 returns g c =
     let k = known g.R.Rows g.R.Settles.is_settled g.N.Wire.passed (prints g.W.Write.contents) in
-    let last = c.turn_at-done.new.self in
+    let last = c.turn_at.new.self in
     let form = IsTurn c.args.turn.at in
-    let drove = c.turn_at-done.ensures in
+    let drove = c.turn_at.ensures in
+    let end = ended c.turn_at.result in
     let was = post c.args.machine.now.station c.args.machine.now.wire c.args.machine.now.outside in
     let there = post last.station.now last.wire.now last.sink.out.now in
     let station : last.station.ghost_name ≡ _ = drove.hands.0 in
     let wire : last.wire.ghost_name ≡ _ = drove.hands.1 in
-    let came = came_from _ _ (post_of last) _ _ _ (ended c.turn_at-done.result) form c.new-driver.ensures.is drove.done in
+    let came = came_from _ _ (post_of last) _ _ _ end form c.new-driver.ensures.is drove.done in
     let same : last.sink.out.ghost_name ≡ _ = came.1.0 in
-    let seen = seen_from _ (prints g.W.Write.contents) _ (post_of last) _ _ _ (ended c.turn_at-done.result) form c.args.machine.now.outside last.sink.out.now c.new-driver.ensures.is drove.done (λ log p. p.1) (λ log p. p.1) in
-    let same_end = ends_so c.turn_at-done.result c.end_with.result c.end_with.ensures in
-    let told = answered k was there (ended c.turn_at-done.result) c.end_with.result form same_end seen in
-    let kept : (g.R.Rows.kept last.station.now.rows → g.R.Rows.kept c.args.machine.now.station.rows) = drove_kept k was there c.end_with.result form told in
-    let goes : (c.end_with.result ≡ ends.Done → last.station.now.stopped ≡ false) = (λ done. went_on c.turn_at-done.result (last.station.now.stopped ≡ false) drove.goes_on (sym same_end ∙ done)) in
+    let told = seen_from _ (prints g.W.Write.contents) _ (post_of last) _ _ _ end form c.args.machine.now.outside last.sink.out.now c.new-driver.ensures.is drove.done (λ log p. p.1) (λ log p. p.1) in
+    let kept : (g.R.Rows.kept last.station.now.rows → g.R.Rows.kept c.args.machine.now.station.rows) = drove_kept k was there end form told in
+    let goes : (end ≡ ends.Done → last.station.now.stopped ≡ false) = went_on c.turn_at.result (last.station.now.stopped ≡ false) drove.goes_on in
     record {
-      done = left_so k was last.station.now _ last.wire.now _ last.sink.out.now _ c.end_with.result form (search rules) (search rules) (search rules) told;
+      done = left_so k was last.station.now _ last.wire.now _ last.sink.out.now _ end form (search rules) (search rules) (search rules) told;
       was_kept = search rules;
-      goes_on = λ done. let gone : last.station.now.stopped ≡ false = goes done in search rules;
+      goes_on = when_well c.turn_at.result _ (λ done. let gone : last.station.now.stopped ≡ false = goes done in search rules);
     }
