@@ -1,15 +1,18 @@
--- How `answer` and `create` end, where they are asked for.
+-- How `answer` and `create` end, where they are asked for, and `run` by a fault.
 use Rattle.std.specs.Prelude.{◌≡◌, ℕ, List, Option}
 use Rattle.tape_frames.specs.Entries.{version_of}
 use Rattle.tape_frames.specs.declared.version.Version.{Version}
 use Rattle.answer_command.specs.AnswerText.{WritesAnswer, WritesAnswerFront}
+use Rattle.command_ends.specs.Ends.{end_of}
 use Rattle.command_ends.specs.declared.end.End.{End}
-use Rattle.command_ends.specs.declared.end.End.TheVariants.{Done}
+use Rattle.command_ends.specs.declared.end.End.TheVariants.{Done, Input}
 use Rattle.rows_saved.specs.declared.identity.Identity.{Identity}
 use Rattle.arguments.specs.declared.asked.Asked.{Asked}
 use Rattle.arguments.specs.declared.asked.Asked.TheVariants.{Answer, Create}
 use Rattle.arguments.specs.declared.plan.CreatePlan.{CreatePlan}
 use Rattle.commands.specs.Creations.{CreateEnds}
+use Rattle.commands.specs.declared.plant_start.PlantFault.{PlantFault}
+use Rattle.commands.specs.declared.plant_start.PlantFault.TheVariants as plants
 
 -- `answer` writes its answers to what comes in: all of them where it ends well, and the first of them however it ends
 pub record Answers (input before after : Option (List ℕ)) (circuit me : ℕ) (wire : Version) (end : End) : Type 0 where
@@ -25,3 +28,10 @@ AnswersAsked asked input before after end =
 abbrev pub CreatesAsked : {F : Type 0} → Asked → (F → List ℕ → Identity → Version → Type 0) → F → Option (List ℕ) → Option (List ℕ) → End → Type 0
 CreatesAsked asked leaves files before after end =
     (plan : CreatePlan) → asked ≡ Create plan → CreateEnds leaves files plan.layout before after end
+
+-- the end of `run` by a fault: that of the fault that all commands share, else it is one of an input
+abbrev pub end_in : PlantFault → End
+end_in (plants.Other fault) = end_of fault
+end_in (plants.Limited bytes) = Input
+end_in (plants.Misplaced reason) = Input
+end_in (plants.StatusMisplaced reason) = Input

@@ -62,8 +62,12 @@ abbrev pub AreRowsFor :
     {F R : Type 0} → (F → List ℕ → Identity → Version → Type 0) → (F → List ℕ → Option Identity → R → Type 0) → (R → protocol.Version)
     → F → Launch → R → Type 0
 AreRowsFor leaves takes_up version_in files launch rows =
-    AreRowsAt leaves takes_up version_in files (string_bytes launch.config.rows) launch.making (identity_of (file_of launch.config)) rows
+    AreRowsAt leaves takes_up version_in files (string_bytes launch.config.now.rows) launch.making (identity_of (file_of launch.config.now)) rows
 
 -- the wire was opened at the member's own address among those of all stations, and sends to these, under these keys if there are such
+abbrev pub IsWireAmong : {N : Type 0} → (N → Address → List Address → Option Keys → Type 0) → List Address → ℕ → Option Keys → N → Type 0
+IsWireAmong is_bound stations member keys wire = MatchOption (address_of stations member) ⊥ (λ own. is_bound wire own stations keys)
+
+-- the same for the station of a configuration
 abbrev pub IsWireOf : {N : Type 0} → (N → Address → List Address → Option Keys → Type 0) → ConfigFile → Option Keys → N → Type 0
-IsWireOf is_bound config keys wire = MatchOption (address_of config.stations config.member) ⊥ (λ own. is_bound wire own config.stations keys)
+IsWireOf is_bound config keys wire = IsWireAmong is_bound config.stations config.member keys wire

@@ -4,15 +4,13 @@ ghost use Rattle.std.specs.Prelude.{◌≡◌, Ok, None, IfOk, IfSome, IfNone, I
 ghost use Rattle.configuration.specs.Stations.{IsCircuit};
 
 use circuit_keys::circuit_keys;
+use command_ends::Fault;
 use configuration::Config;
-use key_files::{KeyFault, RefusedKey, read_key_file};
+use key_files::read_key_file;
 use seals::Keys;
 
 /// The keys of the circuit of a configuration, from the file that it names: none where it names none, since its wire is plain then.
-pub(crate) fn keys_of<'a>(
-    rt: &HostRuntime,
-    config: &'a Config,
-) -> Result<Option<Keys>, RefusedKey<'a>>
+pub(crate) fn keys_of<'a>(rt: &HostRuntime, config: &'a Config) -> Result<Option<Keys>, Fault<'a>>
     requires { IsCircuit config.now.member config.now.stations.items }
     ensures plain { IfNone config.now.key (result ≡ Ok None) }
     ensures sealed { IfSome config.now.key (λ _. IfOk result IsSome) }
@@ -22,11 +20,6 @@ pub(crate) fn keys_of<'a>(
     };
     let shared = read_key_file(rt, path)?;
     let count = config.stations.len() as u8;
-    match circuit_keys(rt.alloc(), &shared, config.circuit, count) {
-        Ok(keys) => Ok(Some(keys)),
-        Err(_) => Err(RefusedKey {
-            path,
-            fault: KeyFault::OutOfMemory,
-        }),
-    }
+    let keys = circuit_keys(rt.alloc(), &shared, config.circuit, count)?;
+    Ok(Some(keys))
 }

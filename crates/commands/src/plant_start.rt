@@ -1,17 +1,23 @@
 //! Whether a plant can be run where it lies, and its folders, which are held from then on.
 
-ghost use Rattle.command_ends.specs.declared.end.End.TheVariants.{Input};
+ghost use Rattle.std.specs.Prelude.{◌≡◌};
+ghost use Rattle.command_ends.specs.declared.fault.Fault.TheVariants.{OutOfMemory};
+ghost use Rattle.commands.specs.Ends.{end_in};
+ghost use Rattle.commands.specs.declared.plant_start.PlantFault.TheVariants.{Other};
 
 use crate::status_place::why_no_status;
-use command_ends::{CommandFault, End};
+use command_ends::{CommandFault, End, Fault};
 use configuration::{Config, WorkFolders};
 use host_folders::{HostFolders, Misplaced, PlantPaths, why_misplaced};
 use host_process::file_limit;
+use std::alloc::AllocError;
 use std::fmt;
 
-/// Why a plant is not run where it lies.
+/// Why a plant is not run, or its run did not end well.
 #[derive(Clone, Copy)]
-pub(crate) enum PlantFault {
+pub(crate) enum PlantFault<'a> {
+    /// What any command tells in the same words.
+    Other(Fault<'a>),
     /// Files of this process may not have more than so many bytes.
     Limited(u64),
     /// A file or a folder lies where it may not, or another process works with a folder.
@@ -20,10 +26,27 @@ pub(crate) enum PlantFault {
     StatusMisplaced(&'static str),
 }
 
+impl<'a> From<Fault<'a>> for PlantFault<'a> {
+    ghost from_gives = { λ fault told. told ≡ Other fault };
+
+    fn from(fault: Fault<'a>) -> PlantFault<'a> {
+        PlantFault::Other(fault)
+    }
+}
+
+impl<'a> From<AllocError> for PlantFault<'a> {
+    ghost from_gives = { λ _ told. told ≡ Other OutOfMemory };
+
+    fn from(_error: AllocError) -> PlantFault<'a> {
+        PlantFault::Other(Fault::OutOfMemory)
+    }
+}
+
 /// What a person reads.
-impl fmt::Display for PlantFault {
+impl<'a> fmt::Display for PlantFault<'a> {
     fn fmt<W: fmt::Write>(&self, f: &mut fmt::Formatter<W>) -> fmt::Result {
         match self {
+            PlantFault::Other(fault) => write!(f, "{fault}"),
             PlantFault::Limited(limit) => {
                 write!(f, "limit: no file may have more than {limit} bytes")
             }
@@ -33,11 +56,14 @@ impl fmt::Display for PlantFault {
     }
 }
 
-impl CommandFault for PlantFault {
-    ghost ends_as = { λ _. Input };
+impl<'a> CommandFault for PlantFault<'a> {
+    ghost ends_as = { end_in };
 
     fn end(&self) -> End {
-        End::Input
+        match self {
+            PlantFault::Other(fault) => fault.end(),
+            _ => End::Input,
+        }
     }
 }
 
@@ -52,53 +78,40 @@ pub(crate) struct OpenPlant<'r> {
 }
 
 /// The folders at these paths, held.
-fn open_folders<'r>(
+fn open_folders<'r, 'f>(
     rt: &'r HostRuntime,
-    folders: WorkFolders,
-) -> Result<OpenPlant<'r>, PlantFault> {
-    let WorkFolders {
-        offers,
-        releases,
-        text,
-        renamed,
-        status,
-    } = folders;
+    folders: &WorkFolders,
+) -> Result<OpenPlant<'r>, PlantFault<'f>> {
+    let offers = folders.offers.clone()?;
+    let releases = folders.releases.clone()?;
+    let status = match &folders.status {
+        Some(path) => Some(path.clone()?),
+        None => None,
+    };
     match HostFolders::open(rt, offers, releases) {
-        Ok(folders) => Ok(OpenPlant {
-            folders,
-            takes_texts: text,
-            renamed,
+        Ok(held) => Ok(OpenPlant {
+            folders: held,
+            takes_texts: folders.text,
+            renamed: folders.renamed,
             status,
         }),
         Err(reason) => Err(PlantFault::Misplaced(reason)),
     }
 }
 
-/// The folders that a configuration names, if it names some, and where it was read.
-#[derive(Drop)]
-pub(crate) struct PlantPlan<'a> {
-    pub(crate) path: &'a str,
-    pub(crate) config: &'a Config,
-    pub(crate) folders: Option<WorkFolders>,
-}
-
-/// The folders of a plant, if it has some. They are held from then on, until they are let go.
+/// The folders of a plant, if the configuration that was read at this path names some. They are held from then on, until they are let go.
 ///
 /// It is refused where files of this process may not grow, where a file of the station lies among its offers, where both
 /// folders are one or one is a place of the other, where its status file lies among its offers or would replace another of its files, and where another process works with one.
-pub(crate) fn open_plant<'r>(
+pub(crate) fn open_plant<'r, 'f>(
     rt: &'r HostRuntime,
-    plan: PlantPlan<'_>,
-) -> Result<Option<OpenPlant<'r>>, PlantFault> {
-    let PlantPlan {
-        path,
-        config,
-        folders,
-    } = plan;
+    path: &str,
+    config: &Config,
+) -> Result<Option<OpenPlant<'r>>, PlantFault<'f>> {
     if let Some(limit) = file_limit() {
         return Err(PlantFault::Limited(limit));
     }
-    let Some(folders) = folders else {
+    let Some(folders) = &config.folders else {
         return Ok(None);
     };
     let paths = PlantPaths {

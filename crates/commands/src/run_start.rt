@@ -8,11 +8,11 @@ use crate::create_start::layout_number;
 use crate::first_line::{saved_of, tell_first};
 use crate::host::{Host, ThisHost};
 use crate::keys::keys_of;
-use crate::plant_start::{OpenPlant, PlantPlan, open_plant};
+use crate::plant_start::{OpenPlant, PlantFault, open_plant};
 use crate::start_up::{Ground, Launch, Started, start};
 use crate::status_file::HostStatus;
 use code_table::CodeTable;
-use command_ends::{End, Fault, tell};
+use command_ends::{End, Fault, end_with};
 use configuration::{Config, ConfigInput, Resolver, read_config};
 use driver::Machine;
 use folders::{Folders, NoFolders};
@@ -119,29 +119,29 @@ fn run_over<F: RowFiles, N: Wire + Drop, P: Folders + Drop, E: Write>(
     mut machine: Machine<Grouped<F::Rows>, N, P>,
     terms: Terms<HostStatus<'_>>,
     err: &mut E,
-) -> End {
-    let end = run_station(&mut machine, terms, err);
+) -> Result<(), Fault<'static>> {
+    let outcome = run_station(&mut machine, terms, err);
     let rows = machine.station.into_rows().into_rows();
-    let end = close_rows(row_files, rows, end, err);
+    let outcome = close_rows(row_files, rows, outcome);
     drop(machine.outside);
-    end
+    outcome
 }
 
 /// A station that is to be started, the folders of its plant, if it has one, and how much it tells.
 #[derive(Drop)]
-struct Running<'a> {
+struct Running<'a, 'r> {
     launch: Launch<'a>,
-    plant: Option<OpenPlant<'a>>,
+    plant: Option<OpenPlant<'r>>,
     loudness: Loudness,
 }
 
 /// Starts a station, and runs it over the folders of its plant; one that has none only votes.
-fn run_from<F: RowFiles, E: Write>(
+fn run_from<'a, F: RowFiles, E: Write>(
     ground: &Ground<'_, ThisHost<'_>, F>,
-    running: Running<'_>,
+    running: Running<'a, '_>,
     err: &mut E,
-) -> End
-    requires { IsCircuit running.launch.config.member running.launch.config.stations.items }
+) -> Result<(), Fault<'a>>
+    requires { IsCircuit running.launch.config.now.member running.launch.config.now.stations.items }
 {
     let Running {
         launch,
@@ -149,26 +149,19 @@ fn run_from<F: RowFiles, E: Write>(
         loudness,
     } = running;
     let Ground { rt, row_files, .. } = *ground;
-    let own = origin_of(&launch.config);
-    let catches_up = launch.config.catches_up;
-    let address = address_of(&launch.config);
+    let config = launch.config;
     let Started {
         mut station,
         wire,
         offer: _,
         table,
-    } = match start(ground, launch, err) {
-        Ok(started) => started,
-        Err(end) => return end,
-    };
+    } = start(ground, launch)?;
     let alloc = rt.alloc();
-    let known = match known_at(alloc, row_files, &plant, station.rows_mut()) {
-        Ok(known) => known,
-        Err(refused) => return Fault::from(refused).tell(err),
-    };
+    let known = known_at(alloc, row_files, &plant, station.rows_mut())?;
+    let own = origin_of(config);
     let id = id_of(&own, &station);
     if loudness != Loudness::Faults {
-        tell_first(id, address.as_ref(), saved_of(&known), err);
+        tell_first(id, address_of(config).as_ref(), saved_of(&known), err);
     }
     let file = status_of(rt, &mut plant);
     let terms = Terms {
@@ -176,7 +169,7 @@ fn run_from<F: RowFiles, E: Write>(
         file,
         texts: texts_by(&plant, table),
         renamed: is_renamed(&plant),
-        catches_up,
+        catches_up: config.catches_up,
         own,
         known,
         loudness,
@@ -214,35 +207,18 @@ pub struct RunPlan<'a> {
     pub log: LogTerms,
 }
 
-/// Reads the configuration at a path and the keys that it names, and runs its station.
-fn run_at<F: RowFiles, E: Write>(
+/// Reads the keys that a configuration names, and runs its station over the folders of its plant.
+fn run_at<'a, F: RowFiles, E: Write>(
     ground: &Ground<'_, ThisHost<'_>, F>,
     plan: RunPlan<'_>,
+    config: &'a Config,
     err: &mut E,
-) -> End {
+) -> Result<(), PlantFault<'a>>
+    requires { IsCircuit config.now.member config.now.stations.items }
+{
     let rt = ground.rt;
-    let file = ConfigInput {
-        path: plan.config,
-        input: ground.host.open(plan.config),
-    };
-    let mut config = match read_config(rt.alloc(), &Resolver { net: rt }, file) {
-        Ok(config) => config,
-        Err(fault) => return fault.tell(err),
-    };
-    let keys = match keys_of(rt, &config) {
-        Ok(keys) => keys,
-        Err(refused) => return Fault::from(refused).tell(err),
-    };
-    let folders = config.folders.take();
-    let place = PlantPlan {
-        path: plan.config,
-        config: &config,
-        folders,
-    };
-    let plant = match open_plant(rt, place) {
-        Ok(plant) => plant,
-        Err(fault) => return tell(&fault, err),
-    };
+    let keys = keys_of(rt, config)?;
+    let plant = open_plant(rt, plan.config, config)?;
     let launch = Launch {
         config,
         keys,
@@ -254,7 +230,27 @@ fn run_at<F: RowFiles, E: Write>(
         plant,
         loudness: plan.log.loudness,
     };
-    run_from(ground, running, err)
+    run_from(ground, running, err)?;
+    Ok(())
+}
+
+/// Reads the configuration at a path, runs its station, and tells the fault that ends it.
+fn run_to_the_end<F: RowFiles, E: Write>(
+    ground: &Ground<'_, ThisHost<'_>, F>,
+    plan: RunPlan<'_>,
+    err: &mut E,
+) -> End {
+    let rt = ground.rt;
+    let file = ConfigInput {
+        path: plan.config,
+        input: ground.host.open(plan.config),
+    };
+    let read = read_config(rt.alloc(), &Resolver { net: rt }, file);
+    let outcome = match &read {
+        Ok(config) => run_at(ground, plan, config, err),
+        Err(fault) => Err(PlantFault::Other(*fault)),
+    };
+    end_with(outcome, err)
 }
 
 /// Runs the station of the configuration at a path until it is stopped, with its rows saved in one of the files.
@@ -268,8 +264,8 @@ pub fn run<F: RowFiles, E: Write>(
 ) -> End {
     if plan.log.times {
         let mut err = TimedLines::new(ground.rt.alloc(), ground.rt, err);
-        run_at(ground, plan, &mut err)
+        run_to_the_end(ground, plan, &mut err)
     } else {
-        run_at(ground, plan, err)
+        run_to_the_end(ground, plan, err)
     }
 }

@@ -5,42 +5,46 @@ ghost use Rattle.configuration.specs.Stations.{IsCircuit};
 use crate::host::{Host, ThisHost};
 use crate::keys::keys_of;
 use crate::start_up::{Ground, Launch, Started, start};
-use command_ends::{End, Fault};
+use command_ends::{End, Fault, end_with};
 use command_line::Plan;
-use configuration::{ConfigInput, Resolver, read_config};
+use configuration::{Config, ConfigInput, Resolver, read_config};
 use driver::Machine;
 use rows_files::{RowFiles, close_rows};
 use serve_command::{ServeTask, serve_run};
 use std::io::Write;
 
-/// A station that is to be started, and how it is served.
-#[derive(Drop)]
+/// The configuration of a station, and how it is served.
+#[derive(Clone, Copy)]
 struct Serving<'a> {
-    launch: Launch<'a>,
+    config: &'a Config,
     plan: Plan<'a>,
 }
 
-/// Starts a station, and serves it; at a good end its rows are closed.
-fn serve_from<F: RowFiles, W: Write, E: Write>(
+/// Reads the keys that a configuration names, starts its station, and serves it; at a good end its rows are closed.
+fn serve_from<'a, F: RowFiles, W: Write, E: Write>(
     ground: &Ground<'_, ThisHost<'_>, F>,
-    serving: Serving<'_>,
+    serving: Serving<'a>,
     out: &mut W,
     err: &mut E,
-) -> End
-    requires { IsCircuit serving.launch.config.member serving.launch.config.stations.items }
+) -> Result<(), Fault<'a>>
+    requires { IsCircuit serving.config.now.member serving.config.now.stations.items }
 {
-    let Serving { launch, plan } = serving;
+    let Serving { config, plan } = serving;
+    let rt = ground.rt;
+    let launch = Launch {
+        config,
+        keys: keys_of(rt, config)?,
+        making: plan.create,
+        offer: plan.offer,
+    };
     let Started {
         station,
         wire,
         offer,
         table: _,
-    } = match start(ground, launch, err) {
-        Ok(started) => started,
-        Err(end) => return end,
-    };
+    } = start(ground, launch)?;
     let mut machine = Machine {
-        alloc: ground.rt.alloc(),
+        alloc: rt.alloc(),
         station,
         wire,
         outside: out,
@@ -51,9 +55,9 @@ fn serve_from<F: RowFiles, W: Write, E: Write>(
         seek: plan.seek,
         turns: plan.turns,
     };
-    let end = serve_run(&mut machine, task, err);
+    let outcome = serve_run(&mut machine, task, err);
     let rows = machine.station.into_rows().into_rows();
-    close_rows(ground.row_files, rows, end, err)
+    close_rows(ground.row_files, rows, outcome)
 }
 
 /// Serves the station of a configuration as the plan asks, with its rows saved in one of the files.
@@ -71,19 +75,10 @@ pub fn serve<F: RowFiles, W: Write, E: Write>(
         path: plan.config,
         input: ground.host.open(plan.config),
     };
-    let config = match read_config(rt.alloc(), &Resolver { net: rt }, file) {
-        Ok(config) => config,
-        Err(fault) => return fault.tell(err),
+    let read = read_config(rt.alloc(), &Resolver { net: rt }, file);
+    let outcome = match &read {
+        Ok(config) => serve_from(ground, Serving { config, plan }, out, err),
+        Err(fault) => Err(*fault),
     };
-    let keys = match keys_of(rt, &config) {
-        Ok(keys) => keys,
-        Err(refused) => return Fault::from(refused).tell(err),
-    };
-    let launch = Launch {
-        config,
-        keys,
-        making: plan.create,
-        offer: plan.offer,
-    };
-    serve_from(ground, Serving { launch, plan }, out, err)
+    end_with(outcome, err)
 }

@@ -4,12 +4,13 @@ ghost use Rattle.std.specs.Prelude.{◌≡◌, [], IfOk, OnOk, option_map, strin
 ghost use Rattle.configuration.specs.Reading.{file_of};
 ghost use Rattle.configuration.specs.Stations.{IsCircuit};
 ghost use Rattle.rows_saved.specs.Identity.{IsIdentity};
-ghost use Rattle.commands.specs.Starts.{identity_of, IsStationOf, IsTableAt, AreWidthsAt, IsOffer, AreRowsAt, AreRowsFor, IsWireOf};
+ghost use Rattle.commands.specs.Starts.{identity_of, IsStationOf, IsTableAt, AreWidthsAt, IsOffer, AreRowsAt, AreRowsFor, IsWireAmong, IsWireOf};
 
 use crate::files::{Files, read_files};
 use crate::host::Host;
+use ballots::Member;
 use code_table::CodeTable;
-use command_ends::{End, Fault};
+use command_ends::Fault;
 use command_line::TapeOffer;
 use configuration::Config;
 use line_check::Setting;
@@ -19,9 +20,9 @@ use seals::Keys;
 use station::{Membership, Station};
 use std::alloc::Global;
 use std::io;
-use std::io::{ErrorKind, Write};
+use std::io::ErrorKind;
 use tape_frames::{Tape, Version};
-use wire::Wire;
+use wire::{Address, Wire};
 
 /// A station over its saved rows, with its wire, what it offers first, and its code table once more.
 #[derive(Drop)]
@@ -45,7 +46,7 @@ pub struct Ground<'a, H: Host, F: RowFiles> {
 /// A station that is to be started.
 #[derive(Drop)]
 pub struct Launch<'a> {
-    pub config: Config,
+    pub config: &'a Config,
     /// The keys of its circuit, where its wire is sealed.
     pub keys: Option<Keys>,
     /// The version that its saved rows are made in, where they are made.
@@ -132,12 +133,17 @@ fn no_wire<'f>(error: &io::Error) -> Fault<'f> {
 }
 
 /// The wire at the member's own address, of those of all stations.
-fn wire_of<'f, H: Host>(host: &H, config: Config, keys: Option<Keys>) -> Result<H::Wire, Fault<'f>>
-    requires { IsCircuit config.member config.stations.items }
-    ensures { IfOk result (IsWireOf H.is_bound (file_of config) keys) }
+fn wire_of<'f, H: Host>(
+    host: &H,
+    member: Member,
+    stations: Vec<Address>,
+    keys: Option<Keys>,
+) -> Result<H::Wire, Fault<'f>>
+    requires { IsCircuit member stations.items }
+    ensures { IfOk result (IsWireAmong H.is_bound stations.items member keys) }
 {
-    let own = config.stations[usize::from(config.member.get()) - 1];
-    match host.bind(&own, config.stations, keys) {
+    let own = stations[usize::from(member.get()) - 1];
+    match host.bind(&own, stations, keys) {
         Ok(wire) => Ok(wire),
         Err(error) => Err(no_wire(&error)),
     }
@@ -152,7 +158,7 @@ fn start_over<'f, R: Rows, N: Wire + Drop>(
     requires { IsIdentity identity }
     ensures station { IfOk result (λ s. IsStationOf identity s.station) }
     ensures table { IfOk result (λ s. s.station.table ≡ held.files.table) }
-    ensures same { IfOk result (λ s. s.table ≡ s.station.table) }
+    ensures copy { IfOk result (λ s. s.table ≡ held.files.table) }
     ensures widths { IfOk result (λ s. s.station.widths ≡ held.files.widths) }
     ensures offer { IfOk result (λ s. s.offer ≡ held.files.offer) }
     ensures rows { IfOk result (λ s. s.station.rows ≡ held.rows) }
@@ -191,24 +197,23 @@ fn start_over<'f, R: Rows, N: Wire + Drop>(
 /// their version, with its wire, sealed where there are keys, and the tape that it offers first, if it offers one.
 /// What it saves waits until it is settled, so that many rows are saved as one.
 ///
-/// What it starts from is looked for in this order, and the first fault ends it and is told to `err`: the code table, the
-/// widths, the tape, the saved rows, the socket.
-pub fn start<H: Host, F: RowFiles, E: Write>(
+/// What it starts from is looked for in this order, and the first fault ends it: the code table, the widths, the tape, the
+/// saved rows, the socket.
+pub fn start<'a, H: Host, F: RowFiles>(
     ground: &Ground<'_, H, F>,
-    launch: Launch<'_>,
-    err: &mut E,
-) -> Result<Started<Grouped<F::Rows>, H::Wire>, End>
-    requires { IsCircuit launch.config.member launch.config.stations.items }
-    ensures station { IfOk result (λ s. IsStationOf (identity_of (file_of launch.entry.config)) s.station) }
-    ensures table { IfOk result (λ s. IsTableAt (H.text ground.now.host.now) (string_bytes launch.entry.config.table) s.station.table) }
+    launch: Launch<'a>,
+) -> Result<Started<Grouped<F::Rows>, H::Wire>, Fault<'a>>
+    requires { IsCircuit launch.config.now.member launch.config.now.stations.items }
+    ensures station { IfOk result (λ s. IsStationOf (identity_of (file_of launch.entry.config.now)) s.station) }
+    ensures table { IfOk result (λ s. IsTableAt (H.text ground.now.host.now) (string_bytes launch.entry.config.now.table) s.station.table) }
     ensures same { IfOk result (λ s. s.table ≡ s.station.table) }
-    ensures widths { IfOk result (λ s. AreWidthsAt (H.text ground.now.host.now) (string_bytes launch.entry.config.widths) s.station.widths) }
+    ensures widths { IfOk result (λ s. AreWidthsAt (H.text ground.now.host.now) (string_bytes launch.entry.config.now.widths) s.station.widths) }
     ensures offer { IfOk result (λ s. IsOffer (H.text ground.now.host.now) (option_map (λ o. (o.number, o.path.now)) launch.entry.offer) s.offer) }
     ensures rows { IfOk result (λ s. AreRowsFor F.leaves F.takes_up F.Rows.version ground.now.row_files.now launch.entry s.station.rows.rows) }
     ensures waits { IfOk result (λ s. s.station.rows.waits ≡ []) }
     ensures open { IfOk result (λ s. F.Rows.kept s.station.rows.rows → F.Rows.is_open s.station.rows.rows) }
     ensures version { IfOk result (λ s. s.station.speaker.wire ≡ F.Rows.version s.station.rows.rows) }
-    ensures wire { IfOk result (λ s. IsWireOf H.is_bound (file_of launch.entry.config) launch.entry.keys s.wire) }
+    ensures wire { IfOk result (λ s. IsWireOf H.is_bound (file_of launch.entry.config.now) launch.entry.keys s.wire) }
 {
     let Launch {
         config,
@@ -217,23 +222,12 @@ pub fn start<H: Host, F: RowFiles, E: Write>(
         offer,
     } = launch;
     let rt = ground.rt;
-    let files = match read_files(rt.alloc(), ground.host, &config, offer) {
-        Ok(files) => files,
-        Err(fault) => return Err(fault.tell(err)),
-    };
-    let identity = identity_of(&config);
-    let rows = match rows_of(ground, &config.rows, identity, making) {
-        Ok(rows) => rows,
-        Err(refused) => return Err(Fault::from(refused).tell(err)),
-    };
-    let wire = match wire_of(ground.host, config, keys) {
-        Ok(wire) => wire,
-        Err(fault) => return Err(fault.tell(err)),
-    };
+    let files = read_files(rt.alloc(), ground.host, config, offer)?;
+    let identity = identity_of(config);
+    let rows = rows_of(ground, &config.rows, identity, making)?;
+    let stations = Vec::from_slice(rt.alloc(), config.stations.as_slice())?;
+    let wire = wire_of(ground.host, config.member, stations, keys)?;
     let rows = Grouped::new(rt.alloc(), rows);
     let held = StationParts { files, rows, wire };
-    match start_over(rt.alloc(), identity, held) {
-        Ok(started) => Ok(started),
-        Err(fault) => Err(fault.tell(err)),
-    }
+    start_over(rt.alloc(), identity, held)
 }
