@@ -166,12 +166,12 @@ fn height_of(frames: u64, end: Spot) -> u64
 }
 
 /// Adds how large the page is that a document is printed on: as wide as a drawing, and this high.
-#[tactic(auto, unfolding(crate::specs::Document::page_size))]
 pub fn add_page_size(text: &mut Vec<u8>, height: u64) -> Result<(), AllocError>
     ensures { OnOk result (text.new.items ≡ text.old.items ++ page_size height) }
 {
     add_pair(text, "@page{size:", "px ", (PAGE_WIDTH, height))?;
-    text.extend_from_slice(b"px;margin:0}\n")
+    text.extend_from_slice(b"px;margin:0}\n")?;
+    Ok(())
 }
 
 /// Adds how what is drawn looks, with type of this size.
