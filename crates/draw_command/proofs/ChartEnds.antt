@@ -49,7 +49,7 @@ cut order text end told old new same fails is off = record {
       (λ ts ws c. broken order ts ws text end told old new same fails off c) is;
 }
 
--- so it does after the outcome of the writing
+-- so a command ends after the outcome of the writing
 pub written : (order : ToChart) (text : List ℕ) (outcome : Result (Unit {0}) Fault) (old new : Option (List ℕ)) → IsCharted order text
     → OnOk outcome (Appends old new text) → IfErr outcome (λ fault. BreaksOffText text (end_of fault) old new) → ChartsBy order outcome old new
 written order text (Ok done) old new is wrote off = λ end by. subst (λ e. Charts order e old new) (sym by.ok) (whole order text old new is wrote)
@@ -62,6 +62,6 @@ left order end old new ends fails same = record {
   cause = always order.table order.widths (λ ts ws. Charted order ts ws end old new) (λ ts ws. Unwritten ends fails same);
 }
 
--- so it does whatever fault of an input it was
+-- so it ends, whatever fault of an input that was
 pub unwritten : (order : ToChart) (fault : Fault) (old new : Option (List ℕ)) → IsOfInput (end_of fault) → new ≡ old → ChartsBy order (Err fault) old new
 unwritten order fault old new is same = λ end by. left order end old new (subst IsOfInput (sym by.err.end) is) by.err.fails same
