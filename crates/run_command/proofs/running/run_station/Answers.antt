@@ -18,20 +18,20 @@ returns-then-stopped-clause-runs g c =
     answered k old old ends.Input (end_of c.of_step.result) Anyhow c.of_step.ensures
     (idle texts g.R.Rows g.R.Settles.is_settled g.N.Wire.passed g.F.Folders.doings c.args.machine.now.station c.args.machine.now.wire c.args.machine.now.outside ends.Input refl)
 
-pub returns-in_err-begin-clause-runs : goal.returns-in_err-begin-clause-runs
-returns-in_err-begin-clause-runs g c =
+pub returns-in_err-care-clause-runs : goal.returns-in_err-care-clause-runs
+returns-in_err-care-clause-runs g c =
     let texts : Texts = c.args.terms.texts in
     let k = known g.R.Rows g.R.Settles.is_settled g.N.Wire.passed (tells texts g.F.Folders.doings) in
     let f = c.args.machine.now.outside in
     let h = c.begin.new.folders in
     let same : ended c.from_residual.result ≡ ends.Memory = search rules in
     answered k (post c.args.machine.now.station c.args.machine.now.wire f) (post c.args.machine.now.station c.args.machine.now.wire h) ends.Memory (ended c.from_residual.result) Anyhow same
-    (idle_behind texts g.R.Rows g.R.Settles.is_settled g.N.Wire.passed g.F.Folders.doings c.args.machine.now.station c.args.machine.now.wire f h ends.Memory c.begin.ensures.does (inl refl))
+    (idle_behind texts g.R.Rows g.R.Settles.is_settled g.N.Wire.passed g.F.Folders.doings c.args.machine.now.station c.args.machine.now.wire f h ends.Memory c.in_err-care.ensures.does (inl refl))
 
 pub returns-clause-runs : goal.returns-clause-runs
 returns-clause-runs g c =
     behind c.args.terms.texts g.R.Rows g.R.Settles.is_settled g.N.Wire.passed g.F.Folders.doings c.args.machine.now.station c.drive.new.machine.station c.args.machine.now.wire c.drive.new.machine.wire c.args.machine.now.outside c.begin.new.folders
-    c.drive.new.machine.outside (ended c.drive.result) c.begin.ensures.does c.drive.ensures
+    c.drive.new.machine.outside (ended c.drive.result) c.in_ok-care.ensures.does c.drive.ensures
 
 pub returns-clause-goes_on : goal.returns-clause-goes_on
 returns-clause-goes_on g c =
