@@ -40,7 +40,9 @@ pub fn serve_turn<R: Settles, N: Wire + Drop, W: Write + Drop, E: Write>(
     };
     let mut log = Log { err, quiet: false };
     let mut driver = Driver::new(&mut machine.station, &mut machine.wire, printer, newer);
-    driver.turn_at(at, &mut log)
+    // It has a name, since the borrow checker does not cover this call as the last expression.
+    let outcome = driver.turn_at(at, &mut log);
+    outcome
 }
 
 /// What a station under `serve` does: what it is asked, as far as it is given, and how many turns it takes then.

@@ -10,10 +10,10 @@ use Rattle.serve_command.proofs.serve_loop.serve_turn.Goals as goal
 pub returns : goal.returns
 returns g c =
     let k = known g.R.Rows g.R.Settles.is_settled g.N.Wire.passed (prints g.W.Write.contents) in
-    let last = c.turn_at.new.self in
+    let last = c.turn_at-outcome.new.self in
     let form = IsTurn c.args.turn.at in
-    let drove = c.turn_at.ensures in
-    let end = ended c.turn_at.result in
+    let drove = c.turn_at-outcome.ensures in
+    let end = ended c.turn_at-outcome.result in
     let was = post c.args.machine.now.station c.args.machine.now.wire c.args.machine.now.outside in
     let there = post last.station.now last.wire.now last.sink.out.now in
     let station : last.station.ghost_name ≡ _ = drove.hands.0 in
@@ -22,9 +22,9 @@ returns g c =
     let same : last.sink.out.ghost_name ≡ _ = came.1.0 in
     let told = seen_from _ (prints g.W.Write.contents) _ (post_of last) _ _ _ end form c.args.machine.now.outside last.sink.out.now c.new-driver.ensures.is drove.done (λ log p. p.1) (λ log p. p.1) in
     let kept : (g.R.Rows.kept last.station.now.rows → g.R.Rows.kept c.args.machine.now.station.rows) = drove_kept k was there end form told in
-    let goes : (end ≡ ends.Done → last.station.now.stopped ≡ false) = went_on c.turn_at.result (last.station.now.stopped ≡ false) drove.goes_on in
+    let goes : (end ≡ ends.Done → last.station.now.stopped ≡ false) = went_on c.turn_at-outcome.result (last.station.now.stopped ≡ false) drove.goes_on in
     record {
       done = left_so k was last.station.now _ last.wire.now _ last.sink.out.now _ end form (search rules) (search rules) (search rules) told;
       was_kept = search rules;
-      goes_on = when_well c.turn_at.result _ (λ done. let gone : last.station.now.stopped ≡ false = goes done in search rules);
+      goes_on = when_well c.turn_at-outcome.result _ (λ done. let gone : last.station.now.stopped ≡ false = goes done in search rules);
     }
