@@ -134,15 +134,3 @@ pub enum Unasked {
     /// They name no command.
     NoCommand,
 }
-
-impl From<Error> for Unasked {
-    fn from(error: Error) -> Unasked {
-        Unasked::Clap(error)
-    }
-}
-
-impl From<Mismatch> for Unasked {
-    fn from(mismatch: Mismatch) -> Unasked {
-        Unasked::Mismatched(mismatch)
-    }
-}

@@ -268,9 +268,13 @@ fn asked_of<'a>(
 /// `Err` is what `clap` says of words that ask for no command, or what of them does not go together. Of two such mistakes
 /// `clap`'s is the first.
 pub fn asked_by<'a>(alloc: Global, words: &'a [String]) -> Result<Asked<'a>, Unasked> {
-    let matches = matches_of(alloc, words)?;
-    match asked_of(words, &matches)? {
-        Some(asked) => Ok(asked),
-        None => Err(Unasked::NoCommand),
+    let matches = match matches_of(alloc, words) {
+        Ok(matches) => matches,
+        Err(error) => return Err(Unasked::Clap(error)),
+    };
+    match asked_of(words, &matches) {
+        Ok(Some(asked)) => Ok(asked),
+        Ok(None) => Err(Unasked::NoCommand),
+        Err(mismatch) => Err(Unasked::Mismatched(mismatch)),
     }
 }

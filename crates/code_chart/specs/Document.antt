@@ -101,8 +101,8 @@ number_text frame at =
 -- what begins the drawing of a cell in a page
 unfoldable pub view_text : ℕ → Point → List ℕ
 view_text frame at =
-    count_text (codes "<svg id='frame") frame
-    ++ (pair_text (codes "' viewBox='") at.x (codes " ") at.y ++ (pair_text (codes " ") cell_width (codes " ") cell_height ++ codes "'>\n"))
+    ((count_text (codes "<svg id='frame") frame ++ pair_text (codes "' viewBox='") at.x (codes " ") at.y) ++ pair_text (codes " ") cell_width (codes " ") cell_height)
+    ++ codes "'>\n"
 
 -- what begins a cell: a group of a document, and a drawing of a page
 abbrev pub open_text : DrawingForm → ℕ → Point → List ℕ

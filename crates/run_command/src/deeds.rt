@@ -113,7 +113,7 @@ impl Papers {
     }
 }
 
-impl<F: Folders, S: StatusFile> PlantDesk<'_, '_, '_, F, S> {
+impl<F: Folders, S: StatusFile> PlantDesk<'_, F, S> {
     /// Reads a file, which may be in place of one that was under way; that it is, is told. One that can't be read is put off, which is told.
     fn read_file<E: Write>(
         &mut self,

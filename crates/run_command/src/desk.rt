@@ -23,11 +23,11 @@ use std::io::Write;
 
 /// The plant of a station, as its driver works with it.
 #[derive(Drop)]
-pub(crate) struct PlantDesk<'f, 'p, 's, F: Folders, S: StatusFile> {
-    pub(crate) folders: &'f mut F,
-    pub(crate) plant: &'p mut Plant,
+pub(crate) struct PlantDesk<'d, F: Folders, S: StatusFile> {
+    pub(crate) folders: &'d mut F,
+    pub(crate) plant: &'d mut Plant,
     /// Where its status goes.
-    pub(crate) status: &'s mut S,
+    pub(crate) status: &'d mut S,
 }
 
 /// What there is to do with files, where there is something besides what the book knows, or there is not.
@@ -37,13 +37,13 @@ fn deeds_of(deeds: Deeds, has_more: bool) -> Deeds
     if has_more { Deeds::Others } else { deeds }
 }
 
-impl<'f, 'p, 's, F: Folders, S: StatusFile> PlantDesk<'f, 'p, 's, F, S> {
+impl<'d, F: Folders, S: StatusFile> PlantDesk<'d, F, S> {
     /// Over the folders of a plant.
     pub(crate) fn new(
-        folders: &'f mut F,
-        plant: &'p mut Plant,
-        status: &'s mut S,
-    ) -> PlantDesk<'f, 'p, 's, F, S>
+        folders: &'d mut F,
+        plant: &'d mut Plant,
+        status: &'d mut S,
+    ) -> PlantDesk<'d, F, S>
         ensures folders { result.folders.ghost_name ≡ folders.entry.ghost_name }
         ensures texts { texts_of result ≡ plant.old.texts }
         ensures kept { kept_of result ≡ kept folders.old plant.old.waits.items plant.old.papers.book }
@@ -56,7 +56,7 @@ impl<'f, 'p, 's, F: Folders, S: StatusFile> PlantDesk<'f, 'p, 's, F, S> {
     }
 }
 
-impl<F: Folders, S: StatusFile> Sink for PlantDesk<'_, '_, '_, F, S> {
+impl<F: Folders, S: StatusFile> Sink for PlantDesk<'_, F, S> {
     ghost lived = { λ old new log. LivedOn F.doings old new log };
 
     ghost front = { λ old new log. CameOn F.doings old new log };
@@ -70,7 +70,7 @@ impl<F: Folders, S: StatusFile> Sink for PlantDesk<'_, '_, '_, F, S> {
     ghost fates = { plant_fates F.doings (λ a b. IsSameDesk a b) (λ _. (refl, refl)) (λ _ _ _ p q. (q.0 ∙ p.0, q.1 ∙ p.1)) (λ it. texts_of it) (λ _ _ same. same.1) (λ it. kept_of it) };
 }
 
-impl<F: Folders, S: StatusFile> Desk for PlantDesk<'_, '_, '_, F, S> {
+impl<F: Folders, S: StatusFile> Desk for PlantDesk<'_, F, S> {
     ghost is_still = { λ old new. F.doings new.folders.now ≡ F.doings old.folders.now };
 
     ghost handed = { λ old new _. HandsOut F.doings (kept_of old) (kept_of new) };
