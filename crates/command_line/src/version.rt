@@ -3,7 +3,6 @@
 ghost use Rattle.std.specs.Prelude.{◌≡◌, OnOk, OnErr, IfErr};
 ghost use Rattle.std.specs.Io.KnownBytes.{Appends};
 ghost use Rattle.streams.specs.Fronts.{AppendsFront};
-ghost use Rattle.command_ends.specs.declared.fault.Fault.TheVariants.{CannotWrite};
 ghost use Rattle.command_line.specs.Version.{named_text, version_text, PrintsVersion};
 
 use arguments::VERSION;
@@ -23,7 +22,7 @@ fn put_line<W: Write>(out: &mut W, version: &str) -> Result<(), CannotWrite>
 fn put_version<'a, W: Write>(out: &mut W) -> Result<(), Fault<'a>>
     ensures ok { OnOk result (Appends (W.contents out.old) (W.contents out.new) version_text) }
     ensures err { OnErr result (AppendsFront (W.contents out.old) (W.contents out.new) version_text) }
-    ensures fault { IfErr result (λ fault. fault ≡ CannotWrite) }
+    ensures fault { IfErr result (λ fault. fault ≡ Fault.CannotWrite) }
 {
     put_line(out, VERSION)?;
     hand_on(out)?;
