@@ -246,11 +246,10 @@ fn run_to_the_end<F: RowFiles, E: Write>(
         input: ground.host.open(plan.config),
     };
     let read = read_config(rt.alloc(), &Resolver { net: rt }, file);
-    let outcome = match &read {
-        Ok(config) => run_at(ground, plan, config, err),
-        Err(fault) => Err(PlantFault::Other(*fault)),
-    };
-    end_with(outcome, err)
+    match &read {
+        Ok(config) => end_with(run_at(ground, plan, config, err), err),
+        Err(fault) => fault.tell(err),
+    }
 }
 
 /// Runs the station of the configuration at a path until it is stopped, with its rows saved in one of the files.
