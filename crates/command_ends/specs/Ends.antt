@@ -1,5 +1,5 @@
 -- How a command ends by a fault.
-use Rattle.std.specs.Prelude.{◌≡◌, ◌⊎◌, Bool, true, false, Result, OnOk, IfErr}
+use Rattle.std.specs.Prelude.{◌≡◌, ◌⊎◌, Bool, true, false, Result, OnOk, IfOk, IfErr}
 use Rattle.rows_saved.specs.declared.fault.RowsFault.{RowsFault}
 use Rattle.rows_saved.specs.declared.fault.RowsFault.TheVariants as rows
 use Rattle.refusals.specs.declared.refusal.StepRefusal.{StepRefusal}
@@ -104,6 +104,11 @@ pub record EndsAfter {A F : Type 0} (ends_as : F → End) (outcome : Result A F)
 abbrev pub found : Bool → End
 found true = ends.Done
 found false = Input
+
+-- a command that was to find out whether something is well ends after this outcome: as it found, or by its fault as this says, and not well
+pub record FoundAfter {F : Type 0} (ends_as : F → End) (outcome : Result Bool F) (by : End) : Type 0 where
+  pub ok : IfOk outcome (λ is_well. by ≡ found is_well)
+  pub err : IfErr outcome (λ fault. EndsBy (ends_as fault) by)
 
 -- rows that are refused by this fault are told so
 pub record EndsByRows (fault : RowsFault) (told : Fault) : Type 0 where

@@ -8,4 +8,4 @@ mod telling;
 
 pub use end::End;
 pub use fault::Fault;
-pub use telling::{CommandFault, end_with, tell};
+pub use telling::{CommandFault, end_with, found_with, tell};

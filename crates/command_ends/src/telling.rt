@@ -1,7 +1,7 @@
 //! The one place in which a fault is told, and the end of a command is made of it.
 
 ghost use Rattle.std.specs.Prelude.{◌≡◌};
-ghost use Rattle.command_ends.specs.Ends.{EndsBy, EndsAfter};
+ghost use Rattle.command_ends.specs.Ends.{EndsBy, EndsAfter, FoundAfter};
 ghost use Rattle.command_ends.specs.declared.end.End.{End as EndValue};
 
 use crate::end::End;
@@ -32,6 +32,16 @@ pub fn end_with<F: CommandFault + Drop, E: Write>(outcome: Result<(), F>, err: &
 {
     match outcome {
         Ok(()) => End::Done,
+        Err(fault) => tell(&fault, err),
+    }
+}
+
+/// How a command ends that was to find out whether something is well, after this outcome. A fault is told.
+pub fn found_with<F: CommandFault + Drop, E: Write>(outcome: Result<bool, F>, err: &mut E) -> End
+    ensures { FoundAfter F.ends_as outcome result }
+{
+    match outcome {
+        Ok(is_well) => End::found(is_well),
         Err(fault) => tell(&fault, err),
     }
 }
