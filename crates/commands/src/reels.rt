@@ -3,7 +3,7 @@
 use crate::console::Console;
 use crate::story::Story;
 use crate::tapes::HostTapes;
-use command_ends::{End, Fault, end_with, tell};
+use command_ends::{End, Fault, end_with, found_with};
 use command_line::ReelPlan;
 use reel::{Cutting, Levels, LevelsFault, levels_of, mask_of};
 use reel_commands::{ChartPaths, Reel, ReelFault, Survey, are_tapes, import, put_import};
@@ -79,10 +79,7 @@ pub(crate) fn run_import<F: RowFiles, R: Read + Drop, W: Write + Drop, E: Write 
         folder: plan.folder,
     };
     let mut bytes = Story::at(rt, plan.path, input);
-    match import_reel(rt, &reel, &mut bytes, out) {
-        Ok(is_well) => End::found(is_well),
-        Err(fault) => tell(&fault, err),
-    }
+    found_with(import_reel(rt, &reel, &mut bytes, out), err)
 }
 
 /// Surveys the tapes at their paths, one after the other, by the table and the widths at theirs.

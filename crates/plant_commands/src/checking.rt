@@ -4,7 +4,7 @@ use crate::addresses::put_addresses;
 use crate::files::{put_fault, put_rows, put_tables};
 use crate::folders_check::put_folders;
 use crate::key_check::put_key;
-use command_ends::{End, Fault};
+use command_ends::{End, Fault, found_with};
 use configuration::{Config, ConfigFault, Resolver, faults_of, find_hosts};
 use inputs::{read_text, text_of};
 use std::alloc::Global;
@@ -65,8 +65,5 @@ pub fn check_config<W: Write, E: Write>(
     out: &mut W,
     err: &mut E,
 ) -> End {
-    match checked(rt, config, out) {
-        Ok(is_well) => End::found(is_well),
-        Err(fault) => fault.tell(err),
-    }
+    found_with(checked(rt, config, out), err)
 }

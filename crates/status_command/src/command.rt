@@ -5,7 +5,7 @@ use crate::file::status_at;
 use crate::json::json_of;
 use crate::shown::shown;
 use crate::watching::{FRESH, watch};
-use command_ends::{End, Fault, tell};
+use command_ends::{End, Fault, found_with, tell};
 use configuration::{Config, ConfigInput, NoLookUp, read_config};
 use plant_status::{Health, Status, ages_of, health_of, seconds_now};
 use std::io::{IsTerminal, Write};
@@ -94,23 +94,29 @@ fn status_path(config: &Config) -> Option<&str> {
     }
 }
 
-/// Tells how a station stands, and gives the end.
-fn status_of<W: Write, E: Write>(
+/// Prints in a shape how the station of a configuration stands; whether it is well.
+fn print_of<'c, W: Write>(
     rt: &HostRuntime,
-    asked: StatusPlan<'_>,
+    config: &'c Config,
+    shape: Shape,
     out: &mut W,
-    err: &mut E,
-) -> End {
-    let told = match asked.shape {
+) -> Result<bool, UntoldStatus<'c>> {
+    let Some(path) = status_path(config) else {
+        let fault = StatusFault::Unnamed;
+        return Err(UntoldStatus::Status { path: "", fault });
+    };
+    let asked = StatusPlan {
+        config,
+        path,
+        shape,
+    };
+    let printed = match shape {
         Shape::Watched => watch(rt, asked, out),
         Shape::Lines | Shape::Json => print(rt, asked, out),
     };
-    match told {
-        Ok(is_well) => End::found(is_well),
-        Err(fault) => {
-            let path = asked.path;
-            tell(&UntoldStatus::Status { path, fault }, err)
-        }
+    match printed {
+        Ok(is_well) => Ok(is_well),
+        Err(fault) => Err(UntoldStatus::Status { path, fault }),
     }
 }
 
@@ -142,14 +148,5 @@ pub fn status<W: Write, E: Write>(
         Ok(config) => config,
         Err(fault) => return tell(&UntoldStatus::Config(fault), err),
     };
-    let Some(path) = status_path(&config) else {
-        let fault = StatusFault::Unnamed;
-        return tell(&UntoldStatus::Status { path: "", fault }, err);
-    };
-    let asked = StatusPlan {
-        config: &config,
-        path,
-        shape,
-    };
-    status_of(rt, asked, out, err)
+    found_with(print_of(rt, &config, shape, out), err)
 }
