@@ -19,11 +19,10 @@ use answer_command::{AcceptorSeat, AnswerOrder, answer};
 use check_command::{CheckOrder, check};
 use command_ends::{End, end_with};
 use command_line::{Asked, print_version};
-use draw_command::{ChartingOrder, DrawOrder, SettingPaths, chart, draw};
+use draw_command::{ChartingOrder, DrawOrder, chart, draw};
 use editor_commands::StoryPaths;
-use inputs::{ScriptPaths, TapePaths};
+use inputs::{ScriptPaths, SettingPaths, TapePaths};
 use plant_commands::{check_config, stop};
-use reel_commands::ChartPaths;
 use rehearse_command::{RehearsalOrder, rehearse};
 use rows_files::RowFiles;
 use status_command::{Shape, StatusOrder, status};
@@ -226,7 +225,7 @@ pub fn carry_out<F: RowFiles, R: Read + Drop, W: Write + Drop, E: Write + Drop>(
             widths,
             tapes,
         } => {
-            let paths = ChartPaths {
+            let paths = SettingPaths {
                 table: *table,
                 widths: *widths,
             };

@@ -5,8 +5,9 @@ use crate::story::Story;
 use crate::tapes::HostTapes;
 use command_ends::{End, Fault, end_with, found_with};
 use command_line::ReelPlan;
+use inputs::SettingPaths;
 use reel::{Cutting, Levels, LevelsFault, levels_of, mask_of};
-use reel_commands::{ChartPaths, Reel, ReelFault, Survey, are_tapes, import, put_import};
+use reel_commands::{Reel, ReelFault, Survey, are_tapes, import, put_import};
 use rows_files::RowFiles;
 use std::alloc::Global;
 use std::io::{Read, Write};
@@ -85,7 +86,7 @@ pub(crate) fn run_import<F: RowFiles, R: Read + Drop, W: Write + Drop, E: Write 
 /// Surveys the tapes at their paths, one after the other, by the table and the widths at theirs.
 fn survey_tapes<'a, W: Write>(
     rt: &HostRuntime,
-    paths: &ChartPaths<'a>,
+    paths: &SettingPaths<'a>,
     tapes: &'a [String],
     out: &mut W,
 ) -> Result<(), ReelFault<'a>> {
@@ -102,7 +103,7 @@ fn survey_tapes<'a, W: Write>(
 /// Surveys the tapes at their paths.
 pub(crate) fn run_survey<F: RowFiles, R: Read + Drop, W: Write + Drop, E: Write + Drop>(
     console: &mut Console<'_, F, R, W, E>,
-    paths: &ChartPaths<'_>,
+    paths: &SettingPaths<'_>,
     tapes: &[String],
 ) -> End {
     let rt = console.rt;

@@ -6,18 +6,11 @@ ghost use Rattle.command_ends.specs.Giving.{Gives};
 use crate::drawing::put_text;
 use code_chart::{ChartOrder, draw_chart};
 use command_ends::{End, Fault, end_with};
-use inputs::{read_table, read_widths};
+use inputs::{SettingPaths, read_table, read_widths};
 use std::alloc::Global;
 use std::io::{Read, Write};
 use std::marker::Model;
 use tape_drawing::DrawingForm;
-
-/// Where the files lie by which a tape is set.
-#[derive(Clone, Copy)]
-pub struct SettingPaths<'a> {
-    pub table: &'a str,
-    pub widths: &'a str,
-}
 
 /// A chart that is asked for: where its files lie, what reads them, and as what it is written. Clauses see the texts.
 #[derive(Drop)]

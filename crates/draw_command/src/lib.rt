@@ -4,5 +4,5 @@
 mod charting;
 mod drawing;
 
-pub use charting::{ChartingOrder, SettingPaths, chart};
+pub use charting::{ChartingOrder, chart};
 pub use drawing::{DrawOrder, draw};

@@ -1,5 +1,12 @@
 //! Where the files are that a command is given.
 
+/// Where a code table and a width file are.
+#[derive(Clone, Copy)]
+pub struct SettingPaths<'a> {
+    pub table: &'a str,
+    pub widths: &'a str,
+}
+
 /// Where a code table, a width file and a tape are.
 #[derive(Clone, Copy)]
 pub struct TapePaths<'a> {

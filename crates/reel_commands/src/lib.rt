@@ -16,4 +16,4 @@ pub use cause::ReelFault;
 pub use files::{NotMade, TakenName, TapeFolder};
 pub use importing::{Imported, Reel, import};
 pub use report::{are_tapes, put_import};
-pub use surveying::{ChartPaths, Survey, Surveyed};
+pub use surveying::{Survey, Surveyed};

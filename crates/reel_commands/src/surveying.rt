@@ -12,7 +12,7 @@ use crate::outputs::put_whole;
 use crate::survey_text::survey_text;
 use code_table::CodeTable;
 use command_ends::Fault;
-use inputs::{read_table, read_text, read_widths};
+use inputs::{SettingPaths, read_table, read_text, read_widths};
 use std::alloc::{AllocError, Global};
 use std::io::{Read, Write};
 use tape_frames::{Tape, TapeFault};
@@ -33,13 +33,6 @@ pub struct Survey {
     pub tapes: Vec<Surveyed>,
 }
 
-/// Where a code table and a width file are.
-#[derive(Clone, Copy)]
-pub struct ChartPaths<'a> {
-    pub table: &'a str,
-    pub widths: &'a str,
-}
-
 /// Adds a tape with this name to those that are surveyed.
 fn push(alloc: Global, tapes: &mut Vec<Surveyed>, path: &str, tape: Tape) -> Result<(), AllocError>
     ensures { OnOk result (IsAdded path.now tape tapes.old.items tapes.new.items) }
@@ -53,7 +46,7 @@ impl Survey {
     /// A survey of no tape yet. The table is read and taken before the widths are read.
     pub fn read<'a, R: Read, S: Read>(
         alloc: Global,
-        paths: &ChartPaths<'a>,
+        paths: &SettingPaths<'a>,
         table: &mut R,
         widths: &mut S,
     ) -> Result<Survey, Fault<'a>>

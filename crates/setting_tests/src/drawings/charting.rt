@@ -2,8 +2,9 @@
 
 use crate::drawings::charts::{HTML_HEAD, HTML_TAIL, SVG_HEAD, SVG_TAIL};
 use command_ends::End;
-use draw_command::{ChartingOrder, SettingPaths, chart};
+use draw_command::{ChartingOrder, chart};
 use fixtures::{CODES, WIDTHS};
+use inputs::SettingPaths;
 use std::alloc::Global;
 use tape_drawing::DrawingForm;
 
