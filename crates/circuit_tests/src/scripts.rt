@@ -462,16 +462,14 @@ fn taken_fault<R: Rows>(
     fault_of(alloc, script)
 }
 
-/// What does not hold of the script of this seed over these members, and as these of the same kind play it again; nothing
-/// where all holds.
+/// What does not hold of a script, and as other members of its kind play it again; nothing where all holds.
 fn fault_over<R: Rows>(
     alloc: Global,
-    (kind, seed): (Kind, u64),
-    parts: Parts<R>,
+    script: Option<Script<R>>,
     again: Parts<R>,
     tally: &mut Tally,
 ) -> Option<&'static str> {
-    let Some(mut script) = untaken(alloc, parts, kind, seed) else {
+    let Some(mut script) = script else {
         return Some("there is no circuit");
     };
     let fault = taken_fault(alloc, &mut script, tally);
@@ -490,7 +488,9 @@ fn members(alloc: Global, kind: Kind) -> Option<Parts<MemoryRows>> {
 /// What does not hold of the script of this seed, of a circuit of this kind; nothing where all holds.
 fn fault_of_seed(alloc: Global, kind: Kind, seed: u64, tally: &mut Tally) -> Option<&'static str> {
     match (members(alloc, kind), members(alloc, kind)) {
-        (Some(parts), Some(again)) => fault_over(alloc, (kind, seed), parts, again, tally),
+        (Some(parts), Some(again)) => {
+            fault_over(alloc, untaken(alloc, parts, kind, seed), again, tally)
+        }
         _ => Some("there are no members"),
     }
 }

@@ -310,7 +310,8 @@ fn news_of(told: Told) -> NumberNews {
     }
 }
 
-fn tell(healing: &mut Healing, first: u32, last: u32, news: NumberNews, now: u64) -> Option<bool> {
+fn tell(healing: &mut Healing, numbers: (u32, u32), news: NumberNews, now: u64) -> Option<bool> {
+    let (first, last) = numbers;
     for n in first..last.saturating_add(1) {
         healing.tell(Number::new(n)?, news, now).ok()?;
     }
@@ -319,14 +320,14 @@ fn tell(healing: &mut Healing, first: u32, last: u32, news: NumberNews, now: u64
 
 fn goes(healing: &mut Healing, step: Step) -> Option<bool> {
     match step {
-        Step::Tell(first, last, told, now) => tell(healing, first, last, news_of(told), now),
+        Step::Tell(first, last, told, now) => tell(healing, (first, last), news_of(told), now),
         Step::Voted(n, member, now) => {
             let member = Member::new(member)?;
-            tell(healing, n, n, NumberNews::Voted { member }, now)
+            tell(healing, (n, n), NumberNews::Voted { member }, now)
         }
         Step::Held(n, member, now) => {
             let member = Member::new(member)?;
-            tell(healing, n, n, NumberNews::Held { member }, now)
+            tell(healing, (n, n), NumberNews::Held { member }, now)
         }
         Step::Out(n) => {
             healing.went_out(Number::new(n)?);

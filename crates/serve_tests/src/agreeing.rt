@@ -39,7 +39,7 @@ fn post_of<'a>(rt: &'a HostRuntime, me: u8, addresses: &[Address]) -> Option<Pos
     let alloc = rt.alloc();
     let own = addresses.get(usize::from(me).saturating_sub(1))?;
     let wire = UdpWire::bind(rt, rt, own, Vec::from_slice(alloc, addresses).ok()?).ok()?;
-    Plant::new(alloc, me, 3, MemoryRows::new(alloc), wire)
+    Plant::new(alloc, (me, 3), MemoryRows::new(alloc), wire)
 }
 
 fn three_posts<'a>(rt: &'a HostRuntime) -> Option<Vec<Post<'a>>> {

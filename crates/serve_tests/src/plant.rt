@@ -94,8 +94,9 @@ pub struct Plant<R: Settles, N: Wire + Drop> {
 }
 
 impl<R: Settles, N: Wire + Drop> Plant<R, N> {
-    pub fn new(alloc: Global, me: u8, members: u8, rows: R, wire: N) -> Option<Plant<R, N>> {
-        let station = station_over(alloc, me, members, rows)?;
+    /// The station of a seat, which is a member's number and how many members there are, before its first step.
+    pub fn new(alloc: Global, seat: (u8, u8), rows: R, wire: N) -> Option<Plant<R, N>> {
+        let station = station_over(alloc, seat.0, seat.1, rows)?;
         let machine = Machine {
             alloc,
             station,

@@ -39,7 +39,7 @@ fn takes(bench: &mut Bench, step: &Run) -> bool {
 pub fn bench_of(alloc: Global, story: &Story) -> Option<Bench> {
     let rows = Balky::new(rows_with(alloc, story.version, story.promised)?);
     let wire = Scripted::new(alloc, story.manner);
-    Plant::new(alloc, story.me, story.members, rows, wire)
+    Plant::new(alloc, (story.me, story.members), rows, wire)
 }
 
 /// How many of these steps come to what they have to, up to the first that does not.

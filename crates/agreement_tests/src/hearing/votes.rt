@@ -28,33 +28,34 @@ fn vote_of(members: u8, vote: (u8, At, Agreed)) -> Option<(Member, Ballot, Entry
     Some((member_of(members, vote.0)?, ballot(vote.1)?, lent(vote.2)?))
 }
 
+/// A vote that is heard, and the ballot at which a majority then votes.
+#[derive(Clone, Copy)]
+struct HeardVote {
+    vote: (u8, At, Agreed),
+    ripe: Option<At>,
+}
+
 /// Whether the vote is answered so.
-fn hears(heard: &mut Heard, members: u8, vote: (u8, At, Agreed), ripe: Option<At>) -> bool
+fn hears(heard: &mut Heard, members: u8, one: HeardVote) -> bool
     requires { heard.old.members ≡ members }
     ensures { heard.new.members ≡ members }
 {
-    let Some((member, ballot, entry)) = vote_of(members, vote) else {
+    let Some((member, ballot, entry)) = vote_of(members, one.vote) else {
         return false;
     };
     match heard.hear(member, ballot, entry) {
-        Ok(answer) => answer.map(parts) == ripe,
+        Ok(answer) => answer.map(parts) == one.ripe,
         Err(_) => false,
     }
 }
 
 /// Whether the vote is answered so, each of so many times that it is heard.
-fn answers(
-    heard: &mut Heard,
-    members: u8,
-    times: u32,
-    vote: (u8, At, Agreed),
-    ripe: Option<At>,
-) -> bool
+fn answers(heard: &mut Heard, members: u8, times: u32, one: HeardVote) -> bool
     requires { heard.old.members ≡ members }
     ensures { heard.new.members ≡ members }
 {
     for _ in 0..times {
-        if !hears(heard, members, vote, ripe) {
+        if !hears(heard, members, one) {
             return false;
         }
     }
@@ -95,7 +96,11 @@ fn takes(heard: &mut Heard, members: u8, times: u32, step: Step) -> bool
 {
     match step {
         Step::Hear(member, voted, agreed, ripe) => {
-            answers(heard, members, times, (member, voted, agreed), ripe)
+            let one = HeardVote {
+                vote: (member, voted, agreed),
+                ripe,
+            };
+            answers(heard, members, times, one)
         }
         Step::Entry(voted, agreed) => stands(heard, voted, agreed),
         Step::Release(voted, agreed) => gives_up(heard, voted, agreed),

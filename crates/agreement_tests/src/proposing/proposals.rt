@@ -75,18 +75,17 @@ fn report_of(report: Option<Voted>) -> Option<Option<VoteRef<'static>>> {
     }
 }
 
-/// Whether this becomes of the promise.
+/// Whether this becomes of the promise, which has a ballot and a vote that it reports.
 fn promises(
     proposal: &mut Proposal,
     from: Member,
-    promised: At,
-    report: Option<Voted>,
+    promise: (At, Option<Voted>),
     kind: Counted,
 ) -> bool
     requires { from ≤ proposal.old.members }
     ensures { proposal.new.members ≡ proposal.old.members }
 {
-    let (Some(promised), Some(report)) = (ballot(promised), report_of(report)) else {
+    let (Some(promised), Some(report)) = (ballot(promise.0), report_of(promise.1)) else {
         return false;
     };
     match proposal.promise(from, promised, report) {
@@ -172,7 +171,7 @@ fn takes(proposal: &mut Proposal, members: u8, step: Step) -> bool
 {
     match step {
         Step::Promise(from, promised, report, kind) => match member_of(members, from) {
-            Some(from) => promises(proposal, from, promised, report, kind),
+            Some(from) => promises(proposal, from, (promised, report), kind),
             None => false,
         },
         Step::Nack(denied, promised, kept) => keeps(proposal, denied, promised, kept),

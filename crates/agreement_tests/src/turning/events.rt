@@ -30,13 +30,12 @@ fn body_of(says: Says) -> Option<BodyRef<'static>> {
     })
 }
 
-/// The packet that says so.
+/// The packet at this ballot that says so.
 pub fn packet_of(
     from: Member,
     to: Member,
     number: Number,
-    at: At,
-    says: Says,
+    said: (At, Says),
 ) -> Option<PacketRef<'static>>
     ensures from { IfSome result (λ p. p.from ≡ from) }
     ensures to { IfSome result (λ p. p.to ≡ to) }
@@ -46,7 +45,7 @@ pub fn packet_of(
         from,
         to,
     };
-    PacketRef::new(route, number, ballot(at)?, body_of(says)?)
+    PacketRef::new(route, number, ballot(said.0)?, body_of(said.1)?)
 }
 
 /// The event of a step, to this member of a circuit.
@@ -64,7 +63,7 @@ pub fn event_of(alloc: Global, step: &Step, me: Member, members: u8) -> Option<E
         Coming::Seek => Event::Seek { number, now },
         Coming::Due => Event::Due { number, now },
         Coming::Packet(from, at, says) => Event::Arrived {
-            packet: packet_of(member_of(members, from)?, me, number, at, says)?,
+            packet: packet_of(member_of(members, from)?, me, number, (at, says))?,
             now,
         },
         Coming::Recall(to) => Event::Recall {

@@ -70,7 +70,7 @@ pub fn answer(
     match turn_of(alloc, kept, step)? {
         Err(refusal) => Some(Err(refusal)),
         Ok(turn) => {
-            let is_so = is_turn_of(alloc, &turn, &kept.row, kept.core.me(), step);
+            let is_so = is_turn_of(alloc, &turn, (kept.core.me(), &kept.row), step);
             save(&mut kept.row, turn.row);
             Some(Ok(is_so))
         }

@@ -79,27 +79,28 @@ fn are_one_vote(vote: Option<&Vote>, other: Option<&Vote>) -> bool {
     }
 }
 
+/// What an acceptor has come to by its requests: its row, and its replies.
+#[derive(Clone, Copy)]
+struct Ran<'a> {
+    row: &'a Row,
+    replies: &'a [Reply],
+}
+
 /// Whether each turn is noted as the acceptor replies, and the row that is saved at last is the acceptor's.
-fn follows(
-    alloc: Global,
-    kept: &mut KeptCore,
-    list: &[Asked],
-    row: &Row,
-    replies: &[Reply],
-) -> bool {
-    for (asked, reply) in list.iter().zip(replies) {
+fn follows(alloc: Global, kept: &mut KeptCore, list: &[Asked], ran: Ran<'_>) -> bool {
+    for (asked, reply) in list.iter().zip(ran.replies) {
         let note = noted(alloc, kept, &step_of(*asked));
         if note != Some(words_for(reply, asked.0)) {
             return false;
         }
     }
-    kept.row.promised() == row.promised() && are_one_vote(kept.row.vote(), row.vote())
+    kept.row.promised() == ran.row.promised() && are_one_vote(kept.row.vote(), ran.row.vote())
 }
 
 /// Whether the core of member 2 of three does.
-fn core_follows(alloc: Global, list: &[Asked], row: &Row, replies: &[Reply]) -> bool {
+fn core_follows(alloc: Global, list: &[Asked], ran: Ran<'_>) -> bool {
     match kept_core_of(alloc, 2, 3) {
-        Some(mut kept) => follows(alloc, &mut kept, list, row, replies),
+        Some(mut kept) => follows(alloc, &mut kept, list, ran),
         None => false,
     }
 }
@@ -107,7 +108,13 @@ fn core_follows(alloc: Global, list: &[Asked], row: &Row, replies: &[Reply]) -> 
 /// Whether it does where an acceptor replies to the requests.
 fn is_acceptor(alloc: Global, list: &[Asked], requests: &[Request]) -> bool {
     match run(alloc, requests) {
-        Ok((row, replies)) => core_follows(alloc, list, &row, &replies),
+        Ok((row, replies)) => {
+            let ran = Ran {
+                row: &row,
+                replies: replies.as_slice(),
+            };
+            core_follows(alloc, list, ran)
+        }
         Err(_) => false,
     }
 }

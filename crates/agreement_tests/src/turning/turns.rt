@@ -62,20 +62,13 @@ fn going(from: Member, step: &Step, to: u8, says: Says) -> Option<PacketRef<'sta
         from,
         Member::new(to)?,
         Number::new(step.number)?,
-        step.at,
-        says,
+        (step.at, says),
     )
 }
 
 /// Whether this packet is the one that has to go out.
-fn goes(
-    alloc: Global,
-    packet: Option<PacketRef<'_>>,
-    from: Member,
-    step: &Step,
-    (to, says): (u8, Says),
-) -> bool {
-    match (packet, going(from, step, to, says)) {
+fn goes(alloc: Global, packet: Option<PacketRef<'_>>, other: Option<PacketRef<'_>>) -> bool {
+    match (packet, other) {
         (Some(packet), Some(other)) => are_one(alloc, &packet, &other),
         _ => false,
     }
@@ -84,10 +77,10 @@ fn goes(
 /// Whether the packets of the step go out from this member.
 fn go_out(alloc: Global, out: &Outgoing<'_>, from: Member, step: &Step) -> bool {
     for place in 0..step.out.len() {
-        let Some(going) = step.out.get(place) else {
+        let Some((to, says)) = step.out.get(place) else {
             return false;
         };
-        if !goes(alloc, out.get(place), from, step, going) {
+        if !goes(alloc, out.get(place), going(from, step, to, says)) {
             return false;
         }
     }
@@ -114,10 +107,10 @@ fn is_released(release: &Option<Entry>, releases: Option<Agreed>) -> bool {
     }
 }
 
-/// Whether the turn of this member, at the row before it, is that of the step.
-pub fn is_turn_of(alloc: Global, turn: &Turn, before: &Row, me: Member, step: &Step) -> bool {
+/// Whether the turn of a member, at the row before it, is that of the step.
+pub fn is_turn_of(alloc: Global, turn: &Turn, seat: (Member, &Row), step: &Step) -> bool {
     is_noted(turn.note, step.did)
-        && go_out(alloc, &turn.out(before), me, step)
+        && go_out(alloc, &turn.out(seat.1), seat.0, step)
         && is_saved(&turn.row, step.saves)
         && is_released(&turn.release, step.releases)
 }

@@ -36,9 +36,9 @@ fn fails(alloc: Global, files: (&str, &str), tape: &[u8], err: &str) -> bool {
     comes_to(alloc, check_of(files, tape, false), &wanted)
 }
 
-/// Whether it is so where these widths have this in place of that.
-fn fails_with(alloc: Global, old: &str, new: &str, tape: &[u8], err: &str) -> bool {
-    match WIDTHS.replace(alloc, old, new) {
+/// Whether it is so where the widths have, in place of the first of these texts, the second.
+fn fails_with(alloc: Global, change: (&str, &str), tape: &[u8], err: &str) -> bool {
+    match WIDTHS.replace(alloc, change.0, change.1) {
         Ok(widths) => fails(alloc, (CODES, &widths), tape, err),
         Err(_) => false,
     }
@@ -144,7 +144,10 @@ const CHANGED_WIDTHS: &[(&str, &str, &[u8], &str)] = &[
 fn faults_of_changed_widths(rt: HostRuntime) {
     let alloc = rt.alloc();
     let faulty = CHANGED_WIDTHS.iter().all(|(old, new, tape, fault)| fails_with(
-        alloc, old, new, tape, fault,
+        alloc,
+        (old, new),
+        tape,
+        fault,
     ));
     assert!(rt; faulty);
 }

@@ -33,8 +33,7 @@ pub struct Ending<'a> {
 
 fn end_of_check(
     alloc: Global,
-    inputs: Inputs<'_>,
-    listing: bool,
+    (inputs, listing): (Inputs<'_>, bool),
     out: &mut Slow,
     err: &mut Vec<u8>,
 ) -> End {
@@ -77,7 +76,7 @@ fn end_of_answer(
 /// How a command over this writer ends.
 fn end_of(alloc: Global, command: Command<'_>, out: &mut Slow, err: &mut Vec<u8>) -> Option<End> {
     match command {
-        Command::Check(inputs, listing) => Some(end_of_check(alloc, inputs, listing, out, err)),
+        Command::Check(inputs, listing) => Some(end_of_check(alloc, (inputs, listing), out, err)),
         Command::Rehearse(inputs) => Some(end_of_rehearse(alloc, inputs, out, err)),
         Command::Answer(wire, input) => end_of_answer(alloc, (wire, input), out, err),
     }

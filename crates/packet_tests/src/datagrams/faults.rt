@@ -4,7 +4,9 @@ use crate::datagrams::samples::Sample::{
     Accept, AcceptTwo, AcceptVoid, Accepted, AcceptedTwo, AcceptedVoid, Nack, Prepare, PrepareTwo,
     Promise, Report, ReportTwo, ReportVoid, ShortReport,
 };
-use crate::datagrams::samples::{Changes, LONG_REPORT, Sample, bytes_of, fails, long_packet};
+use crate::datagrams::samples::{
+    Changes, Garbling, LONG_REPORT, Sample, bytes_of, fails, long_packet,
+};
 use packets::PacketFault;
 use std::alloc::Global;
 use tape_frames::Version;
@@ -307,22 +309,24 @@ const ROWS: &[Row] = &[
     ),
 ];
 
+// The bytes that a row is about.
+fn garbled_of(row: Row) -> Garbling<'static> {
+    Garbling {
+        bytes: bytes_of(row.0),
+        changes: row.1,
+        longer: row.2,
+    }
+}
+
 // Whether a station of either version finds this fault first.
-fn fails_at_both(
-    alloc: Global,
-    bytes: &[u8],
-    changes: Changes,
-    longer: bool,
-    fault: Option<PacketFault>,
-) -> bool {
-    fails(alloc, Version::One, bytes, changes, longer, fault)
-        && fails(alloc, Version::Two, bytes, changes, longer, fault)
+fn fails_at_both(alloc: Global, garbling: Garbling<'_>, fault: Option<PacketFault>) -> bool {
+    fails(alloc, Version::One, garbling, fault) && fails(alloc, Version::Two, garbling, fault)
 }
 
 #[test]
 fn first_faults(rt: HostRuntime) {
-    for (sample, changes, longer, fault) in ROWS {
-        assert!(rt; fails_at_both(rt.alloc(), bytes_of(*sample), *changes, *longer, *fault));
+    for row in ROWS {
+        assert!(rt; fails_at_both(rt.alloc(), garbled_of(*row), row.3));
     }
 }
 
@@ -473,34 +477,28 @@ const ROWS_TWO: &[Row] = &[
 ];
 
 // Whether a station of version 2 finds this fault first, and one of version 1 that they are of another version.
-fn fails_at_two(
-    alloc: Global,
-    bytes: &[u8],
-    changes: Changes,
-    longer: bool,
-    fault: Option<PacketFault>,
-) -> bool {
-    fails(alloc, Version::Two, bytes, changes, longer, fault)
-        && fails(
-            alloc,
-            Version::One,
-            bytes,
-            changes,
-            longer,
-            Some(PacketFault::BadVersion),
-        )
+fn fails_at_two(alloc: Global, garbling: Garbling<'_>, fault: Option<PacketFault>) -> bool {
+    fails(alloc, Version::Two, garbling, fault)
+        && fails(alloc, Version::One, garbling, Some(PacketFault::BadVersion))
 }
 
 #[test]
 fn first_faults_of_version_two(rt: HostRuntime) {
-    for (sample, changes, longer, fault) in ROWS_TWO {
-        assert!(rt; fails_at_two(rt.alloc(), bytes_of(*sample), *changes, *longer, *fault));
+    for row in ROWS_TWO {
+        assert!(rt; fails_at_two(rt.alloc(), garbled_of(*row), row.3));
     }
 }
 
 fn long_fails(alloc: Global, frames: usize, changes: Changes, fault: PacketFault) -> bool {
     match long_packet(alloc, LONG_REPORT, frames) {
-        Some(bytes) => fails_at_both(alloc, &bytes, changes, false, Some(fault)),
+        Some(bytes) => {
+            let garbling = Garbling {
+                bytes: bytes.as_slice(),
+                changes,
+                longer: false,
+            };
+            fails_at_both(alloc, garbling, Some(fault))
+        }
         None => false,
     }
 }

@@ -135,15 +135,23 @@ fn body_fault(version: Version, kind: u8, ballot: At, body: &[u8]) -> Option<Pac
     }
 }
 
-/// The first fault of the fields that a header has behind its mark, its version and its kind, and of the body.
-fn field_fault(
-    version: Version,
+/// The fields that a header has behind its mark and its version.
+#[derive(Clone, Copy)]
+struct Fields {
     kind: u8,
     ends: (u8, u8),
     number: u32,
     ballot: At,
-    body: &[u8],
-) -> Option<PacketFault> {
+}
+
+/// The first fault of the fields behind the kind, and of the body.
+fn field_fault(version: Version, fields: Fields, body: &[u8]) -> Option<PacketFault> {
+    let Fields {
+        kind,
+        ends,
+        number,
+        ballot,
+    } = fields;
     if !is_member(ends.0) || !is_member(ends.1) || ends.0 == ends.1 {
         return Some(PacketFault::BadMember);
     }
@@ -206,9 +214,13 @@ fn plain_fault(version: Version, bytes: &[u8]) -> Option<PacketFault> {
             if *kind < 1 || *kind > 5 {
                 return Some(PacketFault::BadKind);
             }
-            let number = number_of([*a, *b, *c, *d]);
-            let ballot = (number_of([*e, *f, *g, *h]), *owner);
-            field_fault(spelled, *kind, (*from, *to), number, ballot, body)
+            let fields = Fields {
+                kind: *kind,
+                ends: (*from, *to),
+                number: number_of([*a, *b, *c, *d]),
+                ballot: (number_of([*e, *f, *g, *h]), *owner),
+            };
+            field_fault(spelled, fields, body)
         }
         _ => Some(PacketFault::Short),
     }

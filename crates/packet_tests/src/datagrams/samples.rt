@@ -273,26 +273,32 @@ fn apply(bytes: &mut Vec<u8>, changes: Changes) {
     }
 }
 
-/// The bytes, changed so, and with a 0 behind them if they are to be longer.
-fn garbled(alloc: Global, bytes: &[u8], changes: Changes, longer: bool) -> Option<Vec<u8>> {
-    let mut copy = Vec::from_slice(alloc, bytes).ok()?;
-    apply(&mut copy, changes);
-    if longer {
+/// Bytes, what is changed of them, and whether a 0 then stands behind them.
+#[derive(Clone, Copy)]
+pub struct Garbling<'a> {
+    pub bytes: &'a [u8],
+    pub changes: Changes,
+    pub longer: bool,
+}
+
+/// What the bytes become.
+fn garbled(alloc: Global, garbling: Garbling<'_>) -> Option<Vec<u8>> {
+    let mut copy = Vec::from_slice(alloc, garbling.bytes).ok()?;
+    apply(&mut copy, garbling.changes);
+    if garbling.longer {
         copy.push(0).ok()?;
     }
     Some(copy)
 }
 
-/// Whether the bytes, changed so, and with a 0 behind them if they are to be longer, have this fault first.
+/// Whether what the bytes become has this fault first.
 pub fn fails(
     alloc: Global,
     version: Version,
-    bytes: &[u8],
-    changes: Changes,
-    longer: bool,
+    garbling: Garbling<'_>,
     fault: Option<PacketFault>,
 ) -> bool {
-    match garbled(alloc, bytes, changes, longer) {
+    match garbled(alloc, garbling) {
         Some(other) => fault_of(version, &other) == fault,
         None => false,
     }

@@ -157,8 +157,8 @@ pub fn is_one(alloc: Global, version: Version, bytes: &[u8]) -> bool {
     }
 }
 
-fn is_read_with(alloc: Global, version: Version, bytes: &[u8], at: usize, value: u8) -> bool {
-    match changed(alloc, bytes, &[(at, value)], &[]) {
+fn is_read_with(alloc: Global, version: Version, bytes: &[u8], change: (usize, u8)) -> bool {
+    match changed(alloc, bytes, &[change], &[]) {
         Some(other) => is_read(alloc, version, &other),
         None => false,
     }
@@ -167,8 +167,8 @@ fn is_read_with(alloc: Global, version: Version, bytes: &[u8], at: usize, value:
 // Whether what the bytes become is read as it has to be with any of them set to 0 or to 255.
 fn are_read(alloc: Global, version: Version, bytes: &[u8]) -> bool {
     for at in 0..bytes.len() {
-        if !is_read_with(alloc, version, bytes, at, 0)
-            || !is_read_with(alloc, version, bytes, at, 0xff)
+        if !is_read_with(alloc, version, bytes, (at, 0))
+            || !is_read_with(alloc, version, bytes, (at, 0xff))
         {
             return false;
         }

@@ -5,7 +5,7 @@ use crate::datagrams::samples::Sample::{
     Nack, NackTwo, Prepare, PrepareTwo, Promise, PromiseTwo, Report, ReportTwo, ReportVoid,
 };
 use crate::datagrams::samples::{
-    ALL_TWO, Agreed, Changes, Sample, bytes_of, changed, fails, fault_of, lent, packet_of,
+    ALL_TWO, Agreed, Changes, Garbling, Sample, bytes_of, changed, fails, fault_of, lent, packet_of,
 };
 use crate::datagrams::spellings::{is_spelled_in, len_again};
 use fixtures::FLOOD;
@@ -200,16 +200,22 @@ const LONG_FAULTS: &[(&[u8], Changes, bool, PacketFault)] = &[
     (LONG_REPORT, Changes::Nothing, true, PacketFault::Long),
 ];
 
-// Whether the longest packet of this front, changed so, has this fault first.
+// Whether the longest packet of this front, changed so, and longer or not, has this fault first.
 fn long_fails(
     alloc: Global,
     front: &[u8],
-    changes: Changes,
-    longer: bool,
+    (changes, longer): (Changes, bool),
     fault: PacketFault,
 ) -> bool {
     match long_packet(alloc, front) {
-        Some(bytes) => fails(alloc, Version::Two, &bytes, changes, longer, Some(fault)),
+        Some(bytes) => {
+            let garbling = Garbling {
+                bytes: bytes.as_slice(),
+                changes,
+                longer,
+            };
+            fails(alloc, Version::Two, garbling, Some(fault))
+        }
         None => false,
     }
 }
@@ -217,6 +223,6 @@ fn long_fails(
 #[test]
 fn of_long_tapes(rt: HostRuntime) {
     for (front, changes, longer, fault) in LONG_FAULTS {
-        assert!(rt; long_fails(rt.alloc(), front, *changes, *longer, *fault));
+        assert!(rt; long_fails(rt.alloc(), front, (*changes, *longer), *fault));
     }
 }

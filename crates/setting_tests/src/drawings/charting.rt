@@ -13,12 +13,11 @@ const PATHS: SettingPaths<'static> = SettingPaths {
     widths: "widths.toml",
 };
 
-/// How `chart` of these files ends, where it tells this and what it writes begins and ends so.
+/// How `chart` of these files ends, where it tells this and what it writes, in this form, begins and ends so.
 fn end_of(
     alloc: Global,
     files: (&str, &str),
-    page: DrawingForm,
-    written: (&str, &str),
+    (page, written): (DrawingForm, (&str, &str)),
     told: &str,
 ) -> Option<End> {
     let order = ChartingOrder {
@@ -48,7 +47,7 @@ const PAGES: &[(DrawingForm, (&str, &str))] = &[
 #[test]
 fn a_chart(rt: HostRuntime) {
     for (page, written) in PAGES {
-        let end = end_of(rt.alloc(), (CODES, WIDTHS), *page, *written, "");
+        let end = end_of(rt.alloc(), (CODES, WIDTHS), (*page, *written), "");
         assert!(rt; end == Some(End::Done), "{}", written.0);
     }
 }
@@ -64,8 +63,7 @@ fn faulty_files_of_a_chart(rt: HostRuntime) {
         let end = end_of(
             rt.alloc(),
             (table, widths),
-            DrawingForm::Svg,
-            ("", ""),
+            (DrawingForm::Svg, ("", "")),
             told,
         );
         assert!(rt; end == Some(End::Input), "{told}");

@@ -16,21 +16,39 @@ const PATHS: TapePaths<'static> = TapePaths {
     tape: "story.tape",
 };
 
-/// The end of `draw` over these files, where this is what it tells.
-fn end_of<W: Write>(
-    alloc: Global,
-    files: (&str, &str),
-    tape: &[u8],
+/// What `draw` is given: the table and the widths, the tape, and the form of the page.
+#[derive(Clone, Copy)]
+struct DrawInput<'a> {
+    files: (&'a str, &'a str),
+    tape: &'a [u8],
     page: DrawingForm,
-    out: &mut W,
-    err: &str,
-) -> Option<End> {
-    let order = DrawOrder {
-        paths: &PATHS,
-        table: files.0.as_bytes(),
-        widths: files.1.as_bytes(),
+}
+
+/// This tape, by the example's files.
+fn by_example<'a>(tape: &'a [u8], page: DrawingForm) -> DrawInput<'a> {
+    DrawInput {
+        files: (CODES, WIDTHS),
         tape,
         page,
+    }
+}
+
+/// How `draw` ends, what it writes, and what it tells.
+#[derive(Clone, Copy)]
+struct Drawn<'a> {
+    end: End,
+    document: &'a str,
+    err: &'a str,
+}
+
+/// The end of `draw` of this, where this is what it tells.
+fn end_of<W: Write>(alloc: Global, input: DrawInput<'_>, out: &mut W, err: &str) -> Option<End> {
+    let order = DrawOrder {
+        paths: &PATHS,
+        table: input.files.0.as_bytes(),
+        widths: input.files.1.as_bytes(),
+        tape: input.tape,
+        page: input.page,
     };
     let mut told = Vec::new(alloc);
     let end = draw(alloc, order, out, &mut told);
@@ -41,103 +59,74 @@ fn end_of<W: Write>(
     }
 }
 
-/// Whether `draw` of these files ends so, writes this document and tells this.
-fn draws(
-    alloc: Global,
-    files: (&str, &str),
-    tape: &[u8],
-    page: DrawingForm,
-    end: End,
-    document: &str,
-    err: &str,
-) -> bool {
+/// Whether `draw` of this ends so, writes this document and tells this.
+fn draws(alloc: Global, input: DrawInput<'_>, drawn: Drawn<'_>) -> bool {
     let mut out = Vec::new(alloc);
-    let ended = end_of(alloc, files, tape, page, &mut out, err);
-    ended == Some(end) && out.as_slice() == document.as_bytes()
+    let ended = end_of(alloc, input, &mut out, drawn.err);
+    ended == Some(drawn.end) && out.as_slice() == drawn.document.as_bytes()
 }
 
 #[test]
 fn a_story_that_sets(rt: HostRuntime) {
-    let files = (CODES, WIDTHS);
-    assert!(rt;
-        draws(
-            rt.alloc(),
-            files,
-            FLOOD,
-            DrawingForm::Svg,
-            End::Done,
-            FLOOD_SVG,
-            ""
-        )
-    );
+    let drawn = Drawn {
+        end: End::Done,
+        document: FLOOD_SVG,
+        err: "",
+    };
+    assert!(rt; draws(rt.alloc(), by_example(FLOOD, DrawingForm::Svg), drawn));
 }
 
 #[test]
 fn a_story_that_is_overset(rt: HostRuntime) {
-    let files = (CODES, WIDTHS);
-    let err = "fault: overset 1 at 7 line 1\n";
-    assert!(rt;
-        draws(
-            rt.alloc(),
-            files,
-            OVERSET,
-            DrawingForm::Svg,
-            End::Input,
-            OVERSET_SVG,
-            err
-        )
-    );
+    let drawn = Drawn {
+        end: End::Input,
+        document: OVERSET_SVG,
+        err: "fault: overset 1 at 7 line 1\n",
+    };
+    assert!(rt; draws(rt.alloc(), by_example(OVERSET, DrawingForm::Svg), drawn));
 }
 
 #[test]
 fn a_story_that_is_loose(rt: HostRuntime) {
-    let files = (CODES, WIDTHS);
-    let err = "fault: loose 14 at 3 line 1\n";
+    let drawn = Drawn {
+        end: End::Input,
+        document: LOOSE_SVG,
+        err: "fault: loose 14 at 3 line 1\n",
+    };
     assert!(rt;
         draws(
             rt.alloc(),
-            files,
-            &[1, 3, 1, 4],
-            DrawingForm::Svg,
-            End::Input,
-            LOOSE_SVG,
-            err
+            by_example(&[1, 3, 1, 4], DrawingForm::Svg),
+            drawn
         )
     );
 }
 
 #[test]
 fn a_story_that_is_never_cut(rt: HostRuntime) {
-    let files = (CODES, WIDTHS);
-    let err = "fault: unfinished at 1 line 1\n";
-    assert!(rt;
-        draws(
-            rt.alloc(),
-            files,
-            &[1],
-            DrawingForm::Html,
-            End::Input,
-            UNFINISHED_HTML,
-            err
-        )
-    );
+    let drawn = Drawn {
+        end: End::Input,
+        document: UNFINISHED_HTML,
+        err: "fault: unfinished at 1 line 1\n",
+    };
+    assert!(rt; draws(rt.alloc(), by_example(&[1], DrawingForm::Html), drawn));
 }
 
 /// Whether the example's matrix `a`, under a name that is markup, is drawn as this page.
 fn names_are_escaped(alloc: Global, document: &str) -> Option<bool> {
     let table = CODES.replace(alloc, "\"a\"", "\"<&>\\\"'\"").ok()?;
     let widths = WIDTHS.replace(alloc, "\na = ", "\n\"<&>\\\"'\" = ").ok()?;
-    let tape = &[8, 1, 9, 10, 1, 7, 4];
-    let files = (table.as_str(), widths.as_str());
-    Some(draws(
-        alloc,
-        files,
-        tape,
-        DrawingForm::Html,
-        End::Done,
+    let input = DrawInput {
+        files: (table.as_str(), widths.as_str()),
+        tape: &[8, 1, 9, 10, 1, 7, 4],
+        page: DrawingForm::Html,
+    };
+    let drawn = Drawn {
+        end: End::Done,
         document,
-        "",
-    ))
+        err: "",
+    };
+    Some(draws(alloc, input, drawn))
 }
 
 #[test]
@@ -155,32 +144,24 @@ const FAULTS: &[(&str, &str, &[u8], &str)] = &[
 #[test]
 fn faulty_files(rt: HostRuntime) {
     for (table, widths, tape, err) in FAULTS {
-        assert!(rt;
-            draws(
-                rt.alloc(),
-                (table, widths),
-                tape,
-                DrawingForm::Svg,
-                End::Input,
-                "",
-                err
-            ),
-            "{err}"
-        );
+        let input = DrawInput {
+            files: (*table, *widths),
+            tape: *tape,
+            page: DrawingForm::Svg,
+        };
+        let drawn = Drawn {
+            end: End::Input,
+            document: "",
+            err: *err,
+        };
+        assert!(rt; draws(rt.alloc(), input, drawn), "{err}");
     }
 }
 
 /// The longest tape, with all its holes: how many bytes its drawing has.
 fn longest(alloc: Global) -> usize {
     let mut out = Vec::new(alloc);
-    let end = end_of(
-        alloc,
-        (CODES, WIDTHS),
-        LONGEST,
-        DrawingForm::Svg,
-        &mut out,
-        "",
-    );
+    let end = end_of(alloc, by_example(LONGEST, DrawingForm::Svg), &mut out, "");
     if end == Some(End::Done) { out.len() } else { 0 }
 }
 
@@ -195,9 +176,7 @@ fn front(alloc: Global, room: usize) -> Option<usize> {
     let mut out = Narrow::new(alloc, usize::MAX, room);
     let end = end_of(
         alloc,
-        (CODES, WIDTHS),
-        FLOOD,
-        DrawingForm::Svg,
+        by_example(FLOOD, DrawingForm::Svg),
         &mut out,
         "cannot write\n",
     );

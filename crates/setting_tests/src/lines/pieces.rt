@@ -135,15 +135,14 @@ fn one_frame_too_many(rt: HostRuntime) {
     }
 }
 
-/// Whether the lines of a piece have slugs, which are added.
+/// Whether there are lines, and they have slugs, which are added.
 fn casts(
     alloc: Global,
-    reader: &mut Reader<'_>,
-    piece: &[u8],
+    lines: Result<Vec<Line>, ReadFault>,
     widths: &Widths,
     slugs: &mut Vec<Slug>,
 ) -> bool {
-    let Ok(lines) = reader.push(piece) else {
+    let Ok(lines) = lines else {
         return false;
     };
     for line in &lines {
@@ -160,11 +159,11 @@ fn casts(
 }
 
 /// Whether the text is the galley of two pieces.
-fn sets_in_two(alloc: Global, job: &Job, front: &[u8], back: &[u8], text: &str) -> bool {
+fn sets_in_two(alloc: Global, job: &Job, pieces: (&[u8], &[u8]), text: &str) -> bool {
     let mut reader = Reader::new(alloc, &job.table, &job.widths);
     let mut slugs = Vec::new(alloc);
-    casts(alloc, &mut reader, front, &job.widths, &mut slugs)
-        && casts(alloc, &mut reader, back, &job.widths, &mut slugs)
+    casts(alloc, reader.push(pieces.0), &job.widths, &mut slugs)
+        && casts(alloc, reader.push(pieces.1), &job.widths, &mut slugs)
         && reader.finish().is_ok()
         && is_galley(alloc, &slugs, text)
 }
@@ -175,8 +174,7 @@ fn sets_at_each_cut(alloc: Global, frames: &[u8], text: &str) -> bool {
         return false;
     };
     for cut in 0..frames.len() {
-        let (front, back) = frames.split_at(cut);
-        if !sets_in_two(alloc, &job, front, back, text) {
+        if !sets_in_two(alloc, &job, frames.split_at(cut), text) {
             return false;
         }
     }
