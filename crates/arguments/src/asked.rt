@@ -1,10 +1,9 @@
 //! What the command line asks for.
 
-use crate::plan::{CreatePlan, Mismatch, Plan};
+use crate::plan::{CreatePlan, Mismatch, Plan, RunPlan};
 use ballots::Member;
 use clap::Error;
-use inputs::{ScriptPaths, TapePaths};
-use log_terms::LogTerms;
+use inputs::{ScriptPaths, SettingPaths, StoryPaths, TapePaths};
 use tape_drawing::DrawingForm;
 use tape_frames::Version;
 
@@ -29,21 +28,18 @@ pub enum Asked<'a> {
     },
     /// To chart a code table with widths.
     Chart {
-        table: &'a str,
-        widths: &'a str,
+        paths: SettingPaths<'a>,
         page: DrawingForm,
     },
     /// To punch the text at a path, with the ligatures that are named, as a tape for which this version has room.
     Punch {
-        table: &'a str,
-        text: &'a str,
+        paths: StoryPaths<'a>,
         ligatures: Option<&'a str>,
         room: Version,
     },
     /// To spell the tape at a path, and where `plain` is set as a reader reads it.
     Spell {
-        table: &'a str,
-        tape: &'a str,
+        paths: StoryPaths<'a>,
         plain: bool,
     },
     /// To tell of each line how it fits, of a tape, or where `text` is set of a text.
@@ -63,15 +59,8 @@ pub enum Asked<'a> {
     Create(CreatePlan<'a>),
     /// To serve a station.
     Serve(Plan<'a>),
-    /// To run the station of the configuration at a path until it is stopped.
-    Run {
-        config: &'a str,
-        /// The layout in which the tables of its saved rows are made first, by the version that it has rows of, where they
-        /// are to be made.
-        create: Option<Version>,
-        /// How much is told, and how.
-        log: LogTerms,
-    },
+    /// To run a station until it is stopped.
+    Run(RunPlan<'a>),
     /// To tell what is found about the configuration at a path.
     CheckConfig {
         config: &'a str,
@@ -97,8 +86,7 @@ pub enum Asked<'a> {
     Import(ReelPlan<'a>),
     /// To survey how the frames of the tapes at some paths come in them.
     Survey {
-        table: &'a str,
-        widths: &'a str,
+        paths: SettingPaths<'a>,
         tapes: &'a [String],
     },
     /// To print which version of the program this is.

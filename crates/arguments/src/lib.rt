@@ -8,5 +8,5 @@ mod taking;
 
 pub use asked::{Asked, ReelPlan, Unasked};
 pub use grammar::VERSION;
-pub use plan::{CreatePlan, Mismatch, Plan, TapeOffer};
+pub use plan::{CreatePlan, Mismatch, Plan, RunPlan, TapeOffer};
 pub use taking::asked_by;

@@ -1,8 +1,9 @@
-//! What the command lines of `create` and `serve` ask for: options that go together are one value.
+//! What the command lines of `create`, `serve` and `run` ask for: options that go together are one value.
 
 ghost use Rattle.std.specs.Prelude.{◌≡◌, IfOk, IfErr, IsErr, option_map};
 ghost use Rattle.arguments.specs.Plans.{IsLayoutAlone, IsUnpaired, made_in};
 
+use log_terms::LogTerms;
 use tape_frames::Version;
 
 /// What the command line of `create` asks for.
@@ -38,6 +39,18 @@ pub struct Plan<'a> {
     pub withdraw: Option<u32>,
     /// The number whose entry is sought at last, if one is.
     pub seek: Option<u32>,
+}
+
+/// What the command line of `run` asks for.
+#[derive(Clone, Copy)]
+pub struct RunPlan<'a> {
+    /// The path of the configuration.
+    pub config: &'a str,
+    /// The layout in which the tables of its saved rows are made first, by the version that it has rows of, where they
+    /// are to be made.
+    pub create: Option<Version>,
+    /// How much is told, and how.
+    pub log: LogTerms,
 }
 
 /// What of a line does not go together.

@@ -2,10 +2,10 @@
 
 use crate::asked::{Asked, ReelPlan, Unasked};
 use crate::grammar::grammar;
-use crate::plan::{CreatePlan, Mismatch, Plan, TapeOffer, creation_of, offer_of};
+use crate::plan::{CreatePlan, Mismatch, Plan, RunPlan, TapeOffer, creation_of, offer_of};
 use ballots::Member;
 use clap::{ArgMatches, Error};
-use inputs::{ScriptPaths, TapePaths};
+use inputs::{ScriptPaths, SettingPaths, StoryPaths, TapePaths};
 use log_terms::{LogTerms, loudness_of};
 use std::alloc::Global;
 use tape_drawing::DrawingForm;
@@ -63,38 +63,43 @@ fn draw_of<'a>(matches: &ArgMatches<'a>) -> Option<Asked<'a>> {
     Some(Asked::Draw { paths, page })
 }
 
-fn chart_of<'a>(matches: &ArgMatches<'a>) -> Option<Asked<'a>> {
-    let table = matches.get_str("TABLE")?;
-    let widths = matches.get_str("WIDTHS")?;
-    let page = page_of(matches);
-    Some(Asked::Chart {
-        table,
-        widths,
-        page,
+fn setting_paths_of<'a>(matches: &ArgMatches<'a>) -> Option<SettingPaths<'a>> {
+    Some(SettingPaths {
+        table: matches.get_str("TABLE")?,
+        widths: matches.get_str("WIDTHS")?,
     })
 }
 
+fn chart_of<'a>(matches: &ArgMatches<'a>) -> Option<Asked<'a>> {
+    let paths = setting_paths_of(matches)?;
+    let page = page_of(matches);
+    Some(Asked::Chart { paths, page })
+}
+
 fn punch_of<'a>(matches: &ArgMatches<'a>) -> Option<Asked<'a>> {
-    let table = matches.get_str("TABLE")?;
-    let text = matches.get_str("TEXT")?;
+    let paths = StoryPaths {
+        table: matches.get_str("TABLE")?,
+        story: matches.get_str("TEXT")?,
+    };
     let ligatures = matches.get_str("ligatures");
     let room = match matches.get_str("most")? {
         "4096" => Version::One,
         _ => Version::Two,
     };
     Some(Asked::Punch {
-        table,
-        text,
+        paths,
         ligatures,
         room,
     })
 }
 
 fn spell_of<'a>(matches: &ArgMatches<'a>) -> Option<Asked<'a>> {
-    let table = matches.get_str("TABLE")?;
-    let tape = matches.get_str("TAPE")?;
+    let paths = StoryPaths {
+        table: matches.get_str("TABLE")?,
+        story: matches.get_str("TAPE")?,
+    };
     let plain = matches.get_flag("plain");
-    Some(Asked::Spell { table, tape, plain })
+    Some(Asked::Spell { paths, plain })
 }
 
 fn fit_of<'a>(matches: &ArgMatches<'a>) -> Option<Asked<'a>> {
@@ -170,11 +175,12 @@ fn run_of<'a>(matches: &ArgMatches<'a>) -> Option<Asked<'a>> {
     let loudness = loudness_of(matches.get_flag("quiet"), matches.get_flag("verbose"));
     let times = matches.get_flag("times");
     let log = LogTerms { loudness, times };
-    Some(Asked::Run {
+    let plan = RunPlan {
         config,
         create,
         log,
-    })
+    };
+    Some(Asked::Run(plan))
 }
 
 fn rehearse_of<'a>(matches: &ArgMatches<'a>) -> Option<Asked<'a>> {
@@ -211,11 +217,8 @@ fn last_words<'a>(words: &'a [String], texts: &[&str]) -> Option<&'a [String]> {
 
 /// To survey these tapes.
 fn survey_over<'a>(matches: &ArgMatches<'a>, tapes: &'a [String]) -> Option<Asked<'a>> {
-    Some(Asked::Survey {
-        table: matches.get_str("TABLE")?,
-        widths: matches.get_str("WIDTHS")?,
-        tapes,
-    })
+    let paths = setting_paths_of(matches)?;
+    Some(Asked::Survey { paths, tapes })
 }
 
 /// The tapes are the last words of a line, unless a `--` is among them.

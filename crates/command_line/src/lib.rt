@@ -4,6 +4,6 @@
 mod parsing;
 mod version;
 
-pub use arguments::{Asked, CreatePlan, Plan, ReelPlan, TapeOffer};
+pub use arguments::{Asked, CreatePlan, Plan, ReelPlan, RunPlan, TapeOffer};
 pub use parsing::parse;
 pub use version::print_version;

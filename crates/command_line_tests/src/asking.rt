@@ -68,32 +68,24 @@ fn is_asked(asked: &Result<Asked<'_>, End>, wanted: &Wanted<'_>) -> bool {
         (
             Ok(
                 Asked::Punch {
-                    table,
-                    text,
+                    paths,
                     ligatures,
                     room,
                 },
             ),
             Wanted::Punch(named, version),
         ) => {
-            *table == "codes.toml"
-                && *text == "story.txt"
+            paths.table == "codes.toml"
+                && paths.story == "story.txt"
                 && *ligatures == *named
                 && *room == *version
         }
         (Ok(Asked::Create(plan)), Wanted::Create(wanted)) => {
             plan.config == "station.toml" && plan.layout == *wanted
         }
-        (
-            Ok(
-                Asked::Run {
-                    config,
-                    create,
-                    log,
-                },
-            ),
-            Wanted::Run(made, terms),
-        ) => *config == "station.toml" && *create == *made && *log == *terms,
+        (Ok(Asked::Run(plan)), Wanted::Run(made, terms)) => {
+            plan.config == "station.toml" && plan.create == *made && plan.log == *terms
+        }
         (Ok(Asked::Status { config, json }), Wanted::Status { json: wanted }) => {
             *config == "station.toml" && *json == *wanted
         }

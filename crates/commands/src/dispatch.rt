@@ -11,7 +11,7 @@ use crate::create_start::create;
 use crate::editing::{run_fit, run_punch, run_spell};
 use crate::host::ThisHost;
 use crate::reels::{run_import, run_survey};
-use crate::run_start::{RunPlan, run};
+use crate::run_start::run;
 use crate::serve_start::serve;
 use crate::start_up::Ground;
 use crate::story::Story;
@@ -20,7 +20,6 @@ use check_command::{CheckOrder, check};
 use command_ends::{End, end_with};
 use command_line::{Asked, print_version};
 use draw_command::{ChartingOrder, DrawOrder, chart, draw};
-use editor_commands::StoryPaths;
 use inputs::{ScriptPaths, SettingPaths, TapePaths};
 use plant_commands::{check_config, stop};
 use rehearse_command::{RehearsalOrder, rehearse};
@@ -156,36 +155,13 @@ pub fn carry_out<F: RowFiles, R: Read + Drop, W: Write + Drop, E: Write + Drop>(
         }
         Asked::Check { paths, listing } => run_check(console, paths, *listing),
         Asked::Draw { paths, page } => run_draw(console, paths, *page),
-        Asked::Chart {
-            table,
-            widths,
-            page,
-        } => {
-            let paths = SettingPaths {
-                table: *table,
-                widths: *widths,
-            };
-            run_chart(console, &paths, *page)
-        }
+        Asked::Chart { paths, page } => run_chart(console, paths, *page),
         Asked::Punch {
-            table,
-            text,
+            paths,
             ligatures,
             room,
-        } => {
-            let paths = StoryPaths {
-                table: *table,
-                story: *text,
-            };
-            run_punch(console, &paths, *ligatures, *room)
-        }
-        Asked::Spell { table, tape, plain } => {
-            let paths = StoryPaths {
-                table: *table,
-                story: *tape,
-            };
-            run_spell(console, &paths, *plain)
-        }
+        } => run_punch(console, paths, *ligatures, *room),
+        Asked::Spell { paths, plain } => run_spell(console, paths, *plain),
         Asked::Fit { paths, text } => run_fit(console, paths, *text),
         Asked::Rows { path } => {
             let outcome = ground.row_files.list(rt, *path, &mut console.out);
@@ -197,18 +173,7 @@ pub fn carry_out<F: RowFiles, R: Read + Drop, W: Write + Drop, E: Write + Drop>(
         }
         Asked::Create(plan) => create(&ground, *plan, &mut console.out, &mut console.err),
         Asked::Serve(plan) => serve(&ground, *plan, &mut console.out, &mut console.err),
-        Asked::Run {
-            config,
-            create,
-            log,
-        } => {
-            let plan = RunPlan {
-                config: *config,
-                making: *create,
-                log: *log,
-            };
-            run(&ground, plan, &mut console.err)
-        }
+        Asked::Run(plan) => run(&ground, *plan, &mut console.err),
         Asked::CheckConfig { config } => {
             check_config(rt, *config, &mut console.out, &mut console.err)
         }
@@ -220,17 +185,7 @@ pub fn carry_out<F: RowFiles, R: Read + Drop, W: Write + Drop, E: Write + Drop>(
         Asked::Watch { config } => run_status(console, *config, Shape::Watched),
         Asked::Rehearse { paths } => run_rehearse(console, paths),
         Asked::Import(plan) => run_import(console, plan),
-        Asked::Survey {
-            table,
-            widths,
-            tapes,
-        } => {
-            let paths = SettingPaths {
-                table: *table,
-                widths: *widths,
-            };
-            run_survey(console, &paths, *tapes)
-        }
+        Asked::Survey { paths, tapes } => run_survey(console, paths, *tapes),
         Asked::Version => print_version(&mut console.out, &mut console.err),
     }
 }

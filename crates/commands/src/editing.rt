@@ -4,10 +4,8 @@ use crate::console::Console;
 use crate::story::Story;
 use code_table::Name;
 use command_ends::{End, Fault};
-use editor_commands::{
-    FitOrder, Form, Given, PunchOrder, SpellOrder, StoryPaths, fit, punch, spell,
-};
-use inputs::TapePaths;
+use editor_commands::{FitOrder, Form, Given, PunchOrder, SpellOrder, fit, punch, spell};
+use inputs::{StoryPaths, TapePaths};
 use rows_files::RowFiles;
 use std::alloc::Global;
 use std::io::{Read, Write};

@@ -29,6 +29,6 @@ pub use dispatch::carry_out;
 pub use host::{Host, ThisHost};
 pub use host_door::HostDoor;
 pub use host_wire::HostWire;
-pub use run_start::{RunPlan, run};
+pub use run_start::run;
 pub use serve_start::serve;
 pub use start_up::{Ground, Launch, Started, start};

@@ -13,11 +13,12 @@ use crate::start_up::{Ground, Launch, Started, start};
 use crate::status_file::HostStatus;
 use code_table::CodeTable;
 use command_ends::{End, Fault, end_with};
+use command_line::RunPlan;
 use configuration::{Config, ConfigInput, Resolver, read_config};
 use driver::Machine;
 use folders::{Folders, NoFolders};
 use gone_out::{Known, Origin};
-use log_terms::{LogTerms, Loudness};
+use log_terms::Loudness;
 use plant_status::StationId;
 use rows_files::{RefusedRows, RowFiles, close_rows};
 use rows_saved::{Grouped, Rows};
@@ -25,7 +26,6 @@ use run_command::{Terms, run_station};
 use station::Station;
 use std::alloc::Global;
 use std::io::Write;
-use tape_frames::Version;
 use timed_lines::TimedLines;
 use wire::{Address, Wire};
 
@@ -196,17 +196,6 @@ fn run_from<'a, F: RowFiles, E: Write>(
     }
 }
 
-/// What `run` is asked for.
-#[derive(Clone, Copy)]
-pub struct RunPlan<'a> {
-    /// The path of the configuration.
-    pub config: &'a str,
-    /// The version that its rows are made in, where they are made first.
-    pub making: Option<Version>,
-    /// How much it tells, and how.
-    pub log: LogTerms,
-}
-
 /// Reads the keys that a configuration names, and runs its station over the folders of its plant.
 fn run_at<'a, F: RowFiles, E: Write>(
     ground: &Ground<'_, ThisHost<'_>, F>,
@@ -222,7 +211,7 @@ fn run_at<'a, F: RowFiles, E: Write>(
     let launch = Launch {
         config,
         keys,
-        making: plan.making,
+        making: plan.create,
         offer: None,
     };
     let running = Running {

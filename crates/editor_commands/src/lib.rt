@@ -13,5 +13,5 @@ mod verdict_words;
 
 pub use cause::EditorFault;
 pub use fitting::{FitOrder, Given, fit};
-pub use punching::{PunchOrder, StoryPaths, punch};
+pub use punching::{PunchOrder, punch};
 pub use spelling::{Form, SpellOrder, spell};

@@ -9,19 +9,12 @@ use crate::outputs::put_whole;
 use crate::taking::punched;
 use code_table::Name;
 use command_ends::{End, end_with};
-use inputs::{read_table, read_text};
+use inputs::{StoryPaths, read_table, read_text};
 use std::alloc::Global;
 use std::io::{Read, Write};
 use std::marker::Model;
 use tape_frames::Version;
 use text_tape::PunchedBy;
-
-/// Where a code table is, and a text or a tape.
-#[derive(Clone, Copy)]
-pub struct StoryPaths<'a> {
-    pub table: &'a str,
-    pub story: &'a str,
-}
 
 /// A tape that is to be punched: where its files lie, what reads them, and by what else it is punched. Clauses see the texts.
 #[derive(Drop)]

@@ -7,11 +7,10 @@ ghost use Rattle.editor_commands.specs.SpelledAs.{text_in, WasSpelled, BreaksOff
 
 use crate::cause::EditorFault;
 use crate::outputs::put_whole;
-use crate::punching::StoryPaths;
 use crate::taking::tape_of;
 use code_table::CodeTable;
 use command_ends::{End, end_with};
-use inputs::{read_table, read_text};
+use inputs::{StoryPaths, read_table, read_text};
 use std::alloc::Global;
 use std::io::{Read, Write};
 use std::marker::Model;

@@ -7,6 +7,13 @@ pub struct SettingPaths<'a> {
     pub widths: &'a str,
 }
 
+/// Where a code table is, and a text or a tape.
+#[derive(Clone, Copy)]
+pub struct StoryPaths<'a> {
+    pub table: &'a str,
+    pub story: &'a str,
+}
+
 /// Where a code table, a width file and a tape are.
 #[derive(Clone, Copy)]
 pub struct TapePaths<'a> {

@@ -1,11 +1,9 @@
 //! What `punch`, `spell` and `fit` print, and how they end.
 
 use command_ends::End;
-use editor_commands::{
-    FitOrder, Form, Given, PunchOrder, SpellOrder, StoryPaths, fit, punch, spell,
-};
+use editor_commands::{FitOrder, Form, Given, PunchOrder, SpellOrder, fit, punch, spell};
 use fixtures::{CODES, HARVEST, OVERSET, WIDTHS};
-use inputs::TapePaths;
+use inputs::{StoryPaths, TapePaths};
 use std::alloc::Global;
 use tape_frames::Version;
 
