@@ -48,14 +48,6 @@ pub record Staged (layout : Layout) (items : List (ℕ × Row)) (i : ℕ) (old n
   pub kept : HasCleanDisk new → IsTrue old.in_transaction → KeepsCommit old new
   pub survives : Survives old new (λ _. ⊥)
 
-pub none_staged : (layout : Layout) (items : List (ℕ × Row)) (s : State) → Staged layout items 0 s s
-none_staged layout items s = record {
-  staged = λ clean is. (is, λ last puts. puts);
-  inside = λ clean i. i;
-  kept = λ clean i. record { was_open = λ o. o; committed = λ o. refl };
-  survives = record { clean = omega arith; shield = λ x. x; counts = omega arith; limit = refl; closes = λ clean o. inl o; crash = λ clean db left. inl left };
-}
-
 pub one_staged : (layout : Layout) (items : List (ℕ × Row)) (i : ℕ) (item : ℕ × Row) (old mid new : State) → slice_get items i ≡ Some item → Staged layout items i old mid
     → Survives mid new (λ _. ⊥)
     → (HasCleanDisk new → IsStaging layout mid → IsStaging layout new × PutsBack layout item.0 item.1 mid.now.trees new.now.trees)
@@ -214,7 +206,3 @@ some_left items old new (inl shut) = inl shut
 some_left items old new (inr (inl none)) = inr (record { many = 0; within = omega arith; saved = none })
 some_left items old new (inr (inr all)) =
     inr (record { many = length items; within = omega arith; saved = subst (λ l. WithAll old l new) (sym (take_all (length items) items (omega arith))) all })
-
--- rows that nothing was done to
-pub none_put : {Shut : Type 0} (items : List (ℕ × Row)) (saved : Saved) → Shut ⊎ WithSome saved items saved
-none_put items saved = inr (record { many = 0; within = omega arith; saved = λ n. refl })

@@ -33,7 +33,7 @@ use Rattle.acceptor_store.specs.Layouts.{upgraded_from}
 use Rattle.acceptor_store.specs.Columns.{version_in, saved_in}
 use Rattle.acceptor_store.specs.StationRow.{IsStationOf}
 use Rattle.acceptor_store.specs.Sqlite.{SqliteOf, rows_version, IsOurs, IsOfStation, saved_of}
-use Rattle.acceptor_store.specs.Files.{IsTakenUp}
+use Rattle.acceptor_store.specs.Files.{IsOpenedAgain}
 use Rattle.acceptor_store.specs.Restarts.{GivesUp, AreOpenedFrom, AreTorn, OpensWhatIsLeft, PutOutlivesCrash, GroupOutlivesCrash, GroupIsFound, UpgradeOutlivesCrash, CreateOutlivesCrash}
 use Rattle.acceptor_store.proofs.IdentityLemmas.{added}
 use Rattle.acceptor_store.proofs.StandLemmas.{none_saved}
@@ -93,7 +93,7 @@ found_ours left again opened layout i holds =
     (made.ours layout (found_schema made.was was layout holds.tables)).1
 
 -- rows that were taken up from trees which list the tables of a layout are in it, and are what it has there
-module _ {E : Type 0} {h : Ghosts E} (left : Image) (again : SqliteOf (FileStore E h)) (taken : IsTakenUp left again) (layout : Layout)
+module _ {E : Type 0} {h : Ghosts E} (left : Image) (again : SqliteOf (FileStore E h)) (taken : IsOpenedAgain left again) (layout : Layout)
     (tables : ListsTables ((file_state taken.was).now.trees catalog_tree) (layout_schema layout)) where
   taken_layout : again.was ≡ layout
   taken_layout = same_layout again.was layout (sym taken.tables ∙ found_schema taken.was taken.opened layout tables)

@@ -16,7 +16,7 @@ use Rattle.rows_saved.specs.Saved.{SameRows}
 use Rattle.rows_saved.specs.declared.identity.Identity.{Identity}
 use Rattle.acceptor_store.specs.Columns.{saved_in, saved_at, AreSound}
 use Rattle.acceptor_store.specs.RowsAsEntries.{HoldsMap}
-use Rattle.acceptor_store.specs.Sqlite.{IsOfStation, HoldsAll, Stands, WentOver}
+use Rattle.acceptor_store.specs.Sqlite.{IsOfStation, HoldsAll, Stands, UpgradedRows}
 use Rattle.acceptor_store.proofs.IdentityLemmas.{lies_in_one, upgraded_station}
 use Rattle.acceptor_store.proofs.StandLemmas.{IsSettled, was_clean, leaves_now, holds_all}
 
@@ -53,7 +53,7 @@ module _ {S : Type 0} (g : Ghosts S) (old new : Held S) (falls : doubt (state g 
   lies = lies_in_one i (state g old).now.trees held.holds.station
 
   -- after its Ok
-  pub went_over : HoldsMap (saved_in One (state g old).now.trees) rows → WasUpgraded (state g old).now.trees rows (state g new) → WentOver g One i old new
+  pub went_over : HoldsMap (saved_in One (state g old).now.trees) rows → WasUpgraded (state g old).now.trees rows (state g new) → UpgradedRows g One i old new
   went_over map up =
       let entries = up.holds.entries in
       let serves : Serves (Two Upgraded) (state g new) = λ _. (up.alone, λ _. record { schema = up.schema; rows = subst AreRows (sym entries) map.rows; settled = up.settled }) in
@@ -81,7 +81,7 @@ err_after (Ok a) P Q f p = tt
 err_after (Err e) P Q f p = f p
 
 module _ {S : Type 0} (g : Ghosts S) (i : Identity) (old mid new : Held S) where
-  pub over_since : WasKept (state g old) (state g mid) → WentOver g One i mid new → WentOver g One i old new
+  pub over_since : WasKept (state g old) (state g mid) → UpgradedRows g One i mid new → UpgradedRows g One i old new
   over_since kept over = record {
     was_open = kept.was_open;
     is_open = over.is_open;

@@ -27,14 +27,14 @@ use Rattle.acceptor_store.specs.Sqlite.{SqliteOf, Agrees, HoldsNoRow, IsAtRest, 
 use Rattle.acceptor_store.specs.Opening.{IsReasonToRefuse, LeavesNothingNew, StaysUnwritten}
 
 -- what the store owes: where the database that the files held has the tables of a layout, and no others, they are its own, in that layout
-pub record TakesItsOwn {D : Type 0} {g : Ghosts D} (start : Image) (s : SqliteOf (FileStore D g)) : Type 0 where
+pub record OpensItsOwn {D : Type 0} {g : Ghosts D} (start : Image) (s : SqliteOf (FileStore D g)) : Type 0 where
   pub was : Held (FileStore D g)
   pub opened : HasCleanDisk (file_state s.conn) → IsOpened was
   pub found : HasCleanDisk (file_state s.conn) → FindsIn start (file_state was)
   pub ours : IsOursAsFound (file_state was) s
 
 -- the rows and the station are those of the database that the files held, in its layout; nothing is written, and a crash leaves what it might have left before
-pub record IsTakenUp {D : Type 0} {g : Ghosts D} (start : Image) (s : SqliteOf (FileStore D g)) : Type 0 where
+pub record IsOpenedAgain {D : Type 0} {g : Ghosts D} (start : Image) (s : SqliteOf (FileStore D g)) : Type 0 where
   pub was : Held (FileStore D g)
   pub opened : IsOpened was
   pub found : FindsIn start (file_state was)
@@ -69,8 +69,8 @@ pub record AreTakenUp {D : Type 0} {g : Ghosts D} (start : Image) (given : Optio
   pub is_open : HasCleanDisk (file_state s.conn) → IsOurs s.alone s.was s.found → IsTrue (file_state s.conn).is_open
   pub rests : HasCleanDisk (file_state s.conn) → IsOurs s.alone s.was s.found → IsAtRest over_files s
   -- what the store owes, told of the files; with what the host owes the rows are those that the files held
-  pub made : TakesItsOwn start s
-  pub rows : HasCleanDisk (file_state s.conn) → IsOurs s.alone s.was s.found → IsTakenUp start s
+  pub made : OpensItsOwn start s
+  pub rows : HasCleanDisk (file_state s.conn) → IsOurs s.alone s.was s.found → IsOpenedAgain start s
   pub agrees : Agrees given s.identity
   pub fresh : s.layout ≡ s.was
   pub unstopped : s.stopped ≡ false

@@ -94,7 +94,7 @@ abbrev pub TellsLayout : {A E : Type 0} → Result (Layout × A) E → State →
 TellsLayout result old = (layout : Layout) → old.now.schema ≡ layout_schema layout → IfOk result (λ s. s.0 ≡ layout)
 
 -- the tests of a database before its rows are taken up for the station that is given, if any: an Ok has its layout and its station
-pub record TakesUp (given : Option Identity) (result : Result (Layout × Identity) RowsFault) (old new : State) : Type 0 where
+pub record TestsDatabase (given : Option Identity) (result : Result (Layout × Identity) RowsFault) (old new : State) : Type 0 where
   pub laid : TellsLayout result old
   pub holds : FindsItsRows result old new
   pub serves : ServesOnceOpened result old new
@@ -109,8 +109,8 @@ pub record TakesUp (given : Option Identity) (result : Result (Layout × Identit
 -- ---- a database that has the tables of this layout, and no others
 
 -- an Ok gives the station that is stored, in this layout
-abbrev pub TakesStoredStation : {E : Type 0} → Layout → Result Identity E → State → State → Type 0
-TakesStoredStation layout result old new =
+abbrev pub ReadsStoredStation : {E : Type 0} → Layout → Result Identity E → State → State → Type 0
+ReadsStoredStation layout result old new =
     HasCleanDisk new → old.now.schema ≡ layout_schema layout → IfOk result (λ i. IsStationOf layout i old.now.trees)
 
 -- the fault of a refusal is a reason not to take it up for the station that is given, if any
@@ -135,8 +135,8 @@ RefusesRowsForReason layout result old new =
     HasCleanDisk new → old.now.schema ≡ layout_schema layout → IfErr result (RefusesRows layout old.now.trees)
 
 -- a reading of the station that the rows belong to, which is to be the one that is given, if any
-pub record TakesStation (layout : Layout) (given : Option Identity) (result : Result Identity RowsFault) (old new : State) : Type 0 where
-  pub stored : TakesStoredStation layout result old new
+pub record ReadsStation (layout : Layout) (given : Option Identity) (result : Result Identity RowsFault) (old new : State) : Type 0 where
+  pub stored : ReadsStoredStation layout result old new
   pub agrees : IfOk result (Agrees given)
   pub refuses : RefusesStationForReason layout given result old new
   pub tables : KeepsTables layout result old new

@@ -21,7 +21,7 @@ use Rattle.rows_saved.specs.Identity.{IsIdentity}
 use Rattle.rows_saved.specs.declared.identity.Identity.{Identity}
 use Rattle.acceptor_store.specs.StationRow.{stored_station}
 use Rattle.acceptor_store.specs.Sqlite.{SqliteOf, IsOurs, rows_version, saved_of, MayLeave, LeavesStation, LeavesAll}
-use Rattle.acceptor_store.specs.Files.{TakesItsOwn, IsTakenUp}
+use Rattle.acceptor_store.specs.Files.{OpensItsOwn, IsOpenedAgain}
 
 -- the files of a connection that was given up: where the disk has returned what was written,
 -- whatever a crash leaves of them holds a database that a crash could leave of the connection
@@ -33,8 +33,8 @@ GivesUp g conn files =
 -- rows that `open_from` took up from files which held this, on a disk that has returned what was written
 pub record AreOpenedFrom {D : Type 0} {g : Ghosts D} (left : Image) (s : SqliteOf (FileStore D g)) : Type 0 where
   pub honest : HasCleanDisk (file_state s.conn)
-  pub made : TakesItsOwn left s
-  pub rows : IsOurs s.alone s.was s.found → IsTakenUp left s
+  pub made : OpensItsOwn left s
+  pub rows : IsOurs s.alone s.was s.found → IsOpenedAgain left s
 
 -- A crash of the files that were given up, and an open of what it left that is not refused: the tables are the store's own,
 -- in the layout of the rows, the station is the one that was there, and the rows are those that a crash could leave
@@ -103,5 +103,5 @@ CreateOutlivesCrash D g E h =
     (old new : Held (FileStore D g)) (layout : Layout) (i : Identity) (files : Files D) (left : Image) (again : SqliteOf (FileStore E h))
     → IsIdentity i → i.circuit < 2 ^ 16 → ((db : Trees) → (file_state old).may_leave db → stored_station db ≡ None)
     → ((db : Trees) → (file_state new).may_leave db → (file_state old).may_leave db ⊎ HoldsNone layout i.circuit i.member i.members db)
-    → GivesUp g new files → AreClean g files.log files.db → outcomes g files.log files.db left → IsTakenUp left again
+    → GivesUp g new files → AreClean g files.log files.db → outcomes g files.log files.db left → IsOpenedAgain left again
     → (again.identity ≡ i) × ((n : ℕ) → saved_of over_files again n ≡ blank)

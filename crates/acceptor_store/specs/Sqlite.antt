@@ -1,5 +1,5 @@
 -- Saved rows in a database.
-use Rattle.std.specs.Prelude.{◌≡◌, ◌≢◌, ◌⊎◌, ℕ, ℤ, Bool, true, false, IsTrue, List, Option, Some, None, IfSome, refl}
+use Rattle.std.specs.Prelude.{◌≡◌, ◌≢◌, ◌⊎◌, ℕ, ℤ, Bool, false, IsTrue, List, Option, Some, None, IfSome, refl}
 use Rattle.std.specs.Coded.{Coded, code_by, coded×, coded_ℕ, coded_bool, coded_option}
 use Rattle.sqlite_schema.specs.declared.schema.Schema.{Schema}
 use Rattle.sqlite_schema.specs.contracts.schema.Schema as schema
@@ -212,7 +212,7 @@ module _ {S : Type 0} (g : Ghosts S) where
 
   -- the connection went over from a layout, or was there already: it was open and is, it stands on the tables that an upgrade leaves, with the same map,
   -- and a crash leaves what it has now
-  pub record WentOver (before : Layout) (i : Identity) (old new : Held S) : Type 0 where
+  pub record UpgradedRows (before : Layout) (i : Identity) (old new : Held S) : Type 0 where
     pub was_open : IsTrue (state g old).is_open
     pub is_open : IsTrue (state g new).is_open
     pub stands : Stands (upgraded_from before) new i

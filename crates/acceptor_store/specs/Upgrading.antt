@@ -15,19 +15,19 @@ use Rattle.rows_saved.specs.declared.identity.Identity.{Identity}
 use Rattle.rows_saved.specs.declared.fault.RowsFault.{RowsFault}
 use Rattle.acceptor_store.specs.Columns.{saved_in}
 use Rattle.acceptor_store.specs.RowsAsEntries.{HoldsMap}
-use Rattle.acceptor_store.specs.Sqlite.{HoldsAll, IsRefusal, Stands, WentOver}
+use Rattle.acceptor_store.specs.Sqlite.{HoldsAll, IsRefusal, Stands, UpgradedRows}
 
 module _ {S : Type 0} (g : Ghosts S) where
   -- an Ok has gone over from this layout to the tables that an upgrade leaves, or found them
-  abbrev pub GoesOver : {A E : Type 0} → Layout → Result A E → Held S → Held S → Type 0
-  GoesOver layout result old new =
-      (i : Identity) → Stands g layout old i → HasCleanDisk (state g new) → OnOk result (WentOver g layout i old new)
+  abbrev pub UpgradesRows : {A E : Type 0} → Layout → Result A E → Held S → Held S → Type 0
+  UpgradesRows layout result old new =
+      (i : Identity) → Stands g layout old i → HasCleanDisk (state g new) → OnOk result (UpgradedRows g layout i old new)
 
   -- of a layout that is over already, an Ok has left it so
-  abbrev pub StaysOver : {A E : Type 0} → Layout → Result A E → Held S → Held S → Type 0
-  StaysOver layout result old new =
+  abbrev pub StaysUpgraded : {A E : Type 0} → Layout → Result A E → Held S → Held S → Type 0
+  StaysUpgraded layout result old new =
       (origin : LayoutOrigin) (i : Identity) → layout ≡ Two origin → Stands g (Two origin) old i → HasCleanDisk (state g new)
-      → OnOk result (WentOver g (Two origin) i old new)
+      → OnOk result (UpgradedRows g (Two origin) i old new)
 
   -- a refusal keeps all while the connection is open
   abbrev pub KeepsAllWhereRefused : {A E : Type 0} → Layout → Result A E → Held S → Held S → Type 0
@@ -47,7 +47,7 @@ module _ {S : Type 0} (g : Ghosts S) where
 
   -- an upgrade from this layout
   pub record Upgrades {A : Type 0} (layout : Layout) (result : Result A RowsFault) (old new : Held S) : Type 0 where
-    pub over : GoesOver layout result old new
+    pub over : UpgradesRows layout result old new
     pub kept : KeepsAllWhereRefused layout result old new
     pub crash : CrashesWithSameMap layout old new
     -- no fault of the disk is forgotten
@@ -56,7 +56,7 @@ module _ {S : Type 0} (g : Ghosts S) where
 
   -- a test of a layout that is over already
   pub record TestsUpgraded {A : Type 0} (layout : Layout) (result : Result A RowsFault) (old new : Held S) : Type 0 where
-    pub over : StaysOver layout result old new
+    pub over : StaysUpgraded layout result old new
     pub kept : KeepsAllWhereRefused layout result old new
     pub crash : CrashesWithSameMap layout old new
     -- no fault of the disk is forgotten
@@ -64,10 +64,10 @@ module _ {S : Type 0} (g : Ghosts S) where
     pub refusal : IfErr result IsRefusal
 
   -- where a table of entries holds the map of layout 1, an Ok has gone over
-  abbrev pub GoesOverWith : {A E : Type 0} → List Columns → Result A E → Held S → Held S → Type 0
-  GoesOverWith entries result old new =
+  abbrev pub UpgradesRowsWith : {A E : Type 0} → List Columns → Result A E → Held S → Held S → Type 0
+  UpgradesRowsWith entries result old new =
       (i : Identity) → Stands g One old i → HoldsMap (saved_in One (state g old).now.trees) entries
-      → IsTrue (state g old).is_open → HasCleanDisk (state g new) → OnOk result (WentOver g One i old new)
+      → IsTrue (state g old).is_open → HasCleanDisk (state g new) → OnOk result (UpgradedRows g One i old new)
 
   -- and a crash leaves a database of the station with the same map, in layout 1 or upgraded from it
   abbrev pub CrashesWithMapOf : List Columns → Held S → Held S → Type 0
@@ -78,7 +78,7 @@ module _ {S : Type 0} (g : Ghosts S) where
 
   -- an upgrade from layout 1 with these entries
   pub record MovesEntries {A : Type 0} (entries : List Columns) (result : Result A RowsFault) (old new : Held S) : Type 0 where
-    pub over : GoesOverWith entries result old new
+    pub over : UpgradesRowsWith entries result old new
     pub kept : KeepsAllWhereRefused One result old new
     pub crash : CrashesWithMapOf entries old new
     -- no fault of the disk is forgotten

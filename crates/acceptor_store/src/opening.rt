@@ -3,7 +3,7 @@
 ghost use Rattle.std.specs.Prelude.{◌≤◌};
 ghost use Rattle.sqlite_trees.specs.View.{doubt};
 ghost use Rattle.sqlite.specs.Held.{state};
-ghost use Rattle.acceptor_store.specs.Opening.{ReadsIdentity, TakesStation, TakesUp, TestsRows};
+ghost use Rattle.acceptor_store.specs.Opening.{ReadsIdentity, ReadsStation, TestsDatabase, TestsRows};
 
 use crate::layout::layout_in;
 use crate::row_test::RowTest;
@@ -34,7 +34,7 @@ fn test_station<S: Alter>(
     layout: Layout,
     given: Option<Identity>,
 ) -> Result<Identity, RowsFault>
-    ensures { TakesStation layout given result (state S.Store conn.old) (state S.Store conn.new) }
+    ensures { ReadsStation layout given result (state S.Store conn.old) (state S.Store conn.new) }
 {
     let stored = read_station(conn)?;
     wanted_station(stored, layout, given)
@@ -74,7 +74,7 @@ pub(crate) fn test_database<S: Alter>(
     conn: &mut Connection<S>,
     given: Option<Identity>,
 ) -> Result<(Layout, Identity), RowsFault>
-    ensures { TakesUp given result (state S.Store conn.old) (state S.Store conn.new) }
+    ensures { TestsDatabase given result (state S.Store conn.old) (state S.Store conn.new) }
 {
     let Some(layout) = layout_in(conn.schema()) else {
         return Err(refuse_without_rows(conn, given));

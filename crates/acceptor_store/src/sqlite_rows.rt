@@ -21,7 +21,7 @@ use crate::make_tables::make_tables;
 use crate::opening::test_database;
 use crate::reading::{RowVisitor, show_all};
 use crate::statements::{Numbered, fault_of, list, read, save};
-use crate::upgrade::go_over;
+use crate::upgrade::upgrade_rows;
 use ballots::{Number, Row};
 use rows_saved::{Identity, Rows, RowsFault, SavesAll, Settles};
 use rows_table::Layout;
@@ -375,7 +375,7 @@ impl<S: Alter + Drop> Rows for SqliteRows<S> {
             self.refusals = self.refusals.saturating_add(1);
             return Err(RowsFault::Store);
         }
-        match go_over(self.alloc, &mut self.conn, self.layout) {
+        match upgrade_rows(self.alloc, &mut self.conn, self.layout) {
             Ok(()) => {
                 self.layout = upgraded_from(self.layout);
                 Ok(())

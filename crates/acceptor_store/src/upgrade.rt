@@ -50,7 +50,7 @@ fn test_open<S: Alter>(conn: &mut Connection<S>, layout: Layout) -> Result<(), R
 }
 
 /// Goes over to layout 2 with the rows of layout 1; from layout 2 nothing is changed.
-pub(crate) fn go_over<S: Alter>(
+pub(crate) fn upgrade_rows<S: Alter>(
     alloc: Global,
     conn: &mut Connection<S>,
     layout: Layout,

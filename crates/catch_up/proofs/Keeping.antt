@@ -1,6 +1,5 @@
 -- What stays of what is known of votes.
 use Rattle.std.proofs.Common.{◌≡◌, ℕ, Option, Some, None, refl, sym, ap, ◌∙◌}
-use Rattle.std.proofs.lemmas.Option.{none-some}
 use Rattle.catch_up.specs.Asked as votes
 use Rattle.rolls.specs.Rolls.{Body, CountsAsked, Counts, PageAsked, Page}
 use Rattle.roll_call.specs.Answers.{turn_of}
@@ -14,17 +13,6 @@ after_own member asked CountsAsked c = refl
 after_own member asked (Counts counts) c = refl
 after_own member asked (PageAsked page) c = refl
 after_own member asked (Page page bytes) c = refl
-
-pub same_votes : (r : Option RollCallValue) → SameVotes r r
-same_votes None = refl
-same_votes (Some c) = refl
-
-pub votes_both : (r s t : Option RollCallValue) → SameVotes r s → SameVotes s t → SameVotes r t
-votes_both None None t first second = second
-votes_both None (Some d) t first second = absurd (none-some d (sym first))
-votes_both (Some c) None t first second = absurd first
-votes_both (Some c) (Some d) None first second = absurd second
-votes_both (Some c) (Some d) (Some e) first second = second ∙ ap (λ (x : RollCallValue). record x { asks = e.asks }) first
 
 same_reply : (now : ℕ) (r s : Option RollCallValue) → SameVotes r s → NoReply now s → NoReply now r
 same_reply now None s same none = tt

@@ -3,4 +3,3 @@ pub mod Turns
 pub mod Next
 pub mod Keeping
 pub mod Starting
-pub mod Paging

@@ -84,7 +84,7 @@ fn rows_of<H: Host, F: RowFiles>(
     making: Option<Version>,
 ) -> Result<F::Rows, RefusedRows>
     requires { IsIdentity identity }
-    ensures rows { IfOk result (AreRowsAt F.leaves F.takes_up F.Rows.version ground.now.row_files.now path.now making identity) }
+    ensures rows { IfOk result (AreRowsAt F.leaves F.opens F.Rows.version ground.now.row_files.now path.now making identity) }
     ensures open { IfOk result (λ rows. F.Rows.kept rows → F.Rows.is_open rows) }
 {
     match making {
@@ -209,7 +209,7 @@ pub fn start<'a, H: Host, F: RowFiles>(
     ensures same { IfOk result (λ s. s.table ≡ s.station.table) }
     ensures widths { IfOk result (λ s. AreWidthsAt (H.text ground.now.host.now) (string_bytes launch.entry.config.now.widths) s.station.widths) }
     ensures offer { IfOk result (λ s. IsOffer (H.text ground.now.host.now) (option_map (λ o. (o.number, o.path.now)) launch.entry.offer) s.offer) }
-    ensures rows { IfOk result (λ s. AreRowsFor F.leaves F.takes_up F.Rows.version ground.now.row_files.now launch.entry s.station.rows.rows) }
+    ensures rows { IfOk result (λ s. AreRowsFor F.leaves F.opens F.Rows.version ground.now.row_files.now launch.entry s.station.rows.rows) }
     ensures waits { IfOk result (λ s. s.station.rows.waits ≡ []) }
     ensures open { IfOk result (λ s. F.Rows.kept s.station.rows.rows → F.Rows.is_open s.station.rows.rows) }
     ensures version { IfOk result (λ s. s.station.speaker.wire ≡ F.Rows.version s.station.rows.rows) }

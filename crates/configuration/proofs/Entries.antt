@@ -35,9 +35,6 @@ pub record ReadSoFar (found : Found) (entries : List Value) (addresses : List Ad
   pub bound : index ≤ length entries
   pub read : first_addresses (length entries) found (items_view entries) index ≡ Ok addresses
 
-pub starts : (found : Found) (entries : List Value) → ReadSoFar found entries [] 0
-starts found entries = record { bound = omega arith; read = refl }
-
 -- what is read next
 module _ (found : Found) (entries : List Value) (addresses : List Address) (index : ℕ) (so_far : ReadSoFar found entries addresses index) (d : Value) (within : index < length entries) where
   next : first_addresses (length entries) found (items_view entries) (index + 1) ≡ (read_entry (length entries) addresses (index + 1) (found_at found index) (view (get_or entries index d)) >>= (λ address. Ok (addresses ++ address ∷ [])))

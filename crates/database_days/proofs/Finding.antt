@@ -1,5 +1,5 @@
 -- What the next start finds is what a day has it find.
-use Rattle.std.proofs.Common.{◌≡◌, ◌==◌, if◌then◌else◌, ℕ, Bool, false, inl, inr, refl, sym, ap, subst, ◌∙◌}
+use Rattle.std.proofs.Common.{◌≡◌, ◌==◌, if◌then◌else◌, ℕ, Bool, false, inl, inr, sym, ap, subst, ◌∙◌}
 use Rattle.std.proofs.Math.Logic.{∥∥₁_elim, ∥∥₁_map}
 use Rattle.std.proofs.lemmas.Bool.{cases_Bool}
 use Rattle.std.proofs.lemmas.Bool.Decides.{Decides-eqb}
@@ -28,9 +28,6 @@ use Rattle.database_days.proofs.Deciding.{rows}
 
 pub is_set : (a b : Row) (x y : a ≡ b) → x ≡ y
 is_set = Coded-set row_code.the_row.coded
-
-put_there : (saved : Saved) (number : ℕ) (row : Row) → with_row saved number row number ≡ row
-put_there saved number row = ap (λ (b : Bool). if b then row else saved number) ((Decides-eqb number number).1 refl)
 
 pub put_elsewhere : (saved : Saved) (number n : ℕ) (row : Row) → (n == number) ≡ false → with_row saved number row n ≡ saved n
 put_elsewhere saved number n row apart = ap (λ (b : Bool). if b then row else saved n) apart

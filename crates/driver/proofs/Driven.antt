@@ -1,11 +1,10 @@
 -- Stretches of what was driven, one after the other.
-use Rattle.std.proofs.Common.{◌≡◌, ℕ, List, [], ◌∷◌, ◌++◌, Bool, ◌||◌, false, Option, Some, None, Result, Ok, Err, OnOk, inl, inr, refl, sym, ap, ◌∙◌, subst, append-nil, append_assoc}
+use Rattle.std.proofs.Common.{◌≡◌, ℕ, List, [], ◌∷◌, ◌++◌, Bool, ◌||◌, false, Option, Some, None, Result, Ok, Err, OnOk, inl, inr, refl, sym, ap, ◌∙◌, subst, append-nil}
 use Rattle.std.specs.Prelude.{OnErr, IfErr}
 use Rattle.protocol.specs.Refusals.{Call as StationCall}
 use Rattle.station.specs.declared.answer.Answer.{Answer}
 use Rattle.refusals.specs.declared.refusal.StepRefusal.{StepRefusal}
 use Rattle.refusals.specs.declared.refusal.StepRefusal.TheVariants as steps
-use Rattle.rows_saved.specs.declared.rows.Rows.{Ghosts}
 use Rattle.station.specs.declared.station.Station.{Station}
 use Rattle.station.specs.Settling.{Settling}
 use Rattle.station.specs.Steps.{IsStep, tears, stopped_after}
@@ -16,16 +15,16 @@ use Rattle.command_ends.specs.Ends.{end_of, end_of_step, IsOfWriting}
 use Rattle.command_ends.specs.declared.end.End.{End}
 use Rattle.command_ends.specs.declared.end.End.TheVariants as ends
 use Rattle.command_ends.specs.declared.fault.Fault.{Fault}
-use Rattle.driver.specs.Events.{Event, Aside, asked, took, stored, aside, heard, hailed, rolled, coming, sending, going, coming_by, going_by, passing_behind, waiting_behind, Takes, HasCause, ended}
+use Rattle.driver.specs.Events.{Event, Aside, asked, took, stored, aside, heard, hailed, rolled, coming, sending, coming_by, going_by, passing_behind, waiting_behind, Takes, HasCause, ended}
 use Rattle.wire.proofs.Passing.{Passes-nil, Passes-then}
 use Rattle.driver.proofs.Stretches.{settling_kept, takes_kept, takes_then, passing_then, waiting_then, ends_badly, cause_then, refused_cause, unstored_cause}
 use Rattle.driver.specs.declared.calls.Call.{Call}
 use Rattle.driver.specs.declared.calls.Call.TheVariants.{Offer, Withdraw, Seek}
 use Rattle.driver.specs.Calls.{call_of, IsAsked}
-use Rattle.driver.specs.Fates.{ByAnswer, ByStored, Fates}
+use Rattle.driver.specs.Fates.{ByStored, Fates}
 use Rattle.driver.specs.TakingIn.{Rests}
 use Rattle.driver.specs.Todos.{IsGoodSending, IsHailing}
-use Rattle.driver.specs.Driving.{Post, post, post_with, Fate, Known, known, Driven, Drove, Anyhow, AtClock, Then, Held, TakesUp, SameHands, HasEnded, IsUnstored, WasSent, HandsOn, Holds, IsReceiving, IsTakingIn, IsFallingDue, IsSeeingToDue, IsTakingUp, IsDueUp, IsStoring, no_step}
+use Rattle.driver.specs.Driving.{Post, post, post_with, Fate, Known, known, Drove, Anyhow, AtClock, Then, Held, ReceivesNext, SameHands, HasEnded, IsUnstored, WasSent, HandsOn, Holds, IsReceiving, IsTakingIn, IsFallingDue, IsSeeingToDue, IsTakingUp, IsDueUp, IsStoring, no_step}
 use Rattle.driver.specs.declared.driver.Driver.{Driver}
 use Rattle.driver.specs.declared.group.Group.{Group}
 use Rattle.driver.specs.declared.sink.TakenStep.{TakenStep}
@@ -305,18 +304,18 @@ module _ {R N S : Type 0} (k : Known R N S) (may : S → StationCall → Type 0)
 
   -- a step was taken, or none was, as it is answered
   pub took_one : (Kind : StationCall → Type 0) (F : List Event → Type 0) (old new : Post R N S) (r : Result (Option TakenStep) Fault) (step : TakenStep) → r ≡ Ok (Some step)
-      → TakesUp k may Kind F old new r → Held k may Kind old new step.answer
-  took_one Kind F old new r step is a = subst (λ (x : Result (Option TakenStep) Fault). TakesUp k may Kind F old new x) is a
+      → ReceivesNext k may Kind F old new r → Held k may Kind old new step.answer
+  took_one Kind F old new r step is a = subst (λ (x : Result (Option TakenStep) Fault). ReceivesNext k may Kind F old new x) is a
 
   pub took_no_more : (Kind : StationCall → Type 0) (F : List Event → Type 0) (old new : Post R N S) (r : Result (Option TakenStep) Fault) → r ≡ Ok None
-      → TakesUp k may Kind F old new r → Drove k old new ends.Done F
-  took_no_more Kind F old new r is a = subst (λ (x : Result (Option TakenStep) Fault). TakesUp k may Kind F old new x) is a
+      → ReceivesNext k may Kind F old new r → Drove k old new ends.Done F
+  took_no_more Kind F old new r is a = subst (λ (x : Result (Option TakenStep) Fault). ReceivesNext k may Kind F old new x) is a
 
   -- no step was taken, as it is answered
   pub took_none : (Kind : StationCall → Type 0) (F : List Event → Type 0) (old new : Post R N S) (r : Result (Unit {0}) Fault) (o : Result (Option TakenStep) Fault) → o ≡ no_step r
-      → Drove k old new (ended r) F → TakesUp k may Kind F old new o
-  took_none Kind F old new (Ok done) o is a = subst (λ (x : Result (Option TakenStep) Fault). TakesUp k may Kind F old new x) (sym is) a
-  took_none Kind F old new (Err f) o is a = subst (λ (x : Result (Option TakenStep) Fault). TakesUp k may Kind F old new x) (sym is) a
+      → Drove k old new (ended r) F → ReceivesNext k may Kind F old new o
+  took_none Kind F old new (Ok done) o is a = subst (λ (x : Result (Option TakenStep) Fault). ReceivesNext k may Kind F old new x) (sym is) a
+  took_none Kind F old new (Err f) o is a = subst (λ (x : Result (Option TakenStep) Fault). ReceivesNext k may Kind F old new x) (sym is) a
 
   -- a step that was taken, of which nothing was handed on yet
   pub held : (call : StationCall) (Kind : StationCall → Type 0) (a : Answer) (s t : Station R) (w v : N) (o u : S) (q : List Passed) → Kind call

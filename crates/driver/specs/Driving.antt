@@ -101,12 +101,12 @@ pub record Held {R N S : Type 0} (k : Known R N S) (may : S → Call → Type 0)
   pub stays : new.station.stopped ≡ old.station.stopped
 
 -- a step of a call of this kind was taken; or none was, and events of this form happened; or it came to an end
-abbrev pub TakesUp :
+abbrev pub ReceivesNext :
     {R N S : Type 0} → Known R N S → (S → Call → Type 0) → (Call → Type 0) → (List Event → Type 0) → Post R N S → Post R N S
     → Result (Option TakenStep) Fault → Type 0
-TakesUp k may Kind Form old new (Ok (Some step)) = Held k may Kind old new step.answer
-TakesUp k may Kind Form old new (Ok None) = Drove k old new ends.Done Form
-TakesUp k may Kind Form old new (Err fault) = Drove k old new (end_of fault) Form
+ReceivesNext k may Kind Form old new (Ok (Some step)) = Held k may Kind old new step.answer
+ReceivesNext k may Kind Form old new (Ok None) = Drove k old new ends.Done Form
+ReceivesNext k may Kind Form old new (Err fault) = Drove k old new (end_of fault) Form
 
 -- the station is called with what came, at this moment
 abbrev pub IsReceiving : ℕ → Call → Type 0
@@ -246,7 +246,7 @@ no_step (Ok done) = Ok None
 no_step (Err fault) = Err fault
 
 -- a step was taken up to this result, or none was, whatever waited to be sent
-pub record TookUp {R N S : Type 0} (Kind : Call → Type 0) (Form : List Event → Type 0) (result : Result (Option TakenStep) Fault) (rows : Ghosts R)
+pub record ReceivedNext {R N S : Type 0} (Kind : Call → Type 0) (Form : List Event → Type 0) (result : Result (Option TakenStep) Fault) (rows : Ghosts R)
     (is_settled : R → Type 0) (passed : N → Trace) (sink : SinkGhosts S) (old new : Driver R N S) : Type 0 where
   pub hands : SameHands old new
-  pub up : (waits : List Passed) → TakesUp (known rows is_settled passed (fate_of sink)) sink.may Kind Form (post_behind old waits) (post_behind new waits) result
+  pub up : (waits : List Passed) → ReceivesNext (known rows is_settled passed (fate_of sink)) sink.may Kind Form (post_behind old waits) (post_behind new waits) result

@@ -3,7 +3,7 @@
 ghost use Rattle.std.specs.Prelude.{◌≡◌, OnOk, IfErr, false};
 ghost use Rattle.station.specs.Steps.{tears};
 ghost use Rattle.command_ends.specs.Ends.{end_of, end_of_step};
-ghost use Rattle.driver.specs.Driving.{TookUp, post, post_of, no_step, IsReceiving, IsFallingDue, IsTakingIn, IsSeeingToDue};
+ghost use Rattle.driver.specs.Driving.{ReceivedNext, post, post_of, no_step, IsReceiving, IsFallingDue, IsTakingIn, IsSeeingToDue};
 ghost use Rattle.driver.specs.TakingIn.{Hears};
 
 use crate::log::Log;
@@ -82,12 +82,12 @@ impl<'a, R: Settles, N: Wire, S: Sink> Driver<'a, R, N, S> {
 
     /// Takes up what comes at a moment in milliseconds, one datagram at most: the step that the station took, if it took one. A datagram that it
     /// refuses is passed over; where that is for its layout, it is told.
-    pub(crate) fn take_up<E: Write>(
+    pub(crate) fn receive_next<E: Write>(
         &mut self,
         now: u64,
         log: &mut Log<'_, E>,
     ) -> Result<Option<TakenStep>, Fault<'static>>
-        ensures took { TookUp (IsReceiving now) (IsTakingIn now) result R.Rows R.Settles.is_settled N.passed S.Sink self.old self.new }
+        ensures took { ReceivedNext (IsReceiving now) (IsTakingIn now) result R.Rows R.Settles.is_settled N.passed S.Sink self.old self.new }
         ensures hears { Hears R.Rows N.passed now self.old self.new }
     {
         match take_datagram(self.station, self.wire, now) {
@@ -121,7 +121,7 @@ impl<'a, R: Settles, N: Wire, S: Sink> Driver<'a, R, N, S> {
 
     /// Sees to what is due at a moment in milliseconds, one number at most: the step that the station took, if it took one.
     pub(crate) fn fall_due(&mut self, now: u64) -> Result<Option<TakenStep>, Fault<'static>>
-        ensures took { TookUp (IsFallingDue now) (IsSeeingToDue now) result R.Rows R.Settles.is_settled N.passed S.Sink self.old self.new }
+        ensures took { ReceivedNext (IsFallingDue now) (IsSeeingToDue now) result R.Rows R.Settles.is_settled N.passed S.Sink self.old self.new }
         ensures goes_on { OnOk result (self.new.station.now.stopped ≡ false) }
     {
         match self.station.due(now) {

@@ -25,7 +25,7 @@ impl<'a, R: Settles, N: Wire, S: Desk> Driver<'a, R, N, S> {
     ) -> Result<(), Fault<'static>>
         ensures { DroveBehind (IsTakingUp now) result R.Rows R.Settles.is_settled N.passed S.Sink self.old self.new group.old group.new }
     {
-        match self.take_up(now, log) {
+        match self.receive_next(now, log) {
             Ok(Some(step)) => group.hold(step, &mut self.sink, log),
             Ok(None) => Ok(()),
             Err(fault) => Err(fault),

@@ -41,7 +41,7 @@ impl<'a, R: Settles, N: Wire, S: Outlet> Driver<'a, R, N, S> {
     ) -> Result<(), Fault<'static>>
         ensures { DroveUpTo (IsTakingIn now) result R.Rows R.Settles.is_settled N.passed S.Sink self.old self.new }
     {
-        match self.take_up(now, log) {
+        match self.receive_next(now, log) {
             Ok(Some(step)) => self.hand_on(&step, log),
             Ok(None) => Ok(()),
             Err(fault) => Err(fault),

@@ -8,8 +8,9 @@ ghost use Rattle.healing.specs.Queue.{stands_in};
 use crate::case::{LackStage, LackedNumber};
 use crate::due::Queue;
 use crate::ripe::case_of;
-use crate::wanted::{Batch, MOST_RECALLED};
+use crate::wanted::Batch;
 use arrayvec::ArrayVec;
+use recalls::MOST_RECALLED;
 use std::alloc::AllocError;
 use std::collections::BTreeMap;
 

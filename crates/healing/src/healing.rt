@@ -14,11 +14,12 @@ use crate::due::Queue;
 use crate::lists::{still_recalled, still_sought};
 use crate::news::NumberNews;
 use crate::repeats::{may_ask, repeated};
-use crate::ripe::{case_of, first_ripe, put_case, put_stage, take_out};
-use crate::wanted::{Batch, MOST_RECALLED, Want};
+use crate::ripe::{case_of, first_ripe, put_case, put_stage, remove_case};
+use crate::wanted::{Batch, Want};
 use arrayvec::ArrayVec;
 use ballots::{Member, Number};
 use gone_out::Numbers;
+use recalls::MOST_RECALLED;
 use std::alloc::{AllocError, Global};
 use std::collections::BTreeMap;
 use std::marker::Model;
@@ -137,7 +138,7 @@ impl Healing {
         ensures { IsOut self.old self.new number }
     {
         self.gone.insert(number);
-        take_out(&mut self.cases, number.get());
+        remove_case(&mut self.cases, number.get());
         self.queue.leave(number.get());
     }
 

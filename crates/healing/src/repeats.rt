@@ -12,8 +12,9 @@ use crate::batch::Few;
 use crate::case::{LackedNumber, is_awaited};
 use crate::lists::still_recalled;
 use crate::ripe::case_of;
-use crate::wanted::{Batch, MOST_RECALLED};
+use crate::wanted::Batch;
 use arrayvec::ArrayVec;
+use recalls::MOST_RECALLED;
 use std::collections::BTreeMap;
 
 /// The least from one time to the next at which numbers are asked for once more, in milliseconds.

@@ -38,7 +38,7 @@ pub(crate) fn put_case(
 }
 
 /// Takes out the case of a number, if it has one.
-pub(crate) fn take_out(cases: &mut BTreeMap<u32, LackedNumber>, number: u32)
+pub(crate) fn remove_case(cases: &mut BTreeMap<u32, LackedNumber>, number: u32)
     ensures { CaseIsPut cases.old.entries cases.new.entries number None }
 {
     cases.remove(&number);

@@ -5,10 +5,8 @@ ghost use Rattle.healing.specs.Lists.{Rise};
 
 use arrayvec::ArrayVec;
 use ballots::Number;
+use recalls::MOST_RECALLED;
 use std::marker::Model;
-
-/// The most numbers that are recalled at a time, and so the most of a batch.
-pub(crate) const MOST_RECALLED: usize = 64;
 
 /// 1 to 64 numbers that are recalled together, each above the one before it. Clauses see the list.
 #[derive(Drop)]

@@ -23,7 +23,7 @@ fn make_place(rt: &HostRuntime, offers: &str, to: Place) -> Result<String, Folde
 }
 
 /// Takes a file from its name into the passage, and answers its path there.
-fn take_away(maker: &mut Maker<'_>, offers: &str, name: &str) -> Result<String, FolderFault> {
+fn move_away(maker: &mut Maker<'_>, offers: &str, name: &str) -> Result<String, FolderFault> {
     let passage = within(maker.rt.alloc(), offers, PASSAGE)?;
     fs::create_dir_all(maker.rt, passage.as_str())?;
     let own = within(maker.rt.alloc(), &passage, name)?;
@@ -112,7 +112,7 @@ impl Mover for Way<'_, '_> {
     }
 
     fn move_file(&mut self, _alloc: Global, leaving: Leaving<'_>) -> Result<(), FolderFault> {
-        let own = take_away(self.maker, self.offers, leaving.name)?;
+        let own = move_away(self.maker, self.offers, leaving.name)?;
         let put = put_aside(self.maker.rt, &own, self.folder, leaving);
         if put.is_err() {
             put_back(self.maker, self.offers, &own, leaving.name)?;

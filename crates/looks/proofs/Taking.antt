@@ -23,7 +23,7 @@ use Rattle.folders.specs.declared.stamp.Stamp.{Stamp}
 use Rattle.offers.specs.declared.offer.FoundOffer.{FoundOffer}
 use Rattle.offers.specs.Order.{rank, rising_from}
 use Rattle.looks.specs.Names.{name_of, IsStray}
-use Rattle.looks.specs.Gathering.{GatheringValue, ArePlaced, IsGathering, PutsRequest, PutsStray, TakesFile, TakesFiles, TakesOther, TakesOthers, fault_as, other_at, request_at, stamp_as, stray_at, under}
+use Rattle.looks.specs.Gathering.{GatheringValue, ArePlaced, IsGathering, PutsRequest, PutsStray, GathersFile, GathersFiles, GathersOther, GathersOthers, fault_as, other_at, request_at, stamp_as, stray_at, under}
 use Rattle.looks.proofs.Naming.{same_name}
 
 -- two names that are not one
@@ -127,7 +127,7 @@ stray_after (Err x) requests es new k stamp ok err at all = record { placed = al
 -- a file whose name asks for something
 pub takes_request :
     (file : files.Found) (r : FileRequest) (old new : GatheringValue)
-    → string_bytes file.name ≡ name_of r → PutsRequest (record { request = r; stamp = file.stamp }) old new → old.is_broken ≡ false → TakesFile file old new
+    → string_bytes file.name ≡ name_of r → PutsRequest (record { request = r; stamp = file.stamp }) old new → old.is_broken ≡ false → GathersFile file old new
 takes_request file r old new own puts whole = record {
   requests = λ s number.
       puts.requests s
@@ -145,7 +145,7 @@ takes_request file r old new own puts whole = record {
 -- one whose name asks for nothing
 pub takes_stray :
     (file : files.Found) (old new : GatheringValue)
-    → IsStray (string_bytes file.name) → PutsStray (string_bytes file.name) file.stamp old new → old.is_broken ≡ false → TakesFile file old new
+    → IsStray (string_bytes file.name) → PutsStray (string_bytes file.name) file.stamp old new → old.is_broken ≡ false → GathersFile file old new
 takes_stray file old new own puts whole = record {
   requests = λ s number.
       ap (λ es. option_map (λ (f : FoundOffer). f.stamp) (lookup (is_at (nat_cmp (rank s))) es)) puts.requests
@@ -160,9 +160,9 @@ takes_stray file old new own puts whole = record {
 -- one file more
 pub file_more :
     (xs : List files.Found) (f : files.Found) (a b c : GatheringValue)
-    → (b.is_broken ≡ false → TakesFiles xs a b) → TakesFile f b c → TakesFiles (xs ++ f ∷ []) a c
+    → (b.is_broken ≡ false → GathersFiles xs a b) → GathersFile f b c → GathersFiles (xs ++ f ∷ []) a c
 file_more xs f a b c before one =
-    let all : TakesFiles xs a b = before one.broken in
+    let all : GathersFiles xs a b = before one.broken in
     record {
       requests = λ r number.
           one.requests r number ∙ ap (λ o. option_or (stamp_as (name_of r) f) o) (all.requests r number)
@@ -176,9 +176,9 @@ file_more xs f a b c before one =
 
 pub other_more :
     (xs : List PassedOver) (o : PassedOver) (a b c : GatheringValue)
-    → (b.is_broken ≡ false → TakesOthers xs a b) → TakesOther o b c → TakesOthers (xs ++ o ∷ []) a c
+    → (b.is_broken ≡ false → GathersOthers xs a b) → GathersOther o b c → GathersOthers (xs ++ o ∷ []) a c
 other_more xs o a b c before one =
-    let all : TakesOthers xs a b = before one.broken in
+    let all : GathersOthers xs a b = before one.broken in
     record {
       faults = λ name.
           one.others name ∙ ap (λ f. option_or (fault_as name o) f) (all.faults name) ∙ sym (last_more (fault_as name) (other_at a name) xs o);

@@ -88,7 +88,7 @@ pub record PutsStray (own : List ℕ) (stamp : Stamp) (old new : GatheringValue)
   pub skipped : new.skipped ≡ old.skipped
 
 -- a file was taken in: it is what was found of its request, or of its name where that asks for nothing; one that is left alone is nowhere
-pub record TakesFile (file : files.Found) (old new : GatheringValue) : Type 0 where
+pub record GathersFile (file : files.Found) (old new : GatheringValue) : Type 0 where
   pub requests : (r : FileRequest) → IsRequest r → request_at new r ≡ option_or (stamp_as (name_of r) file) (request_at old r)
   pub strays : (name : List ℕ) → IsStray name → stray_at new name ≡ option_or (stamp_as name file) (stray_at old name)
   pub others : new.others ≡ old.others
@@ -96,7 +96,7 @@ pub record TakesFile (file : files.Found) (old new : GatheringValue) : Type 0 wh
   pub broken : old.is_broken ≡ false
 
 -- files were taken in: of each request it is known what was found last under its name, and so of each name that asks for nothing
-pub record TakesFiles (found : List files.Found) (old new : GatheringValue) : Type 0 where
+pub record GathersFiles (found : List files.Found) (old new : GatheringValue) : Type 0 where
   pub requests : (r : FileRequest) → IsRequest r → request_at new r ≡ last_stamp (name_of r) (request_at old r) found
   pub strays : (name : List ℕ) → IsStray name → stray_at new name ≡ last_stamp name (stray_at old name) found
   pub others : new.others ≡ old.others
@@ -104,7 +104,7 @@ pub record TakesFiles (found : List files.Found) (old new : GatheringValue) : Ty
   pub broken : old.is_broken ≡ false
 
 -- something was taken in that is passed over
-pub record TakesOther (other : PassedOver) (old new : GatheringValue) : Type 0 where
+pub record GathersOther (other : PassedOver) (old new : GatheringValue) : Type 0 where
   pub others : (name : List ℕ) → other_at new name ≡ option_or (fault_as name other) (other_at old name)
   pub requests : new.requests ≡ old.requests
   pub strays : new.strays ≡ old.strays
@@ -112,7 +112,7 @@ pub record TakesOther (other : PassedOver) (old new : GatheringValue) : Type 0 w
   pub broken : old.is_broken ≡ false
 
 -- all that is passed over was taken in: of each name it is known why it was passed over last
-pub record TakesOthers (others : List PassedOver) (old new : GatheringValue) : Type 0 where
+pub record GathersOthers (others : List PassedOver) (old new : GatheringValue) : Type 0 where
   pub faults : (name : List ℕ) → other_at new name ≡ last_fault name (other_at old name) others
   pub requests : new.requests ≡ old.requests
   pub strays : new.strays ≡ old.strays

@@ -3,7 +3,7 @@
 ghost use Rattle.std.specs.Prelude.{◌≡◌, false, IfOk, OnOk, string_bytes};
 ghost use Rattle.offers.specs.Order.{rank};
 ghost use Rattle.looks.specs.Names.{IsRequest, IsStray};
-ghost use Rattle.looks.specs.Gathering.{nothing_found, PutsRequest, PutsStray, Takes, TakesFile, TakesFiles, TakesOther, TakesOthers};
+ghost use Rattle.looks.specs.Gathering.{nothing_found, PutsRequest, PutsStray, Takes, GathersFile, GathersFiles, GathersOther, GathersOthers};
 ghost use Rattle.looks.specs.Handing.{Hands, is_crowded};
 
 use crate::looking::MOST_NAMES;
@@ -114,7 +114,7 @@ impl LookFindings {
 
     /// Puts a file to one or the other, unless it is left alone.
     fn put(&mut self, file: folders::Found) -> Result<(), AllocError>
-        ensures ok { OnOk result (self.old.is_broken ≡ false → TakesFile file self.old self.new) }
+        ensures ok { OnOk result (self.old.is_broken ≡ false → GathersFile file self.old self.new) }
         ensures broken { self.new.is_broken ≡ self.old.is_broken }
     {
         let folders::Found { name, stamp } = file;
@@ -127,7 +127,7 @@ impl LookFindings {
 
     /// Adds a file.
     fn add_file(&mut self, file: folders::Found)
-        ensures { self.new.is_broken ≡ false → TakesFile file self.old self.new }
+        ensures { self.new.is_broken ≡ false → GathersFile file self.old self.new }
     {
         if self.put(file).is_err() {
             self.is_broken = true;
@@ -136,7 +136,7 @@ impl LookFindings {
 
     /// Adds files.
     fn add_files(&mut self, files: Vec<folders::Found>)
-        ensures { self.new.is_broken ≡ false → TakesFiles files.items self.old self.new }
+        ensures { self.new.is_broken ≡ false → GathersFiles files.items self.old self.new }
     {
         for file in files {
             self.add_file(file);
@@ -145,7 +145,7 @@ impl LookFindings {
 
     /// Adds what is passed over.
     fn add_other(&mut self, other: PassedOver)
-        ensures { self.new.is_broken ≡ false → TakesOther other self.old self.new }
+        ensures { self.new.is_broken ≡ false → GathersOther other self.old self.new }
     {
         if self.others.insert(other.name, other.fault).is_err() {
             self.is_broken = true;
@@ -154,7 +154,7 @@ impl LookFindings {
 
     /// Adds all that is passed over.
     fn add_others(&mut self, others: Vec<PassedOver>)
-        ensures { self.new.is_broken ≡ false → TakesOthers others.items self.old self.new }
+        ensures { self.new.is_broken ≡ false → GathersOthers others.items self.old self.new }
     {
         for other in others {
             self.add_other(other);

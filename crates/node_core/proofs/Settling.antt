@@ -13,7 +13,7 @@ use Rattle.node_core.specs.declared.event.Event.{Event}
 use Rattle.node_core.specs.declared.event.Event.TheVariants as events
 use Rattle.node_core.specs.declared.turn.Turn.{Turn}
 use Rattle.node_core.specs.declared.turn.CoreRefusal.{CoreRefusal}
-use Rattle.node_core.specs.Handling.{IsTurnAlone, IsReleased, TakesNothing}
+use Rattle.node_core.specs.Handling.{IsTurnAlone, IsReleased, HandlesAlone}
 use Rattle.node_core.specs.Turns.{event_value, Stirs}
 use Rattle.node_core.proofs.Calling.{packet_came}
 
@@ -25,9 +25,9 @@ pub record Answered (s : Seat) (p : Packet) (row : Row) (result : Result Turn Co
 
 pub came :
     (s : Seat) (event : Event) (p : Packet) (now : ℕ) (row : Row) (result : Result Turn CoreRefusal) → event ≡ events.Arrived p now → Answered s p row result
-    → (marks : List Mark) → IsReleased event marks → TakesNothing s event row marks result
+    → (marks : List Mark) → IsReleased event marks → HandlesAlone s event row marks result
 came s event p now row result is answered marks released =
-    subst (λ (y : Event). TakesNothing s y row marks result) (sym is)
+    subst (λ (y : Event). HandlesAlone s y row marks result) (sym is)
     (MatchResult-weaker result (answered.turn now marks (subst (λ (y : Event). was_released (number_of (event_value y)) marks ≡ true) is released))
     (λ x t. packet_came s p now marks row (λ (u : said.Turn). IsTurnAlone row marks u x) t)
     (λ e stirs _. packet_came s p now marks row Stirs stirs))

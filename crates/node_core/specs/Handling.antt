@@ -86,8 +86,8 @@ Starts s own now row result old new = TakenBy s result old new
     (λ e. e ≡ refusals.OutOfMemory → StartIs s old.number own now marks row Stirs))
 
 -- any event was taken so
-abbrev pub Takes : Seat → Event → Row → Result Turn CoreRefusal → Instance → Instance → Type 0
-Takes s event row result old new = TakenBy s result old new
+abbrev pub HandlesEvent : Seat → Event → Row → Result Turn CoreRefusal → Instance → Instance → Type 0
+HandlesEvent s event row result old new = TakenBy s result old new
     ((marks : List Mark) → InstanceStands old marks
     → MatchResult result (λ x. TurnIs s event marks row (λ t. Answers row t x new))
     (λ e. e ≡ refusals.OutOfMemory → TurnIs s event marks row Stirs))
@@ -214,8 +214,8 @@ pub record IsTurnAlone (row : Row) (marks : List Mark) (t : said.Turn) (x : Turn
   pub releases_nothing : x.release ≡ None
 
 -- an event was taken by such a turn, or memory was refused to it where the turn is not quiet
-abbrev pub TakesNothing : Seat → Event → Row → List Mark → Result Turn CoreRefusal → Type 0
-TakesNothing s event row marks result =
+abbrev pub HandlesAlone : Seat → Event → Row → List Mark → Result Turn CoreRefusal → Type 0
+HandlesAlone s event row marks result =
     MatchResult result (λ x. TurnIs s event marks row (λ t. IsTurnAlone row marks t x)) (λ e. e ≡ refusals.OutOfMemory → TurnIs s event marks row Stirs)
 
 -- a Prepare was answered, whatever the marks; or memory was refused to it where the turn is not quiet
@@ -230,7 +230,7 @@ IsReleased event marks = was_released (said.number_of (event_value event)) marks
 
 -- an event of a number that was released was taken so, or refused as one of such a number
 pub record TakenReleased (s : Seat) (event : Event) (row : Row) (result : Result Turn CoreRefusal) : Type 0 where
-  pub turn : (marks : List Mark) → IsReleased event marks → TakesNothing s event row marks result
+  pub turn : (marks : List Mark) → IsReleased event marks → HandlesAlone s event row marks result
   pub orderly : IfOk result (λ x. IsOrderly x)
   pub refused : IfErr result (λ e. IsRefused event e (Unit {0}) (λ marks. IsReleased event marks) s.me row)
 

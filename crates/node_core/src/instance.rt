@@ -7,7 +7,7 @@ ghost use Rattle.protocol.specs.Marks.{Mark};
 ghost use Rattle.protocol.specs.Proposals.{open_ballot};
 ghost use Rattle.node_core.specs.Standing.{InstanceStands, IsFresh, fresh, IsInstanceOf};
 ghost use Rattle.node_core.specs.Calls.{RefusesToStart, IsRefused};
-ghost use Rattle.node_core.specs.Handling.{MayPropose, MayTake, MayTakePromise, MayTakeAccept, MayTakeEvent, HandlesPromise, HandlesDue, HandlesAccept, HandlesAccepted, HandlesPacket, HandlesRecall, AnswersNack, IsPicked, TellsDue, Hears, VotesFor, Proposes, Closes, Begins, BeginsFirst, Starts, Takes};
+ghost use Rattle.node_core.specs.Handling.{MayPropose, MayTake, MayTakePromise, MayTakeAccept, MayTakeEvent, HandlesPromise, HandlesDue, HandlesAccept, HandlesAccepted, HandlesPacket, HandlesRecall, AnswersNack, IsPicked, TellsDue, Hears, VotesFor, Proposes, Closes, Begins, BeginsFirst, Starts, HandlesEvent};
 ghost use Rattle.node_core.specs.Turns.{note_value, is_quiet};
 
 use crate::event::Event;
@@ -382,7 +382,7 @@ impl Instance {
         row: &Row,
     ) -> Result<Turn, CoreRefusal>
         requires { MayTakeEvent seat event self.old }
-        ensures taken { Takes seat event.entry row.now result self.old self.new }
+        ensures taken { HandlesEvent seat event.entry row.now result self.old self.new }
         ensures refused { IfErr result (λ e. IsRefused event.entry e (self.new ≡ self.old) (InstanceStands self.old) seat.me row.now) }
     {
         match event {

@@ -10,6 +10,6 @@ mod window;
 
 pub use members::Pace;
 pub use share::Incoming;
-pub use turns::{Deeds, Done, LOOK, Sight, Turns, WAIT, Work};
+pub use turns::{Deeds, Done, LOOK, Sight, Turns, Work};
 pub use waiting::{MOST_AFTER_A_SEND, MOST_RECEIVES, Waiting};
 pub use window::Window;

@@ -8,9 +8,6 @@ use std::marker::Model;
 /// The pause between the end of a look at the folder and the next look, in milliseconds.
 pub const LOOK: u64 = 100;
 
-/// How long it is waited for a datagram at most, in milliseconds.
-pub const WAIT: u64 = 50;
-
 /// How many datagrams are taken in at most before what is due is seen to, though more wait.
 const MOST_BEFORE_DUE: u8 = 64;
 

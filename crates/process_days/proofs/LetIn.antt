@@ -5,7 +5,7 @@ use Rattle.protocol.specs.Refusals.{Call, Offering, Seeking, Falling_due, Receiv
 use Rattle.wire.specs.Passing.{Passed, Trace, untold, listed, guarded, AllCame, Passes}
 use Rattle.wire.proofs.Passing.{came_first, came_last}
 use Rattle.driver.specs.Events.{Event, asked, took, stored, aside, coming, coming_by, going, going_by, passing_behind}
-use Rattle.process_days.specs.Telling.{AllTaken, CallTakes, TakesLetIn}
+use Rattle.process_days.specs.Telling.{AllTaken, CallTakes, ReceivesLetIn}
 
 call_takes : (Is : List ℕ → Type 0) (call : Call) → AllCame Is (coming call) → CallTakes Is call
 call_takes Is (Receiving bytes now) all = all.0
@@ -26,7 +26,7 @@ all_taken Is waits (stored (Err refusal) ∷ rest) all = (tt, all_taken Is waits
 all_taken Is waits (aside what ∷ rest) all =
     (tt, all_taken Is (waits ++ going_by what) rest (came_last Is (coming_by what) (passing_behind (waits ++ going_by what) rest) all))
 
-pub takes_let_in : (was is : Trace) (waits : List Passed) (log : List Event) → Passes was is (passing_behind waits log) → TakesLetIn was log
+pub takes_let_in : (was is : Trace) (waits : List Passed) (log : List Event) → Passes was is (passing_behind waits log) → ReceivesLetIn was log
 takes_let_in untold is waits log p = tt
 takes_let_in (listed passed) is waits log p = tt
 takes_let_in (guarded Is clean) untold waits log p = absurd p

@@ -76,28 +76,28 @@ CallTakes Is (Falling_due now) = Unit {0}
 CallTakes Is (Recalling n to) = Unit {0}
 
 -- what an event takes in is such
-abbrev pub TakesSuch : (List ℕ → Type 0) → Event → Type 0
-TakesSuch Is (asked moment) = Unit {0}
-TakesSuch Is (aside what) = Unit {0}
-TakesSuch Is (took call answer) = CallTakes Is call
-TakesSuch Is (stored answer) = Unit {0}
+abbrev pub ReceivesSuch : (List ℕ → Type 0) → Event → Type 0
+ReceivesSuch Is (asked moment) = Unit {0}
+ReceivesSuch Is (aside what) = Unit {0}
+ReceivesSuch Is (took call answer) = CallTakes Is call
+ReceivesSuch Is (stored answer) = Unit {0}
 
 -- all that these events take in is such
 abbrev pub AllTaken : (List ℕ → Type 0) → List Event → Type 0
 AllTaken Is [] = Unit {0}
-AllTaken Is (event ∷ rest) = TakesSuch Is event × AllTaken Is rest
+AllTaken Is (event ∷ rest) = ReceivesSuch Is event × AllTaken Is rest
 
 -- behind a wire that tells which packets it lets in, where all that waits in it was let in, no other is taken in
-abbrev pub TakesLetIn : Trace → List Event → Type 0
-TakesLetIn untold log = Unit {0}
-TakesLetIn (listed passed) log = Unit {0}
-TakesLetIn (guarded Is clean) log = clean → AllTaken Is log
+abbrev pub ReceivesLetIn : Trace → List Event → Type 0
+ReceivesLetIn untold log = Unit {0}
+ReceivesLetIn (listed passed) log = Unit {0}
+ReceivesLetIn (guarded Is clean) log = clean → AllTaken Is log
 
 -- a station that is driven by these events takes in such packets alone as its wire lets in
 abbrev pub DrivenTakeLetIn : {R N S : Type 0} → Ghosts R → (R → Type 0) → (N → Trace) → SinkGhosts S → Type 0
 DrivenTakeLetIn {R = R} {N = N} {S = S} g is_settled passed sink =
     (old new : Post R N S) (end : End) (log : List Event) → Driven (known g is_settled passed (fate_of sink)) old new end log
-    → TakesLetIn (passed old.wire) log
+    → ReceivesLetIn (passed old.wire) log
 
 -- Each member's process has its log of this order, and leaves its station so. A process that ended before it had stored what its last steps
 -- saved sent nothing of them: where the next start does not find their rows, its log is told up to the event before, in which it stored all.

@@ -1,6 +1,6 @@
 -- One file more that was made.
 use Rattle.std.proofs.Common.{◌≡◌, ℕ, ◌+◌, ◌<◌, List, [], ◌∷◌, ◌++◌, Option, Some, None, length, take, get_or, refl, sym, ap, subst, ◌∙◌, arith, append_assoc}
-use Rattle.std.proofs.lemmas.List.{take_more, append-nil, length-take}
+use Rattle.std.proofs.lemmas.List.{take_more, length-take}
 use Rattle.reel.specs.declared.piece.RollPiece.{RollPiece}
 use Rattle.reel.specs.Names.{tape_name}
 use Rattle.reel.specs.Tapes.{frames_in}
@@ -25,10 +25,6 @@ makes_more None mid new files file a b = tt
 makes_more (Some old) None new files file a b = absurd a
 makes_more (Some old) (Some mid) None files file a b = absurd b
 makes_more (Some old) (Some mid) (Some new) files file a b = b ∙ rw a (append_assoc old files (file ∷ []))
-
-pub makes_none : (old : Option (List TapeFile)) → Makes old old []
-makes_none None = tt
-makes_none (Some old) = sym (append-nil old)
 
 -- the file of one tape more was made
 pub made_more : (frames fs bytes : List ℕ) (tapes items : List RollPiece) (i : ℕ) (d : RollPiece) (old mid new : Option (List TapeFile)) → i < length items → items ≡ tapes → fs ≡ frames

@@ -5,23 +5,6 @@ use Rattle.gone_out.specs.declared.origin.Origin.{Origin}
 use Rattle.roll_call.specs.Tellers.{TellerValue}
 use Rattle.roll_call.specs.Asks.{page_due_at, is_lower, IsLowestDue}
 
--- a member has no page
-pub none_here :
-    (own : Origin) (now : ℕ) (ts : List TellerValue) (place : ℕ) (lowest : Option (ℕ × ℕ)) → page_due_at own now ts place ≡ None
-    → IsLowestDue own now ts place lowest → IsLowestDue own now ts (place + 1) lowest
-none_here own now ts place None none before = λ k l. elim (cases_eq k place) [
-  | inl here ↦ ap (page_due_at own now ts) here ∙ none
-  | inr other ↦ before k (omega (arith, l, other))
-]
-none_here own now ts place (Some (j, low)) none before = (
-  omega (arith, before.0),
-  before.1,
-  λ k l. elim (cases_eq k place) [
-    | inl here ↦ subst (λ (o : Option ℕ). IfSome o (λ other. low ≤ other)) (sym (ap (page_due_at own now ts) here ∙ none)) tt
-    | inr other ↦ before.2 k (omega (arith, l, other))
-  ],
-)
-
 -- a member has a page that is not lower
 pub no_lower :
     (own : Origin) (now : ℕ) (ts : List TellerValue) (place page : ℕ) (lowest : Option (ℕ × ℕ)) → page_due_at own now ts place ≡ Some page

@@ -43,7 +43,7 @@ pub fn create_rows<F: RowFiles>(
     new: NewRows<'_>,
 ) -> Result<F::Rows, RefusedRows>
     requires { IsIdentity new.identity }
-    ensures made { IfOk result (AreMade F.leaves F.takes_up F.Rows.version row_files.now new.entry.path.now new.entry.identity new.entry.version) }
+    ensures made { IfOk result (AreMade F.leaves F.opens F.Rows.version row_files.now new.entry.path.now new.entry.identity new.entry.version) }
     ensures open { IfOk result (λ rows. F.Rows.kept rows → F.Rows.is_open rows) }
 {
     row_files.make(rt, new)?;

@@ -26,7 +26,7 @@ pub trait RowFiles {
     ghost leaves: { Self → List ℕ → IdentityValue → VersionValue → Type 0 };
 
     // The rows in the file at a path were taken up as those of this station, or whosever they are where none was given.
-    ghost takes_up: { Self → List ℕ → Option IdentityValue → Self.Rows → Type 0 };
+    ghost opens: { Self → List ℕ → Option IdentityValue → Self.Rows → Type 0 };
 
     // The rows in the file at a path were taken up, whosever they are, and all of them upgraded, and the file was closed.
     ghost upgrades: { Self → List ℕ → Type 0 };
@@ -53,7 +53,7 @@ pub trait RowFiles {
         path: &str,
         identity: Option<Identity>,
     ) -> Result<Self::Rows, RefusedRows>
-        ensures taken { IfOk result (takes_up self.now path.now identity) }
+        ensures taken { IfOk result (opens self.now path.now identity) }
         ensures open { IfOk result (λ rows. Self.Rows.kept rows → Self.Rows.is_open rows) };
 
     /// Which numbers have a saved row, and which of these rows have a vote. All rows are read, and none is changed.

@@ -14,12 +14,12 @@ use Rattle.sqlite_trees.specs.declared.store.Store as trees
 use Rattle.rows_saved.specs.Saved.{SameRows}
 use Rattle.rows_saved.specs.declared.identity.Identity.{Identity}
 use Rattle.acceptor_store.specs.Sqlite.{SqliteOf, Agrees, HoldsNoRow, IsKept, IsOpen, IsOurs, rows_version, saved_of}
-use Rattle.acceptor_store.specs.Files.{MakesItsOwn, TakesItsOwn, WasClosed}
+use Rattle.acceptor_store.specs.Files.{MakesItsOwn, OpensItsOwn, WasClosed}
 
 module _ {C S : Type 0} {c : calls.Ghosts C} {first : start.Ghosts S} {g : disk.Ghosts (Modelled C S c first)} where
   -- they were taken up for the station that is given, if any, and go on; a torn write is taken to leave any bytes
-  pub record AreTaken (given : Option Identity) (s : SqliteOf (FileStore (Modelled C S c first) g)) : Type 0 where
-    pub its_own : TakesItsOwn (image_at first) s
+  pub record AreOpened (given : Option Identity) (s : SqliteOf (FileStore (Modelled C S c first) g)) : Type 0 where
+    pub its_own : OpensItsOwn (image_at first) s
     pub agrees : Agrees given s.identity
     pub goes : s.stopped ≡ false
     pub wary : first.is_mixing ≡ false
@@ -49,7 +49,7 @@ pub record WereUpgraded {D : Type 0} {g : disk.Ghosts D} (was : SqliteOf (FileSt
 
 -- in files of this type rows were taken up, whosever they are, and upgraded
 abbrev pub HasUpgraded : {C S : Type 0} {c : calls.Ghosts C} {first : start.Ghosts S} → disk.Ghosts (Modelled C S c first) → Type 0
-HasUpgraded {C} {S} {c} {first} g = (was : SqliteOf (FileStore (Modelled C S c first) g)) × AreTaken None was × WereUpgraded was
+HasUpgraded {C} {S} {c} {first} g = (was : SqliteOf (FileStore (Modelled C S c first) g)) × AreOpened None was × WereUpgraded was
 
 -- in files of this type rows were made so
 abbrev pub HasMade : {C S : Type 0} {c : calls.Ghosts C} {first : start.Ghosts S} → disk.Ghosts (Modelled C S c first) → Identity → Version → Type 0

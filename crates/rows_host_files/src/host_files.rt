@@ -7,7 +7,7 @@ ghost use Rattle.rows_saved.specs.Identity.{IsIdentity};
 ghost use Rattle.tape_frames.specs.Entries.{version_of};
 ghost use Rattle.acceptor_store.specs.Files.{WasClosed};
 ghost use Rattle.acceptor_store.specs.Sqlite.{IsOurs};
-ghost use Rattle.rows_host_files.specs.Taking.{AreTaken, HasMade, HasUpgraded};
+ghost use Rattle.rows_host_files.specs.Taking.{AreOpened, HasMade, HasUpgraded};
 
 use crate::causes::refused_by;
 use crate::database::{RowsTask, close_database, done_over};
@@ -35,7 +35,7 @@ fn taken_at(
     path: &str,
     identity: Option<Identity>,
 ) -> Result<Database, RefusedRows>
-    ensures taken { IfOk result (AreTaken identity) }
+    ensures taken { IfOk result (AreOpened identity) }
     ensures open { IfOk result (λ s. HasCleanDisk (file_state s.conn) → IsOurs s.alone s.was s.found → IsTrue (file_state s.conn).is_open) }
 {
     match SqliteRows::open_at(rt, path, Wary, identity) {
@@ -72,7 +72,7 @@ fn taken_in_life(
     path: &str,
     identity: Option<Identity>,
 ) -> Result<Database, RefusedRows>
-    ensures taken { IfOk result (AreTaken identity) }
+    ensures taken { IfOk result (AreOpened identity) }
     ensures open { IfOk result (λ s. HasCleanDisk (file_state s.conn) → IsOurs s.alone s.was s.found → IsTrue (file_state s.conn).is_open) }
 {
     match taken_at(rt, path, identity) {
@@ -99,7 +99,7 @@ impl RowFiles for HostFiles {
 
     ghost leaves = { λ _ _ i version. HasMade ⟦<FileFrom<Wary> as Disk>⟧ i (version_of version) };
 
-    ghost takes_up = { λ _ _ given rows. AreTaken given rows };
+    ghost opens = { λ _ _ given rows. AreOpened given rows };
 
     ghost upgrades = { λ _ _. HasUpgraded ⟦<FileFrom<Wary> as Disk>⟧ };
 

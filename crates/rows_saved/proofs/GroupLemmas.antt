@@ -20,10 +20,6 @@ all_at P [] i x e all = absurd cc
 all_at P (y ∷ ys) zero x e all = let same : y ≡ x = cc in subst P same all.0
 all_at P (y ∷ ys) (suc i) x e all = all_at P ys i x e all.1
 
-pub all_more : {X : Type 0} (P : X → Type 0) (xs : List X) (x : X) → AllByRecursion P xs → P x → AllByRecursion P (xs ++ x ∷ [])
-all_more P [] x all is = (is, tt)
-all_more P (y ∷ ys) x all is = (all.0, all_more P ys x all.1 is)
-
 pub on_err : {A E P : Type 0} (r : Result A E) → P → OnErr r P
 on_err (Ok a) p = tt
 on_err (Err e) p = p

@@ -1,5 +1,5 @@
 -- Rows whose saves wait to be saved as one.
-use Rattle.std.specs.Prelude.{◌≡◌, ◌⊎◌, ◌++◌, ◌∷◌, ℕ, Bool, List, [], true, false, refl}
+use Rattle.std.specs.Prelude.{◌≡◌, ◌⊎◌, ℕ, Bool, List, [], true, false, refl}
 use Rattle.std.specs.Coded.{Coded, code_by, coded×, coded_ℕ, coded_bool, coded_list}
 use Rattle.ballots.specs.contracts.number.Number as number
 use Rattle.ballots.specs.contracts.row.Row as row
@@ -46,8 +46,3 @@ pub record MayBeSaved (is_open : Type 0) (version : Version) (waits : List (ℕ 
 -- a fault that is none of the rows inside
 abbrev pub IsOwnFault : RowsFault → Type 0
 IsOwnFault fault = (fault ≡ OutOfMemory) ⊎ (fault ≡ Store)
-
--- one more row waits, and the rows inside are as they were
-pub record Waits {R : Type 0} (number : ℕ) (row : Row) (old new : GroupedOf R) : Type 0 where
-  pub inside : new.rows ≡ old.rows
-  pub waits : new.waits ≡ old.waits ++ (number, row) ∷ []

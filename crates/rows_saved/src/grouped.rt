@@ -126,7 +126,7 @@ impl<R: SavesAll> Grouped<R> {
 
 impl<R: SavesAll> Rows for Grouped<R> {
     ghost use Rattle.rows_saved.specs.Groups.{with_all};
-    ghost use Rattle.rows_saved.specs.Grouped.{IsOwnFault, Waits};
+    ghost use Rattle.rows_saved.specs.Grouped.{IsOwnFault};
 
     ghost made = { λ s. R.Rows.made s.rows };
 

@@ -1,18 +1,15 @@
 -- What rows that are read one by one leave, step after step.
-use Rattle.std.proofs.Common.{◌≡◌, ◌⊎◌, inl, inr, ℕ, List, [], Ok, IsTrue, sym, subst, ◌∙◌}
+use Rattle.std.proofs.Common.{◌≡◌, inl, inr, ℕ, List, [], Ok, IsTrue, sym, subst}
 use Rattle.sqlite_value.specs.Order.{Row}
-use Rattle.sqlite_trees.specs.Tree.{Trees}
 use Rattle.sqlite_trees.specs.declared.store.Store.{Ghosts}
-use Rattle.sqlite.specs.declared.error.Error.{Error}
 use Rattle.sqlite.specs.Effect.{Database}
 use Rattle.sqlite.specs.Held.{Held, state}
 use Rattle.sqlite.specs.Given.{HasGiven, HasBegun}
 use Rattle.sqlite.specs.Listing.{understood, reads_listing, IsSourceOf}
-use Rattle.sqlite.specs.State.{State, Fails, IsUnchanged, IsRolledBack, Survives, Shown, ShowsRows, Begins}
+use Rattle.sqlite.specs.State.{State, IsUnchanged, Shown, ShowsRows, Begins}
 use Rattle.sqlite.specs.Clock.{timed}
-use Rattle.sqlite.proofs.StateLemmas.{survives_then}
 use Rattle.sqlite.proofs.Callers.{IsPlain, begun_plain, unchanged_then, given_begin}
-use Rattle.rows_table.specs.Cursor.{OnlyReads, WritesNothing, HasGivenFirst}
+use Rattle.rows_table.specs.Cursor.{OnlyReads, HasGivenFirst}
 use Rattle.rows_table.proofs.StateLemmas.{shown_open}
 
 -- a query that began found the connection open
@@ -24,23 +21,6 @@ begun_open g sql params old new (inr h) = shown_open sql params (state g old) (s
 pub begun_reading : {S : Type 0} (g : Ghosts S) (sql : List ℕ) (params : Row) (old new : Held S) → OnlyReads (state g old) sql → HasBegun g sql params old new
     → HasGiven g sql params new [] × IsUnchanged (state g old) (state g new)
 begun_reading g sql params old new reads h = begun_plain g sql params old new (reads (begun_open g sql params old new h)) h
-
-pub survives_since : (first old new : State) (P : Trees → Type 0) → Survives first old P → Survives old new (λ _. ⊥) → Survives first new P
-survives_since first old new P one two = survives_then first old new P (λ _. ⊥) P (λ _ db p. p) (λ _ db none. absurd none) one two
-
-rolled_since : (first old new : State) → IsUnchanged first old → IsRolledBack old new → IsRolledBack first new
-rolled_since first old new same undone = record {
-  was_open = λ opened. same.0.was_open;
-  undone = λ opened. let both = undone.undone opened in (both.0 ∙ same.0.committed_is, both.1 ∙ same.0.committed_is);
-  autocommit = undone.autocommit;
-  unmarked = undone.unmarked;
-  counts = record { changes = undone.counts.changes ∙ same.1.changes; last_rowid = undone.counts.last_rowid ∙ same.1.last_rowid };
-}
-
--- a step that failed has undone what was not committed, or changed nothing
-pub failed_since : (first old new : State) (e : Error) → IsUnchanged first old → Fails old new ⊥ e ⊎ IsUnchanged old new → WritesNothing first new
-failed_since first old new e same (inl fails) = inr (rolled_since first old new same fails.3)
-failed_since first old new e same (inr kept) = inl (unchanged_then first old new same kept)
 
 -- what was shown when all was as at first is shown of what was there at first
 pub shown_since : (sql : List ℕ) (params : Row) (first old new : State) (rows : List Row) → OnlyReads first sql → IsUnchanged first old → Shown sql params old new rows → Shown sql params first new rows

@@ -1,5 +1,5 @@
 -- What the statements that make the two tables do.
-use Rattle.std.proofs.Common.{None, ◌≡◌, inl, inr, ℕ, List, [], codes, false, Ok, Err, Result, refl, sym, ap, subst, ◌∙◌}
+use Rattle.std.proofs.Common.{None, ◌≡◌, inl, ℕ, List, [], codes, false, Ok, refl, sym, ap, subst, ◌∙◌}
 use Rattle.sqlite.specs.Schema.{Schema}
 use Rattle.sqlite.specs.Table.{Table}
 use Rattle.sqlite.specs.Command.TheVariants.{CreateTable}
@@ -7,11 +7,9 @@ use Rattle.sqlite.specs.Compile.{table_defined_by}
 use Rattle.sqlite.specs.Change.{created, next_tree}
 use Rattle.sqlite.specs.Does.{Tally, lacks_sequence}
 use Rattle.sqlite_tied.specs.Compute.{everything}
-use Rattle.sqlite.specs.declared.error.Error.{Error}
 use Rattle.sqlite.specs.Listing.{understood}
 use Rattle.sqlite.specs.Effect.{Database}
-use Rattle.sqlite.specs.State.{State, Writes, ExecutesInside, KeepsCommit}
-use Rattle.sqlite_value.specs.Order.{Row}
+use Rattle.sqlite.specs.State.{State, Writes, ExecutesInside}
 use Rattle.sqlite_trees.proofs.ListLemmas.{all-map}
 use Rattle.sqlite_rules.specs.Lists.{Has}
 use Rattle.sqlite_rules.proofs.ListLemmas.{all_has}
@@ -49,15 +47,6 @@ rows_plain = (refl, refl)
 
 placed : (created no_schema station ≡ station_schema) × (created station_schema unplaced ≡ row_schema)
 placed = (refl, refl)
-
--- a statement inside a transaction leaves what was committed
-pub inside_keeps : (sql : List ℕ) (params : Row) (old new : State) (r : Result ℕ Error) → ExecutesInside 0 sql params old new r → KeepsCommit old new
-inside_keeps sql params old new (Ok count) h = record { was_open = λ _. h.1.was_open; committed = λ _. h.1.committed_is }
-inside_keeps sql params old new (Err e) (inl h) = elim h.1 [
-  | inl same ↦ record { was_open = λ _. same.0.was_open; committed = λ _. same.0.committed_is }
-  | inr undone ↦ record { was_open = undone.was_open; committed = λ opened. (undone.undone opened).1 }
-]
-inside_keeps sql params old new (Err e) (inr h) = record { was_open = λ _. h.2.0.was_open; committed = λ _. h.2.0.committed_is }
 
 module _ (sql : List ℕ) (before after : Schema) (table : Table)
     (is : (command_of (understood before sql) ≡ CreateTable) × (statement_of sql (understood before sql) ≡ sql) × (table_defined_by sql ≡ Ok table)) (plain : IsPlain (understood before sql))

@@ -83,10 +83,6 @@ saves n columns rows left it = record {
     at k true e = subst (λ m. found_at (put_row (stored n columns) left) m ≡ Some (stored n columns)) ((Decides-eqb n k).0 e) (find_new n columns left it.free)
     at k false e = find_other n columns k e left ∙ it.others k e
 
--- no row was there
-inserted : (n : ℕ) (columns : Row) (rows : List Row) → AreRows rows → is_taken rows (stored n columns) ≡ false → IsLeft n columns rows rows
-inserted n columns rows keyed free = record { keyed = keyed; free = free; others = λ k e. refl }
-
 -- the rows with this number go out
 without : (n : ℕ) (rows : List Row) (ids : List ℤ) → AllByRecursion (λ id. id ≡ pos n) ids → AreRows rows
     → AreRows (without_all rows ids) × ((k : ℕ) → (n == k) ≡ false → find (has k) (without_all rows ids) ≡ find (has k) rows)

@@ -36,14 +36,14 @@ abbrev terms : List Term
 terms = lit (Int (pos 1)) ∷ lit Null ∷ col 0 0 ∷ col 0 1 ∷ col 0 2 ∷ col 0 3 ∷ []
 
 -- in this schema the statement inserts into the table of the station, and writes nothing else
-record TakesStation (schema : Schema) : Type 0 where
+record ReadsStation (schema : Schema) : Type 0 where
   table : slice_get schema.tables 0 ≡ Some station
   command : command_of (understood schema add_text) ≡ Insert 0 (Values terms 6)
   plain : IsPlain (understood schema add_text)
   unindexed : (other : ℕ) → IsNoIndex schema other
   childless : (keys : Keys) (news : List Row) → works schema keys 0 station_tree [] news ≡ []
 
-takes : (layout : Layout) → TakesStation (layout_schema layout)
+takes : (layout : Layout) → ReadsStation (layout_schema layout)
 unfolding understood everything
 takes One = record { table = refl; command = refl; plain = (refl, refl); unindexed = λ other. tt; childless = λ keys news. refl }
 takes (Two Created) = record { table = refl; command = refl; plain = (refl, refl); unindexed = λ other. tt; childless = λ keys news. refl }

@@ -1,7 +1,6 @@
 -- Looks at the offers, files that leave them, and what follows of it.
 use Rattle.std.proofs.Common.{◌≡◌, ◌+◌, ◌++◌, ◌∙◌, ◌⊎◌, ℕ, Bool, zero, suc, drop, false, true, List, [], ◌∷◌, Option, Some, None, Result, Ok, Err, Vec, Global, inl, inr, refl, sym, ap, subst, append-nil, length, ◌==◌, arith}
 use Rattle.std.specs.Prelude.{flat_map, IfOk, IfSome, IfNone, IsErr, OnOk, OnErr}
-use Rattle.std.proofs.lemmas.Grind.{flat_map-append}
 use Rattle.std.proofs.lemmas.Bool.Decides.{nat_tests}
 use Rattle.protocol.specs.Lists.{IsAmong}
 use Rattle.code_table.specs.Tables.{Places}
@@ -78,9 +77,6 @@ looks_did a b d look p = record {
 
 pub looks_may : (a b : Option (List Doing)) (d : Doing) → IsLook d → MayDo a b d → Looks a b (λ doings. Unit {0})
 looks_may a b d look p = looks_did a b d look (did_of a b d p)
-
-pub looks_one : (a b : Option (List Doing)) (d : Doing) → IsLook d → Does a b (d ∷ []) → Looks a b (λ doings. Unit {0})
-looks_one a b d look does = record { doings = d ∷ []; does = does; looks = (look, tt); finds = tt }
 
 -- the same looks find something else
 pub looks_so :
@@ -179,10 +175,6 @@ follows_of m n files is taken released = record {
   taken = λ t shown h. subst (λ (l : List Offer). WereRead t shown l) (sym is) (taken t shown h);
   released = released;
 }
-
--- the files alone have changed
-pub follows_files : (m n : Standing) → ((t : Texts) (shown : List Doing) → WereRead t shown m.files → WereRead t shown n.files) → n.released ≡ m.released → Follows m n
-follows_files m n taken released = record { taken = taken; released = released }
 
 pub follows_landed : (m n : Standing) (number : ℕ) (l : Landing) (now : ℕ) → n ≡ landed_in number l now m → Follows m n
 follows_landed m n number l now same = record {

@@ -15,7 +15,7 @@ use std::io::Write;
 
 impl Papers {
     /// Takes in all that a look found, at a moment: at once where it is little, and else a part at a time, each in a turn of its own.
-    fn take_seen<E: Write>(&mut self, seen: EndedLook, now: u64, log: &mut Log<'_, E>)
+    fn see_ended<E: Write>(&mut self, seen: EndedLook, now: u64, log: &mut Log<'_, E>)
         ensures { Follows self.old.book self.new.book }
     {
         note_found(&mut self.journal.keeper, seen.requests.len());
@@ -51,7 +51,7 @@ impl Papers {
         };
         tell_news(self.journal.alloc, listing.news.as_slice(), log.err);
         match self.looking.push(listing, now) {
-            Some(Ok(seen)) => self.take_seen(seen, now, log),
+            Some(Ok(seen)) => self.see_ended(seen, now, log),
             Some(Err(_)) => {
                 let told = &mut self.journal.told;
                 told.cannot_list(FolderFault::OutOfMemory, now, log.err);

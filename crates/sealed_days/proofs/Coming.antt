@@ -18,7 +18,7 @@ use Rattle.sealed_door.specs.declared.door.SealedDoor.{SealedDoor}
 use Rattle.sealed_door.specs.Admitting.{BringsSealed}
 use Rattle.driver.specs.Events.{Event, asked, took, stored, aside}
 use Rattle.days.specs.Happening.{Happened, Came}
-use Rattle.process_days.specs.Telling.{Order, AllTaken, CallTakes, CameWith, IsInTurn, LogsAgree, TakesSuch, day_with, log_of}
+use Rattle.process_days.specs.Telling.{Order, AllTaken, CallTakes, CameWith, IsInTurn, LogsAgree, ReceivesSuch, day_with, log_of}
 use Rattle.process_days.proofs.GoingOn.{log_here, log_elsewhere}
 use Rattle.sealed_days.specs.Keyed.{AreKeysOf, AreSealed, BearsTagOf, CallNeedsKey, IsDoorOf, IsKeyOf, IsLetIn, NeedKey, NeedsKey, SealedLogsAgree, SealedOrdersAreInTurn, SealedPacketsCame}
 
@@ -67,14 +67,14 @@ module _ {S : Type 0} (came : S → SocketAddr → List ℕ → Type 0) where
   call_came shared number count day m socket door (Recalling n to) is_door it premise = tt
 
   event_came : (shared : SharedKeys) (number count : ℕ) (day : List Happened) (m : ℕ) (socket : S) (door : SealedDoor) (event : Event) → IsDoorOf shared number count m door
-      → TakesSuch (IsLetIn (came socket) door) event → NeedsKey shared number count (came socket) day m event → CameWith day m event
+      → ReceivesSuch (IsLetIn (came socket) door) event → NeedsKey shared number count (came socket) day m event → CameWith day m event
   event_came shared number count day m socket door (asked moment) is_door it premise = tt
   event_came shared number count day m socket door (aside what) is_door it premise = tt
   event_came shared number count day m socket door (took call answer) is_door it premise = call_came shared number count day m socket door call is_door it premise
   event_came shared number count day m socket door (stored answer) is_door it premise = tt
 
   -- what holds of a member's log holds of its first event, and of what is left of the log
-  first_taken : (Is : List ℕ → Type 0) (m : ℕ) (event : Event) (rest : Order) → AllTaken Is (log_of m ((m, event) ∷ rest)) → TakesSuch Is event × AllTaken Is (log_of m rest)
+  first_taken : (Is : List ℕ → Type 0) (m : ℕ) (event : Event) (rest : Order) → AllTaken Is (log_of m ((m, event) ∷ rest)) → ReceivesSuch Is event × AllTaken Is (log_of m rest)
   first_taken Is m event rest all = subst (AllTaken Is) (log_here m event rest) all
 
   rest_taken : (Is : List ℕ → Type 0) (m k : ℕ) (event : Event) (rest : Order) → AllTaken Is (log_of m ((k, event) ∷ rest)) → AllTaken Is (log_of m rest)

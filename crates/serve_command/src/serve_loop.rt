@@ -129,7 +129,7 @@ fn ask_all<R: Settles, N: Wire, S: Outlet, E: Write>(
 }
 
 /// The turns of a station, one after the other, up to the first fault.
-fn take_turns<R: Settles, N: Wire, S: Outlet, E: Write>(
+fn run_turns<R: Settles, N: Wire, S: Outlet, E: Write>(
     driver: &mut Driver<'_, R, N, S>,
     turns: u32,
     log: &mut Log<'_, E>,
@@ -152,7 +152,7 @@ fn ask_and_turn<R: Settles, N: Wire, S: Outlet, E: Write>(
 {
     let turns = task.turns;
     ask_all(driver, task, log)?;
-    take_turns(driver, turns, log)
+    run_turns(driver, turns, log)
 }
 
 /// Serves a station: the offer, then the withdrawal, then the search, if given, and then so many turns, up to the first

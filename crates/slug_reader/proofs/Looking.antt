@@ -1,5 +1,5 @@
 -- One frame more: what holds at a position, from what holds at the one before it.
-use Rattle.std.proofs.Common.{◌≡◌, ℕ, ◌+◌, ◌≤◌, true, false, cond, List, [], ◌∷◌, ◌++◌, length, map, None, refl, sym, ◌∙◌, ap, add-one}
+use Rattle.std.proofs.Common.{◌≡◌, ℕ, ◌+◌, true, false, cond, List, [], ◌∷◌, ◌++◌, map, None, refl, sym, ◌∙◌, ap, add-one}
 use Rattle.std.specs.Prelude.{filter, option_to_list, unwrap_or}
 use Rattle.std.proofs.lemmas.List.{map-append, append-nil}
 use Rattle.std.proofs.lemmas.List.Elements.{filter-append, filter_map-append}
@@ -10,7 +10,7 @@ use Rattle.slug_reader.specs.Positions.{before, or_else}
 use Rattle.slug_reader.specs.Meanings.{Meanings, selected_by, rail_of, quad_of, frame_at, case_at, meaning_at, rail_at}
 use Rattle.slug_reader.specs.Lines.{is_cut, line_before, item_at, items_before, quad_before, line_of, is_filled, is_cast, lines_before}
 use Rattle.slug_reader.specs.Assembling.{line_cut}
-use Rattle.slug_reader.proofs.Lists.{last_push, unwrap_or_else, after_passed, after_kept, filter_map_one, length-found}
+use Rattle.slug_reader.proofs.Lists.{last_push, unwrap_or_else, after_passed, after_kept, filter_map_one}
 
 pub case_more : (means : Meanings) (tape : List ℕ) (i : ℕ) → case_at means tape (i + 1) ≡ unwrap_or (selected_by means (frame_at tape i)) (case_at means tape i)
 unfolding case_at
@@ -50,11 +50,6 @@ pub quad_more : (means : Meanings) (tape : List ℕ) (i : ℕ) → is_cut means 
 unfolding quad_before
 quad_more means tape i e =
     rw (line_more means tape i e) (last_push (λ j. quad_of (meaning_at means tape j)) (line_before means tape i) i)
-
--- no more items than frames
-pub few_items : (means : Meanings) (widths : WidthFile) (tape : List ℕ) (i : ℕ) → length (items_before means widths tape i) ≤ i
-unfolding items_before line_before
-few_items means widths tape i = length-found (item_at means widths tape) (is_cut means tape) i
 
 lines_pushed : (means : Meanings) (widths : WidthFile) (tape : List ℕ) (i : ℕ)
     → lines_before means widths tape (i + 1) ≡ lines_before means widths tape i ++ map (line_of means widths tape) (filter (is_cast means widths tape) (i ∷ []))

@@ -114,13 +114,13 @@ ReadOn r tape i lines (Ok u) = ReadTo r tape i lines r.fault
 ReadOn r tape i lines (Err fault) = is_memory fault ≡ false → first_fault (mean r.table) r.widths tape ≡ Some fault
 
 -- a frame is taken in where the reader stands, and to these lines the one that it cuts is added
-abbrev pub TakesFrame : ℕ → Result (Unit {0}) ReadFault → List Line → List Line → InHand → InHand → Type 0
-TakesFrame frame result before after old new =
+abbrev pub AddsFrame : ℕ → Result (Unit {0}) ReadFault → List Line → List Line → InHand → InHand → Type 0
+AddsFrame frame result before after old new =
     (tape : List ℕ) (i : ℕ) → StandsAt old tape i → Steps old tape i frame before result after new
 
 -- a piece is taken in where the reader stands
-abbrev pub TakesPiece : List ℕ → Result (Vec Line Global) ReadFault → InHand → InHand → Type 0
-TakesPiece piece result old new =
+abbrev pub AddsPiece : List ℕ → Result (Vec Line Global) ReadFault → InHand → InHand → Type 0
+AddsPiece piece result old new =
     (tape : List ℕ) (i : ℕ) → StandsAt old tape i → IsPiece tape i piece → Pushed old tape i (i + length piece) result new
 
 -- a tape that was read as far as a piece is read on over that piece

@@ -2,7 +2,7 @@
 
 ghost use Rattle.std.specs.Prelude.{◌≡◌, ◌++◌, ℕ, List, Some, Err, OnOk, IfErr, option_to_list, nat_le};
 ghost use Rattle.tape_frames.specs.Frames.{most_frames};
-ghost use Rattle.slug_reader.specs.Pieces.{StandsAt, TakesFrame, TakesPiece, Finished, IsStopped};
+ghost use Rattle.slug_reader.specs.Pieces.{StandsAt, AddsFrame, AddsPiece, Finished, IsStopped};
 ghost use Rattle.slug_reader.specs.declared.fault.ReadFault.{ReadFault};
 
 use crate::assembler::{Assembler, Taken};
@@ -90,7 +90,7 @@ impl<'a> Reader<'a> {
     fn read_frame(&mut self, frame: u8, lines: &mut Vec<Line>) -> Result<(), ReadFault>
         ensures by { (self.new.table ≡ self.old.table) × (self.new.widths ≡ self.old.widths) }
         ensures fault { self.new.fault ≡ self.old.fault }
-        ensures step { TakesFrame frame result lines.old.items lines.new.items self.old self.new }
+        ensures step { AddsFrame frame result lines.old.items lines.new.items self.old self.new }
     {
         let at = self.taken;
         if self.is_full() {
@@ -120,7 +120,7 @@ impl<'a> Reader<'a> {
     pub fn push(&mut self, piece: &[u8]) -> Result<Vec<Line>, ReadFault>
         ensures by { (self.new.table ≡ self.old.table) × (self.new.widths ≡ self.old.widths) }
         ensures failed { (fault : ReadFault) → self.old.fault ≡ Some fault → (result ≡ Err fault) × (self.new ≡ self.old) }
-        ensures pushed { TakesPiece piece.now result self.old self.new }
+        ensures pushed { AddsPiece piece.now result self.old self.new }
     {
         if let Some(fault) = self.fault {
             return Err(fault);

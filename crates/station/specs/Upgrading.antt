@@ -11,7 +11,7 @@ use Rattle.refusals.specs.declared.refusal.StepRefusal.TheVariants.{Store}
 use Rattle.station.specs.Stations.{Sight, sight, IsFixed}
 
 -- the rows went over to version 2
-pub record WentOver {R : Type 0} (x : Sight R) (old new : R) : Type 0 where
+pub record RowsUpgraded {R : Type 0} (x : Sight R) (old new : R) : Type 0 where
   pub two : x.version new ≡ Two
   pub upgrades : x.upgrades old new
   pub is_open : x.kept new → x.is_open new
@@ -24,13 +24,13 @@ pub record Balked {R : Type 0} (x : Sight R) (old new : R) (fault : RowsFault) :
 
 -- an upgrade of rows that is answered so: they went over or refused, and nothing else is a reason to refuse
 abbrev pub UpgradeEnds : {R : Type 0} → Sight R → R → R → Result (Unit {0}) StepRefusal → Type 0
-UpgradeEnds x old new (Ok done) = WentOver x old new
+UpgradeEnds x old new (Ok done) = RowsUpgraded x old new
 UpgradeEnds x old new (Err (Store fault)) = Balked x old new fault
 UpgradeEnds x old new (Err _) = ⊥
 
 -- an upgrade of a station: it forgets what it took in, and speaks the version at which its rows are now. Where they went over it goes on,
 -- where they refused it stops; each row stands as it was
-pub record TakesUpgrade {R : Type 0} (x : Sight R) (old new : Station R) (result : Result (Unit {0}) StepRefusal) : Type 0 where
+pub record DoesUpgrade {R : Type 0} (x : Sight R) (old new : Station R) (result : Result (Unit {0}) StepRefusal) : Type 0 where
   pub fixed : IsFixed old new
   pub stands_for : StandsFor new.speaker.core []
   pub wire : new.speaker.wire ≡ x.version new.rows
@@ -41,7 +41,7 @@ pub record TakesUpgrade {R : Type 0} (x : Sight R) (old new : Station R) (result
 
 -- a call to upgrade a station, answered so: what `Station::upgrade` promises
 pub record IsUpgrade {R : Type 0} (g : Ghosts R) (old new : Station R) (answer : Result (Unit {0}) StepRefusal) : Type 0 where
-  pub takes : TakesUpgrade (sight g) old new answer
+  pub takes : DoesUpgrade (sight g) old new answer
   -- what held of the rows as the call ended held before, and rows that were made for the store stay so
   pub was_kept : g.kept new.rows → g.kept old.rows
   pub made : g.made old.rows → g.made new.rows

@@ -1,7 +1,6 @@
 -- One frame more: what holds at a position, from what holds at the one before it.
-use Rattle.std.proofs.Common.{◌≡◌, ℕ, zero, suc, ◌+◌, ◌<◌, List, [], ◌∷◌, ◌++◌, length, Option, Some, None, refl, sym, ap, ◌∙◌, arith, add-one}
+use Rattle.std.proofs.Common.{◌≡◌, ℕ, ◌+◌, List, [], ◌∷◌, ◌++◌, Option, Some, None, refl, sym, ap, ◌∙◌, add-one}
 use Rattle.std.specs.Prelude.{unwrap_or}
-use Rattle.tape_frames.specs.Frames.{AreFrames}
 use Rattle.code_table.specs.declared.case.Case.{Case}
 use Rattle.code_table.specs.declared.case.Case.TheVariants as cases
 use Rattle.slug_reader.specs.Positions.{before, last, or_else}
@@ -32,11 +31,6 @@ unfolding case_at
 case_more means tape i =
     rw (add-one, last_push (λ j. selected_by means (frame_at tape j)) (before i) i)
     (unwrap_or_else (selected_by means (frame_at tape i)) _ cases.Unshift)
-
-pub frame_small : (tape : List ℕ) → AreFrames tape → (i : ℕ) → i < length tape → frame_at tape i < 64
-frame_small [] small i lt = absurd (omega (arith, lt))
-frame_small (frame ∷ rest) small zero lt = small.0
-frame_small (frame ∷ rest) small (suc i) lt = frame_small rest small.1 i (omega (arith, lt))
 
 -- what a frame means where the case is that of its position
 pub meaning_is : (means : Meanings) (tape : List ℕ) (i : ℕ) (case : Case) → case ≡ case_at means tape i → means case (frame_at tape i) ≡ meaning_at means tape i

@@ -62,9 +62,6 @@ pub record ReadSoFar (members : List Member) (entries : List MatrixWidth) (left 
   pub names : map (λ e. e.name) entries ≡ map (λ m. string_bytes m.0) before
   pub widths : AllByRecursion (λ e. IsWidth e.width) entries
 
-pub starts : (members : List Member) → ReadSoFar members [] members
-starts members = record { before = []; all = refl; number = refl; read = refl; names = refl; widths = tt }
-
 all_more : {A : Type 0} (P : A → Type 0) (xs : List A) (x : A) → AllByRecursion P xs → P x → AllByRecursion P (xs ++ x ∷ [])
 all_more P [] x h p = (p, tt)
 all_more P (y ∷ ys) x h p = (h.0, all_more P ys x h.1 p)

@@ -16,14 +16,14 @@ use Rattle.refusals.specs.declared.refusal.StepRefusal.TheVariants.{Stopped, Bad
 use Rattle.node_core.specs.Standing.{StandsFor as CoreStandsFor}
 use Rattle.station.specs.declared.station.Station.{Station}
 use Rattle.station.specs.Stations.{Sight, sight}
-use Rattle.station.specs.Upgrading.{Balked, UpgradeEnds, TakesUpgrade}
+use Rattle.station.specs.Upgrading.{Balked, UpgradeEnds, DoesUpgrade}
 use Rattle.world.specs.declared.world.World.{World}
 use Rattle.world.specs.declared.step.Outcome.{Outcome}
 use Rattle.world.specs.declared.step.Step.TheVariants as steps
 use Rattle.world.specs.Setups.{StationCircuit, StationState}
 use Rattle.world.specs.Worlds.{IsSame}
 use Rattle.world.specs.Taking.{EndsAs, RowsRefused, IfTorn, WasTorn}
-use Rattle.world.specs.Logging.{upgrade_outcome, WentOver}
+use Rattle.world.specs.Logging.{upgrade_outcome, UpgradedAs}
 use Rattle.world.specs.Reach.{Shows, StandsFor, Moves}
 use Rattle.world.proofs.Members.{Changes, Elsewhere, is_member_of, with_at-other, with_at-same, with_at-self, shown, stands_after}
 use Rattle.world.proofs.Turning.{balky_sight, same_state, unarmed}
@@ -37,8 +37,8 @@ same_world v = record { stations = refl; sent = refl; offers = refl; releases = 
 module _ {R : Type 0} (x : Sight R) (refusals : R → ℕ) (z : StationCircuit) (v v' : World R) (w : StationState) (i m : ℕ) (s s' : Station (Balky R))
     (ch : Changes v v' i m s s') (h : StandsFor x.is_open x.saved x.version z v w)
     (sent : v'.sent.items ≡ v.sent.items) (offers : v'.offers.items ≡ v.offers.items) (releases : v'.releases.items ≡ v.releases.items)
-    (outcome : Outcome) (over : WentOver (balky_sight x refusals) s s' outcome) (kept : x.kept s'.rows.rows) where
-  t : TakesUpgrade (balky_sight x refusals) s s' over.0
+    (outcome : Outcome) (over : UpgradedAs (balky_sight x refusals) s s' outcome) (kept : x.kept s'.rows.rows) where
+  t : DoesUpgrade (balky_sight x refusals) s s' over.0
   t = over.1
 
   old : Shows x.is_open x.saved x.version h.tables h.files z w m s
@@ -194,5 +194,5 @@ module _ {R : Type 0} (g : Ghosts R) (v v' : World R) (i m : ℕ) (s s' : Statio
   torn_why (Err RoundsSpent) e = tt
   torn_why (Err OutOfMemory) e = tt
 
-  pub tells_upgrade : (outcome : Outcome) → WentOver (balky_sight (sight g) g.refusals) s s' outcome → IfTorn outcome (WasTorn g v v' m)
+  pub tells_upgrade : (outcome : Outcome) → UpgradedAs (balky_sight (sight g) g.refusals) s s' outcome → IfTorn outcome (WasTorn g v v' m)
   tells_upgrade outcome over = subst (λ (q : Outcome). IfTorn q (WasTorn g v v' m)) (sym over.2) (torn_why over.0 over.1.ends)

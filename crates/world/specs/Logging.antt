@@ -11,7 +11,7 @@ use Rattle.station.specs.declared.answer.Answer.{Answer}
 use Rattle.station.specs.declared.answer.Release.{Release}
 use Rattle.refusals.specs.declared.refusal.StepRefusal.{StepRefusal}
 use Rattle.station.specs.Stations.{Sight}
-use Rattle.station.specs.Upgrading.{TakesUpgrade}
+use Rattle.station.specs.Upgrading.{DoesUpgrade}
 use Rattle.station.specs.Readiness.{slugs_of}
 use Rattle.world.specs.declared.step.Outcome.{Outcome}
 use Rattle.world.specs.declared.step.Outcome.TheVariants as outcomes
@@ -50,8 +50,8 @@ upgrade_outcome (Ok done) = outcomes.Upgraded
 upgrade_outcome (Err refusal) = outcomes.Refused refusal
 
 -- a station took an upgrade, which ended so
-abbrev pub WentOver : {R : Type 0} → Sight R → Station R → Station R → Outcome → Type 0
-WentOver x old new o = (end : Result (Unit {0}) StepRefusal) × TakesUpgrade x old new end × (o ≡ upgrade_outcome end)
+abbrev pub UpgradedAs : {R : Type 0} → Sight R → Station R → Station R → Outcome → Type 0
+UpgradedAs x old new o = (end : Result (Unit {0}) StepRefusal) × DoesUpgrade x old new end × (o ≡ upgrade_outcome end)
 
 -- the offer to member m that a call makes, if it makes one
 abbrev pub offer_of : ℕ → Call → Option circuit.Offer

@@ -100,7 +100,7 @@ impl<R: Rows> World<R> {
     }
 
     /// Logs what a station answered. There is room for it.
-    pub(crate) fn take_in(&mut self, member: u8, step: Result<Answer, StepRefusal>) -> Seen
+    pub(crate) fn log_answer(&mut self, member: u8, step: Result<Answer, StepRefusal>) -> Seen
         requires sent { vec_len self.old.sent + most_sent ≤ vec_capacity self.old.sent }
         requires releases { vec_len self.old.releases < vec_capacity self.old.releases }
         requires few { length (out_of step) ≤ most_sent }

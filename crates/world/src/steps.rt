@@ -10,7 +10,7 @@ use crate::call::MemberCall;
 use crate::laws;
 use crate::log_growth::log_offer;
 use crate::step::{Outcome, RunStop, Seen, Step, WorldRefusal};
-use crate::upgrade::go_over;
+use crate::upgrade::upgrade_station;
 use crate::world::World;
 use line_check::laws::one_setting;
 use rows_saved::Rows;
@@ -114,7 +114,7 @@ impl<R: Rows> World<R> {
         self.make_room()?;
         let answer = call.ask(&mut self.stations[place]);
         log_offer(&mut self.offers, offer, &answer);
-        Ok(self.take_in(member, answer))
+        Ok(self.log_answer(member, answer))
     }
 
     /// A datagram comes to its addressee.
@@ -127,7 +127,7 @@ impl<R: Rows> World<R> {
         self.make_room()?;
         let datagram = &self.sent[k - 1];
         let step = self.stations[place].receive(datagram.bytes(), now);
-        Ok(self.take_in(member, step))
+        Ok(self.log_answer(member, step))
     }
 
     /// A member starts again.
@@ -144,7 +144,7 @@ impl<R: Rows> World<R> {
         ensures { Stepped R.Rows (Step.Upgrade member) self.old self.new result }
     {
         let place = self.place(member)?;
-        let outcome = go_over(&mut self.stations[place]);
+        let outcome = upgrade_station(&mut self.stations[place]);
         Ok(self.unsent(member, outcome))
     }
 

@@ -38,7 +38,7 @@ pub fn puts<R: Rows>(alloc: Global, rows: &mut R, numbered: &Numbered) -> Option
 }
 
 /// Whether the rows go over to version 2. Where that is refused, each read is refused from then on, or this answers nothing.
-pub fn goes_over<R: Rows>(rows: &mut R) -> Option<bool> {
+pub fn upgrades<R: Rows>(rows: &mut R) -> Option<bool> {
     if rows.upgrade().is_ok() {
         return (rows.version() == Version::Two).then_some(true);
     }

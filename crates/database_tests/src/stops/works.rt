@@ -6,7 +6,7 @@ use crate::stops::disks::{
     Database, Disks, Left, Side, Stored, close, ended, opened, opened_in_life, reopened, stopping,
     taken,
 };
-use crate::stops::saves::{Numbered, are_there, goes_over, puts, settled};
+use crate::stops::saves::{Numbered, are_there, puts, settled, upgrades};
 use crate::stops::stations::{offered, served, sought};
 use acceptor_store::{SqliteRows, into_files};
 use fixtures::{FLOOD, LIGATURE};
@@ -118,7 +118,7 @@ fn put_over<R: Rows>(alloc: Global, rows: &mut R, work: Work) -> Option<Told> {
     if told.refused || work != Work::Upgrade {
         return Some(told);
     }
-    let refused = !goes_over(rows)?;
+    let refused = !upgrades(rows)?;
     Some(Told { refused, ..told })
 }
 

@@ -9,7 +9,7 @@ use Rattle.rows_table.specs.Entries.{with_entries}
 use Rattle.rows_saved.specs.Saved.{IsListOf}
 use Rattle.acceptor_store.specs.Columns.{saved_in}
 use Rattle.acceptor_store.specs.RowsAsEntries.{MovesMap, HoldsMap}
-use Rattle.acceptor_store.specs.Sqlite.{Stands, WentOver}
+use Rattle.acceptor_store.specs.Sqlite.{Stands, UpgradedRows}
 use Rattle.acceptor_store.proofs.StandLemmas.{IsSettled, stands_kept, leaves_now, holds_all}
 use Rattle.acceptor_store.proofs.UpgradeLemmas.{ok_after, err_after, over_since, kept_since, left_since}
 use Rattle.acceptor_store.proofs.upgrade.move_rows.Goals as goal
@@ -28,7 +28,7 @@ returns g c = record {
       let listed : IsListOf (saved_in One (state g.S.Store mid).now.trees) c.in_ok-items.items.items =
       subst (λ (d : Database). IsListOf (saved_in One d.trees) c.in_ok-items.items.items) (sym kept.same) (c.in_ok-items.ensures.listed stands.serves early) in
       let map : HoldsMap (saved_in One (state g.S.Store mid).now.trees) (with_entries c.in-Ok.entries.items []) = moves (saved_in One (state g.S.Store mid).now.trees) listed in
-      ok_after c.move_entries.result (WentOver g.S.Store One i mid new) (WentOver g.S.Store One i old new) (over_since g.S.Store i old mid new kept)
+      ok_after c.move_entries.result (UpgradedRows g.S.Store One i mid new) (UpgradedRows g.S.Store One i old new) (over_since g.S.Store i old mid new kept)
       ((rw c.as_slice-2.ensures.value at c.move_entries.ensures.over) i still map opened clean);
   kept = λ i stands clean opened.
       let old = c.args.conn.now in

@@ -24,8 +24,8 @@ returns-in_err-ask_all g c =
 pub returns : goal.returns
 returns g c =
     record {
-      hands = hands_then c.args.driver.now c.ask_all.new.driver c.take_turns.new.driver c.in_ok-ask_all.ensures.hands c.take_turns.ensures.hands;
+      hands = hands_then c.args.driver.now c.ask_all.new.driver c.run_turns.new.driver c.in_ok-ask_all.ensures.hands c.run_turns.ensures.hands;
       done = and_then (known g.R.Rows g.R.Settles.is_settled g.N.Wire.passed (fate_of g.S.Sink)) g.S.Sink.may g.met.S.Sink.fates
-          (post_of c.args.driver.now) (post_of c.ask_all.new.driver) (post_of c.take_turns.new.driver) (ended c.take_turns.result) (IsAsking c.args.task.offer c.args.task.withdraw c.args.task.seek) (AreTurns c.args.task.turns)
-          c.in_ok-ask_all.ensures.done c.take_turns.ensures.done;
+          (post_of c.args.driver.now) (post_of c.ask_all.new.driver) (post_of c.run_turns.new.driver) (ended c.run_turns.result) (IsAsking c.args.task.offer c.args.task.withdraw c.args.task.seek) (AreTurns c.args.task.turns)
+          c.in_ok-ask_all.ensures.done c.run_turns.ensures.done;
     }

@@ -4,7 +4,7 @@ use Rattle.sqlite_trees.specs.Tree.{Trees}
 use Rattle.rows_table.specs.declared.layout.Layout.{Layout}
 use Rattle.rows_saved.specs.Saved.{SameRows}
 use Rattle.acceptor_store.specs.Layouts.{upgraded_from}
-use Rattle.acceptor_store.specs.Sqlite.{IsOfStation, Stands, StemsFrom, WentOver}
+use Rattle.acceptor_store.specs.Sqlite.{IsOfStation, Stands, StemsFrom, UpgradedRows}
 use Rattle.acceptor_store.specs.Columns.{saved_in}
 use Rattle.acceptor_store.proofs.StandLemmas.{same_rows, upgrade_stems}
 use Rattle.acceptor_store.proofs.sqlite_rows.SqliteRowsRows.upgrade.Goals as goal
@@ -16,9 +16,9 @@ invariant_of-self-in-Ok g c = (
       let layout = c.self.inside.layout in
       let stands : Stands g.S.Store layout c.self.inside.conn c.self.inside.identity = c.self.invariant.1 running ours in
       let over = c.in-Ok.ensures.over c.self.inside.identity stands in
-      let after : Stands g.S.Store (upgraded_from layout) c.go_over.new.conn c.self.inside.identity =
+      let after : Stands g.S.Store (upgraded_from layout) c.upgrade_rows.new.conn c.self.inside.identity =
       record { serves = λ clean. (over clean).stands.serves clean; holds = λ clean. (over clean).stands.holds clean } in
-      subst (λ (l : Layout). Stands g.S.Store l c.go_over.new.conn c.self.inside.identity) (sym c.upgraded_from-self-inside.ensures) after,
+      subst (λ (l : Layout). Stands g.S.Store l c.upgrade_rows.new.conn c.self.inside.identity) (sym c.upgraded_from-self-inside.ensures) after,
 )
 
 pub returns-in-Ok-clause-same : goal.returns-in-Ok-clause-same
@@ -27,8 +27,8 @@ returns-in-Ok-clause-same g c = rw (← c.self.view_is) (λ kept opened.
     let layout = c.self.inside.layout in
     let stands : Stands g.S.Store layout c.self.inside.conn c.self.inside.identity = c.self.invariant.1 running kept.1 in
     let old = state g.S.Store c.self.inside.conn in
-    let new = state g.S.Store c.go_over.new.conn in
-    let went : WentOver g.S.Store layout c.self.inside.identity c.self.inside.conn c.go_over.new.conn =
+    let new = state g.S.Store c.upgrade_rows.new.conn in
+    let went : UpgradedRows g.S.Store layout c.self.inside.identity c.self.inside.conn c.upgrade_rows.new.conn =
     c.in-Ok.ensures.over c.self.inside.identity stands kept.0 in
     subst (λ (l : Layout). SameRows (saved_in layout old.now.trees) (saved_in l new.now.trees)) (sym c.upgraded_from-self-inside.ensures) went.same)
 
@@ -45,8 +45,8 @@ returns-in-Ok-clause-call g c = record {
           let layout = c.self.inside.layout in
           let stands : Stands g.S.Store layout c.self.inside.conn c.self.inside.identity = c.self.invariant.1 running kept.1 in
           let old = state g.S.Store c.self.inside.conn in
-          let new = state g.S.Store c.go_over.new.conn in
-          let went : WentOver g.S.Store layout c.self.inside.identity c.self.inside.conn c.go_over.new.conn =
+          let new = state g.S.Store c.upgrade_rows.new.conn in
+          let went : UpgradedRows g.S.Store layout c.self.inside.identity c.self.inside.conn c.upgrade_rows.new.conn =
           c.in-Ok.ensures.over c.self.inside.identity stands kept.0 in
           went.was_open);
     };
@@ -55,8 +55,8 @@ returns-in-Ok-clause-call g c = record {
         let layout = c.self.inside.layout in
         let stands : Stands g.S.Store layout c.self.inside.conn c.self.inside.identity = c.self.invariant.1 running kept.1 in
         let old = state g.S.Store c.self.inside.conn in
-        let new = state g.S.Store c.go_over.new.conn in
-        let went : WentOver g.S.Store layout c.self.inside.identity c.self.inside.conn c.go_over.new.conn =
+        let new = state g.S.Store c.upgrade_rows.new.conn in
+        let went : UpgradedRows g.S.Store layout c.self.inside.identity c.self.inside.conn c.upgrade_rows.new.conn =
         c.in-Ok.ensures.over c.self.inside.identity stands kept.0 in
         went.is_open);
     blames = tt;
@@ -72,8 +72,8 @@ returns-in-Ok-clause-crash_ok g c = rw (← c.self.view_is) (λ kept left may.
     let layout = c.self.inside.layout in
     let stands : Stands g.S.Store layout c.self.inside.conn c.self.inside.identity = c.self.invariant.1 running kept.1 in
     let old = state g.S.Store c.self.inside.conn in
-    let new = state g.S.Store c.go_over.new.conn in
-    let went : WentOver g.S.Store layout c.self.inside.identity c.self.inside.conn c.go_over.new.conn =
+    let new = state g.S.Store c.upgrade_rows.new.conn in
+    let went : UpgradedRows g.S.Store layout c.self.inside.identity c.self.inside.conn c.upgrade_rows.new.conn =
     c.in-Ok.ensures.over c.self.inside.identity stands kept.0 in
     let is : c.upgraded_from-self-inside.result ≡ upgraded_from layout = c.upgraded_from-self-inside.ensures in
     λ n. ap (λ m. m n) may.2 ∙ ap (λ (l : Layout). saved_in l may.0 n) is ∙ ap (λ (t : Trees). saved_in (upgraded_from layout) t n) (went.crash may.0 may.1) ∙ went.same n)
@@ -84,8 +84,8 @@ returns-in-Ok-clause-crash_station g c = rw (← c.self.view_is) (λ kept db may
     let layout = c.self.inside.layout in
     let stands : Stands g.S.Store layout c.self.inside.conn c.self.inside.identity = c.self.invariant.1 running kept.1 in
     let old = state g.S.Store c.self.inside.conn in
-    let new = state g.S.Store c.go_over.new.conn in
-    let went : WentOver g.S.Store layout c.self.inside.identity c.self.inside.conn c.go_over.new.conn =
+    let new = state g.S.Store c.upgrade_rows.new.conn in
+    let went : UpgradedRows g.S.Store layout c.self.inside.identity c.self.inside.conn c.upgrade_rows.new.conn =
     c.in-Ok.ensures.over c.self.inside.identity stands kept.0 in
     subst (λ (l : Layout). IsOfStation l c.self.inside.identity db) (sym c.upgraded_from-self-inside.ensures)
     (subst (IsOfStation (upgraded_from layout) c.self.inside.identity) (sym (went.crash db may)) (went.stands.holds kept.0 went.is_open)))
@@ -96,7 +96,7 @@ returns-in-Err-clause-same g c = rw (← c.self.view_is) (λ kept opened.
     let layout = c.self.inside.layout in
     let stands : Stands g.S.Store layout c.self.inside.conn c.self.inside.identity = c.self.invariant.1 running kept.1 in
     let old = state g.S.Store c.self.inside.conn in
-    let new = state g.S.Store c.go_over.new.conn in
+    let new = state g.S.Store c.upgrade_rows.new.conn in
     same_rows layout old new (c.in-Err.ensures.kept c.self.inside.identity stands kept.0 opened).same)
 
 pub returns-in-Err-clause-call : goal.returns-in-Err-clause-call
@@ -112,7 +112,7 @@ returns-in-Err-clause-call g c = record {
           let layout = c.self.inside.layout in
           let stands : Stands g.S.Store layout c.self.inside.conn c.self.inside.identity = c.self.invariant.1 running kept.1 in
           let old = state g.S.Store c.self.inside.conn in
-          let new = state g.S.Store c.go_over.new.conn in
+          let new = state g.S.Store c.upgrade_rows.new.conn in
           (c.in-Err.ensures.kept c.self.inside.identity stands kept.0 opened).was_open);
     };
     opened = search rules;
@@ -124,7 +124,7 @@ returns-in-Err-clause-call g c = record {
               let layout = c.self.inside.layout in
               let stands : Stands g.S.Store layout c.self.inside.conn c.self.inside.identity = c.self.invariant.1 running kept.1 in
               let old = state g.S.Store c.self.inside.conn in
-              let new = state g.S.Store c.go_over.new.conn in
+              let new = state g.S.Store c.upgrade_rows.new.conn in
               c.in-Err.ensures.refusal c.self.inside.identity stands kept.0,
         ));
   };

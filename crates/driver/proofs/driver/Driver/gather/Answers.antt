@@ -10,7 +10,7 @@ pub returns-in-Ok-Some : goal.returns-in-Ok-Some
 returns-in-Ok-Some g c =
     let k = known g.R.Rows g.R.Settles.is_settled g.N.Wire.passed (fate_of g.S.Sink) in
     let old = c.args.self.now in
-    let mid = c.take_up.new.self in
+    let mid = c.receive_next.new.self in
     let q = sends_of c.args.group.now in
     let step = c.in-Ok-Some.step in
     let took = c.in-Ok-Some.ensures.took in
@@ -27,7 +27,7 @@ returns-in-Ok-None g c =
     let k = known g.R.Rows g.R.Settles.is_settled g.N.Wire.passed (fate_of g.S.Sink) in
     let q = sends_of c.args.group.now in
     let old = post_behind c.args.self.now q in
-    let new = post_behind c.take_up.new.self q in
+    let new = post_behind c.receive_next.new.self q in
     let took = c.in-Ok-None.ensures.took in
     record {
       hands = took.hands;
@@ -42,5 +42,5 @@ returns-in-Err g c =
     let took = c.in-Err.ensures.took in
     record {
       hands = took.hands;
-      done = of_form (known g.R.Rows g.R.Settles.is_settled g.N.Wire.passed (fate_of g.S.Sink)) (post_behind c.args.self.now q) (post_behind c.take_up.new.self q) (end_of c.in-Err.fault) (IsTakingIn c.args.now) (IsTakingUp c.args.now) (λ log done form. inl form) (took.up q);
+      done = of_form (known g.R.Rows g.R.Settles.is_settled g.N.Wire.passed (fate_of g.S.Sink)) (post_behind c.args.self.now q) (post_behind c.receive_next.new.self q) (end_of c.in-Err.fault) (IsTakingIn c.args.now) (IsTakingUp c.args.now) (λ log done form. inl form) (took.up q);
     }

@@ -8,7 +8,7 @@ pub returns-in-Ok-Some : goal.returns-in-Ok-Some
 returns-in-Ok-Some g c =
     let k = known g.R.Rows g.R.Settles.is_settled g.N.Wire.passed (fate_of g.S.Sink) in
     let old = c.args.self.now in
-    let mid = c.take_up.new.self in
+    let mid = c.receive_next.new.self in
     let new = c.hand_on.new.self in
     let step = c.in-Ok-Some.step in
     let held = took_one k g.S.Sink.may g.met.S.Sink.fates (IsReceiving c.args.now) (IsTakingIn c.args.now) (post_of old) (post_of mid) (Ok c.in-Ok-Some.field-0) step (ap Ok c.in-Ok-Some.field-0-is) (c.in-Ok-Some.ensures.took.up []) in
@@ -22,7 +22,7 @@ pub returns-in-Ok-None : goal.returns-in-Ok-None
 returns-in-Ok-None g c =
     record {
       hands = c.in-Ok-None.ensures.took.hands;
-      done = took_no_more (known g.R.Rows g.R.Settles.is_settled g.N.Wire.passed (fate_of g.S.Sink)) g.S.Sink.may g.met.S.Sink.fates (IsReceiving c.args.now) (IsTakingIn c.args.now) (post_of c.args.self.now) (post_of c.take_up.new.self) (Ok c.in-Ok-None.field-0) (ap Ok c.in-Ok-None.field-0-is)
+      done = took_no_more (known g.R.Rows g.R.Settles.is_settled g.N.Wire.passed (fate_of g.S.Sink)) g.S.Sink.may g.met.S.Sink.fates (IsReceiving c.args.now) (IsTakingIn c.args.now) (post_of c.args.self.now) (post_of c.receive_next.new.self) (Ok c.in-Ok-None.field-0) (ap Ok c.in-Ok-None.field-0-is)
           (c.in-Ok-None.ensures.took.up []);
     }
 

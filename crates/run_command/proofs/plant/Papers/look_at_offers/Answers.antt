@@ -7,7 +7,7 @@ pub returns-in-Err : goal.returns-in-Err
 returns-in-Err g c = looked_none _ _ _ _ c.list.ensures (follows_same _ _ refl)
 
 pub returns-in-Some-Ok : goal.returns-in-Some-Ok
-returns-in-Some-Ok g c = looked_none _ _ _ _ c.list.ensures c.take_seen.ensures
+returns-in-Some-Ok g c = looked_none _ _ _ _ c.list.ensures c.see_ended.ensures
 
 pub returns-in-Some-Err : goal.returns-in-Some-Err
 returns-in-Some-Err g c = looked_none _ _ _ _ c.list.ensures (follows_same _ _ refl)

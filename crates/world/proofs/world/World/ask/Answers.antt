@@ -13,15 +13,15 @@ pub returns : goal.returns
 returns g c =
     let v = c.args.self.now in
     let v1 = c.make_room.new.self in
-    let v' = c.take_in.new.self in
+    let v' = c.log_answer.new.self in
     let s = c.index_mut.result.now in
     let s' = c.ask-answer.new.station in
     let o = c.in_ok-place.ensures in
     let same = c.make_room.ensures.same in
-    let t = c.take_in.ensures in
+    let t = c.log_answer.ensures in
     let e = c.ask-answer.ensures in
     let ch = changed_in v v1 v' c.in_ok-place.place c.args.member s s' same o.place o.within c.index_mut.ensures.value (ap (λ q. q.items) t.stations) in
     let offers = ap (λ q. q.items) t.offers ∙ (rw c.in-Ok.ensures at c.log_offer.ensures) in
-    stepped g.R.Rows v v1 v' (step_of c.args.member c.args.call) c.in_ok-place.place c.args.member (call_of c.args.call) s s' c.ask-answer.result c.take_in.result
+    stepped g.R.Rows v v1 v' (step_of c.args.member c.args.call) c.in_ok-place.place c.args.member (call_of c.args.call) s s' c.ask-answer.result c.log_answer.result
     (call_brings v c.args.member c.args.call o.found) same ch t.sent offers t.releases t.seen c.one_setting.ensures
     (record { steps = e.steps; was_kept = e.was_kept; made = e.made; blames = e.blames; version = e.version; wire = e.wire })

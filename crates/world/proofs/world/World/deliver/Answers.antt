@@ -14,12 +14,12 @@ pub returns : goal.returns
 returns g c =
     let v = c.args.self.now in
     let v1 = c.make_room.new.self in
-    let v' = c.take_in.new.self in
+    let v' = c.log_answer.new.self in
     let s = c.index_mut.result.now in
     let s' = c.receive-step.new.self in
     let o = c.in_ok-place.ensures in
     let same = c.make_room.ensures.same in
-    let t = c.take_in.ensures in
+    let t = c.log_answer.ensures in
     let e = c.receive-step.ensures in
     let a = c.in_ok-member.ensures in
     let brings =
@@ -27,6 +27,6 @@ returns g c =
     (deliver_brings v v1 c.args.k c.in_ok-member.member c.args.now c.index-datagram.result.now same a.low a.high c.index-datagram.ensures a.found o.found) in
     let ch = changed_in v v1 v' c.in_ok-place.place c.in_ok-member.member s s' same o.place o.within c.index_mut.ensures.value (ap (λ q. q.items) t.stations) in
     let offers = ap (λ q. q.items) t.offers ∙ sym (append-nil v1.offers.items) in
-    stepped g.R.Rows v v1 v' (steps.Deliver c.args.k c.args.now) c.in_ok-place.place c.in_ok-member.member (Receiving c.bytes.result.now c.args.now) s s' c.receive-step.result c.take_in.result
+    stepped g.R.Rows v v1 v' (steps.Deliver c.args.k c.args.now) c.in_ok-place.place c.in_ok-member.member (Receiving c.bytes.result.now c.args.now) s s' c.receive-step.result c.log_answer.result
     brings same ch t.sent offers t.releases t.seen c.one_setting.ensures
     (record { steps = e.steps; was_kept = e.was_kept; made = e.made; blames = e.blames; version = e.version; wire = e.wire })

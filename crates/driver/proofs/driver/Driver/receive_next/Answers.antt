@@ -8,7 +8,7 @@ use Rattle.driver.specs.TakingIn.{paced_by}
 use Rattle.driver.specs.declared.pacing.Pacing.{Pacing}
 use Rattle.driver.specs.declared.said.Said.{Said}
 use Rattle.driver.specs.declared.taking_in.Received.TheVariants.{Nothing, Failed, Beside, Taken, Refused}
-use Rattle.driver.proofs.driver.Driver.take_up.Goals as goal
+use Rattle.driver.proofs.driver.Driver.receive_next.Goals as goal
 
 -- the pace that heard what is said heard what an equal thing says
 paced_so : (p new : Pacing) (now : ℕ) (s t : Option Said) → s ≡ t → new ≡ paced_by s now p → new ≡ paced_by t now p

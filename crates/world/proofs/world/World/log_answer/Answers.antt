@@ -1,7 +1,7 @@
 -- There is room for what the answer holds.
 use Rattle.std.proofs.Common.{◌≤◌, length, arith}
 use Rattle.world.specs.Logging.{out_of}
-use Rattle.world.proofs.world.World.take_in.Goals as goal
+use Rattle.world.proofs.world.World.log_answer.Goals as goal
 
 pub log_all-requires : goal.log_all-requires
 log_all-requires g c =

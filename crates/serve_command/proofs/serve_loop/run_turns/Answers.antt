@@ -8,7 +8,7 @@ use Rattle.driver.proofs.Stretches.{ends_badly}
 use Rattle.driver.specs.Driving.{known, fate_of, post_of, IsTurn, AtClock, Then}
 use Rattle.driver.proofs.Driven.{nothing, and_then, hands_then, of_form, answered}
 use Rattle.serve_command.specs.Serving.{AreTurns, none, one_more}
-use Rattle.serve_command.proofs.serve_loop.take_turns.Goals as goal
+use Rattle.serve_command.proofs.serve_loop.run_turns.Goals as goal
 
 pub loop-init : goal.loop-init
 loop-init g c =

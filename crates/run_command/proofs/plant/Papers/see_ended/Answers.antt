@@ -1,7 +1,7 @@
 -- One part after the other; or the first waits for its turn.
 use Rattle.std.proofs.Common.{refl}
 use Rattle.run_command.proofs.Looking.{follows_same, follows_then}
-use Rattle.run_command.proofs.plant.Papers.take_seen.Goals as goal
+use Rattle.run_command.proofs.plant.Papers.see_ended.Goals as goal
 
 pub returns-then-is_crowded : goal.returns-then-is_crowded
 returns-then-is_crowded g c = follows_same _ _ refl
