@@ -48,21 +48,21 @@ IsOffer texts asked offer = MatchOption asked (MatchOption offer (Unit {0}) (λ 
 -- the rows were made for the station in this version, or taken up as the station's where none are to be made
 abbrev pub AreRowsOf :
     {R : Type 0} → Option Version → (Identity → Version → R → Type 0) → (Option Identity → R → Type 0) → Identity → R → Type 0
-AreRowsOf making makes opens i rows = MatchOption making (opens (Some i) rows) (λ version. makes i version rows)
+AreRowsOf create makes opens i rows = MatchOption create (opens (Some i) rows) (λ version. makes i version rows)
 
 -- so were the rows at this path, in these files of rows
 abbrev pub AreRowsAt :
     {F R : Type 0} → (F → List ℕ → Identity → Version → Type 0) → (F → List ℕ → Option Identity → R → Type 0) → (R → protocol.Version)
     → F → List ℕ → Option Version → Identity → R → Type 0
-AreRowsAt leaves opens version_in files path making i rows =
-    AreRowsOf making (AreMade leaves opens version_in files path) (opens files path) i rows
+AreRowsAt leaves opens version_in files path create i rows =
+    AreRowsOf create (AreMade leaves opens version_in files path) (opens files path) i rows
 
 -- so were the rows that the configuration of a launch names, for its station
 abbrev pub AreRowsFor :
     {F R : Type 0} → (F → List ℕ → Identity → Version → Type 0) → (F → List ℕ → Option Identity → R → Type 0) → (R → protocol.Version)
     → F → Launch → R → Type 0
 AreRowsFor leaves opens version_in files launch rows =
-    AreRowsAt leaves opens version_in files (string_bytes launch.config.now.rows) launch.making (identity_of (file_of launch.config.now)) rows
+    AreRowsAt leaves opens version_in files (string_bytes launch.config.now.rows) launch.create (identity_of (file_of launch.config.now)) rows
 
 -- the wire was opened at the member's own address among those of all stations, and sends to these, under these keys if there are such
 abbrev pub IsWireAmong : {N : Type 0} → (N → Address → List Address → Option Keys → Type 0) → List Address → ℕ → Option Keys → N → Type 0

@@ -211,7 +211,7 @@ fn run_at<'a, F: RowFiles, E: Write>(
     let launch = Launch {
         config,
         keys,
-        making: plan.create,
+        create: plan.create,
         offer: None,
     };
     let running = Running {

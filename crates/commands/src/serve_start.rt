@@ -34,7 +34,7 @@ fn serve_from<'a, F: RowFiles, W: Write, E: Write>(
     let launch = Launch {
         config,
         keys: keys_of(rt, config)?,
-        making: plan.create,
+        create: plan.create,
         offer: plan.offer,
     };
     let Started {

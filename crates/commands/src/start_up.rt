@@ -50,7 +50,7 @@ pub struct Launch<'a> {
     /// The keys of its circuit, where its wire is sealed.
     pub keys: Option<Keys>,
     /// The version that its saved rows are made in, where they are made.
-    pub making: Option<Version>,
+    pub create: Option<Version>,
     /// What it offers first, if anything.
     pub offer: Option<TapeOffer<'a>>,
 }
@@ -81,13 +81,13 @@ fn rows_of<H: Host, F: RowFiles>(
     ground: &Ground<'_, H, F>,
     path: &str,
     identity: Identity,
-    making: Option<Version>,
+    create: Option<Version>,
 ) -> Result<F::Rows, RefusedRows>
     requires { IsIdentity identity }
-    ensures rows { IfOk result (AreRowsAt F.leaves F.opens F.Rows.version ground.now.row_files.now path.now making identity) }
+    ensures rows { IfOk result (AreRowsAt F.leaves F.opens F.Rows.version ground.now.row_files.now path.now create identity) }
     ensures open { IfOk result (λ rows. F.Rows.kept rows → F.Rows.is_open rows) }
 {
-    match making {
+    match create {
         Some(version) => {
             let new = NewRows {
                 path,
@@ -218,13 +218,13 @@ pub fn start<'a, H: Host, F: RowFiles>(
     let Launch {
         config,
         keys,
-        making,
+        create,
         offer,
     } = launch;
     let rt = ground.rt;
     let files = read_files(rt.alloc(), ground.host, config, offer)?;
     let identity = identity_of(config);
-    let rows = rows_of(ground, &config.rows, identity, making)?;
+    let rows = rows_of(ground, &config.rows, identity, create)?;
     let stations = Vec::from_slice(rt.alloc(), config.stations.as_slice())?;
     let wire = wire_of(ground.host, config.member, stations, keys)?;
     let rows = Grouped::new(rt.alloc(), rows);
