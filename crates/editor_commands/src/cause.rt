@@ -9,6 +9,7 @@ use command_ends::{CommandFault, End, Fault};
 use std::alloc::AllocError;
 use std::fmt;
 use streams::CannotWrite;
+use tape_frames::TapeFault;
 use text_tape::{PunchError, PunchFault};
 use text_words::TextPlace;
 
@@ -57,10 +58,13 @@ impl<'a> fmt::Display for EditorFault<'a> {
             EditorFault::Other(fault) => write!(f, "{fault}"),
             EditorFault::Text(fault) => write!(f, "{fault}"),
             EditorFault::EmptyText => write!(f, "{}", PunchError::Empty),
-            EditorFault::NoFrame { at, byte } => write!(
-                f,
-                "tape: bad frame at {at}\nbyte {byte} is no frame: circuitd punch makes a tape of a text"
-            ),
+            EditorFault::NoFrame { at, byte } => {
+                let fault = Fault::of_tape(TapeFault::BadFrame { at: *at });
+                write!(
+                    f,
+                    "{fault}\nbyte {byte} is no frame: circuitd punch makes a tape of a text"
+                )
+            }
             EditorFault::NoCode { piece, place } => {
                 let (line, column) = (place.line, place.column);
                 write!(
