@@ -10,6 +10,7 @@ use command_ends::{CommandFault, End, Fault};
 use configuration::{Config, WorkFolders};
 use host_folders::{HostFolders, Misplaced, PlantPaths, why_misplaced};
 use host_process::file_limit;
+use plant_commands::MisplacedText;
 use std::alloc::AllocError;
 use std::fmt;
 
@@ -50,7 +51,7 @@ impl<'a> fmt::Display for PlantFault<'a> {
             PlantFault::Limited(limit) => {
                 write!(f, "limit: no file may have more than {limit} bytes")
             }
-            PlantFault::Misplaced(reason) => write!(f, "folders: {reason}"),
+            PlantFault::Misplaced(reason) => write!(f, "{}", MisplacedText(*reason)),
             PlantFault::StatusMisplaced(reason) => write!(f, "folders: {reason}"),
         }
     }

@@ -1,10 +1,20 @@
 //! The folders that a configuration names.
 
 use configuration::{Config, WorkFolders};
-use host_folders::{PlantPaths, why_misplaced, why_no_folder};
-use std::io;
+use host_folders::{Misplaced, PlantPaths, why_misplaced, why_no_folder};
 use std::io::Write;
+use std::{fmt, io};
 use streams::CannotWrite;
+
+/// Why a plant is not run where it lies, as `folders: offers holds the table`.
+#[derive(Clone, Copy)]
+pub struct MisplacedText(pub Misplaced);
+
+impl fmt::Display for MisplacedText {
+    fn fmt<W: fmt::Write>(&self, f: &mut fmt::Formatter<W>) -> fmt::Result {
+        write!(f, "folders: {}", self.0)
+    }
+}
 
 /// Writes why a folder does not serve, if it does not; whether it does.
 fn put_folder<W: Write>(rt: &HostRuntime, name: &str, path: &str, out: &mut W) -> io::Result<bool> {
@@ -26,7 +36,7 @@ fn put_misplaced<W: Write>(
     match why_misplaced(rt, paths) {
         None => Ok(true),
         Some(reason) => {
-            writeln!(out, "fault: folders: {reason}")?;
+            writeln!(out, "fault: {}", MisplacedText(reason))?;
             Ok(false)
         }
     }

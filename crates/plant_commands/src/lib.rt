@@ -9,4 +9,5 @@ mod key_check;
 mod stopping;
 
 pub use checking::check_config;
+pub use folders_check::MisplacedText;
 pub use stopping::stop;
