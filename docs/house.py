@@ -3,12 +3,12 @@
 
 usage: house.py [--list | --check]
 
-Counted are all crates but those of tests.
+Functions and types are counted in all crates, clauses and the walk in all but those of tests.
   clauses   Each `ensures` and `requires` of a function, on however many lines. It is repeated where one of the same word, name and text
             stands before it in another place; white space does not count. So of three that are alike two are repeated. It is long where
             its text, which is what stands between its braces, has more than 160 characters.
   functions of more than four parameters. `self` is not counted.
-  types     Names of structs, enums, traits and types, private ones too, that stand in more than one crate.
+  types     Names of structs, enums, traits and types, private ones too, that several have.
   the walk  What a reader passes from the call `take_datagram`, by which an Accept is taken in, to the file of its galley. LEGS are the calls
             that the loop makes for it, each with the calls in which it ends. A function lies on the way where a leg begins with it, or calls
             it, be it through others, and it is an end of that leg, or calls one in the same manner. The walk are the functions on the way,
@@ -47,7 +47,7 @@ TOP = os.path.dirname(os.path.dirname(os.path.abspath(__file__)))
 MOST_REPEATED, MOST_LONG, MOST_FUNCTIONS, MOST_TYPES = 259, 0, 0, 0
 MOST_CALLS, MOST_FILES, MOST_CRATES = 130, 48, 16
 MOST_CHARACTERS, MOST_PARAMETERS = 160, 4
-# names of types that may stand in more than one crate
+# names that several types may have
 ALLOWED = set()
 
 # where the walk goes: a crate's function, and those of its calls in which the leg ends
@@ -302,8 +302,7 @@ def is_of_tests(crate):
 
 
 def read_sources():
-    paths = sorted(glob.glob("crates/*/src/**/*.rt", root_dir=TOP, recursive=True))
-    return [Source(path) for path in paths if not is_of_tests(path.split("/")[1])]
+    return [Source(path) for path in sorted(glob.glob("crates/*/src/**/*.rt", root_dir=TOP, recursive=True))]
 
 
 # Who calls whom
@@ -549,20 +548,21 @@ def wide_functions(sources):
 
 
 def shared_types(sources):
-    """The places of each name that several crates give a type."""
-    places = collections.defaultdict(dict)
+    """The places of each name that several types have."""
+    places = collections.defaultdict(list)
     for source in sources:
         for declared in source.types:
-            places[declared.key[1]].setdefault(source.crate, f"{declared.place}: {declared.kind} {declared.key[1]}")
-    return {name: list(found.values()) for name, found in sorted(places.items()) if len(found) > 1 and name not in ALLOWED}
+            places[declared.key[1]].append(f"{declared.place}: {declared.kind} {declared.key[1]}")
+    return {name: found for name, found in sorted(places.items()) if len(found) > 1 and name not in ALLOWED}
 
 
 def figures_of(sources):
     """Each figure: what it is, how many there are, how many there may be, and the items behind it."""
-    clauses = [clause for source in sources for clause in source.clauses]
+    of_product = [source for source in sources if not is_of_tests(source.crate)]
+    clauses = [clause for source in of_product for clause in source.clauses]
     repeated = repeated_clauses(clauses)
     long = [f"{clause.place}: {clause.keyword} {clause.name}: {len(clause.text)}" for clause in clauses if len(clause.text) > MOST_CHARACTERS]
-    wide, shared, walk = list(wide_functions(sources)), shared_types(sources), walk_of(sources)
+    wide, shared, walk = list(wide_functions(sources)), shared_types(sources), walk_of(of_product)
     told = [f"{len(places)} times {text}\n    " + "\n    ".join(places) for text, places in repeated]
     files = sorted({function.source.path for function in walk})
     crates = sorted({function.source.crate for function in walk})
@@ -571,7 +571,7 @@ def figures_of(sources):
         ("repeated clauses", sum(len(places) - 1 for _, places in repeated), MOST_REPEATED, told),
         (f"clauses of more than {MOST_CHARACTERS} characters", len(long), MOST_LONG, long),
         (f"functions of more than {MOST_PARAMETERS} parameters", len(wide), MOST_FUNCTIONS, wide),
-        ("names of types that stand in several crates", len(shared), MOST_TYPES, ["\n    ".join([name, *places]) for name, places in shared.items()]),
+        ("names that several types have", len(shared), MOST_TYPES, ["\n    ".join([name, *places]) for name, places in shared.items()]),
         ("functions on the walk", len(walk), MOST_CALLS, walk),
         ("files on the walk", len(files), MOST_FILES, files),
         ("crates on the walk", len(crates), MOST_CRATES, crates),

@@ -2,12 +2,12 @@
 
 ghost use Rattle.std.specs.Prelude.{◌≤◌};
 
-use crate::rows::Agreed::{Flood, Harvest, Ligature, Void};
-use crate::rows::{Agreed, At};
+use crate::rows::AgreedOn::{Flood, Harvest, Ligature, Void};
+use crate::rows::{AgreedOn, PlainBallot};
 use fixtures::Dice;
 
 /// A ballot of one of three rounds and of one of so many members.
-pub fn drawn_at(dice: &mut Dice, members: u8) -> At
+pub fn drawn_at(dice: &mut Dice, members: u8) -> PlainBallot
     requires { 1 ≤ members }
 {
     (1 + dice.throw(3), drawn_member(dice, members))
@@ -21,7 +21,7 @@ pub fn drawn_member(dice: &mut Dice, members: u8) -> u8
 }
 
 /// One of three tapes, or a withdrawal.
-pub fn drawn_entry(dice: &mut Dice) -> Agreed {
+pub fn drawn_entry(dice: &mut Dice) -> AgreedOn {
     match dice.throw(4) {
         0 => Flood,
         1 => Ligature,

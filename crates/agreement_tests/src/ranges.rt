@@ -1,7 +1,7 @@
 //! Members, numbers, ballots, majorities and saved rows.
 
-use crate::rows::Agreed::{Flood, Longest, Void};
-use crate::rows::{Agreed, At, Voted, ballot, is_vote, owned, parts};
+use crate::rows::AgreedOn::{Flood, Longest, Void};
+use crate::rows::{AgreedOn, PlainBallot, Voted, ballot, is_vote, owned, parts};
 use ballots::{Ballot, Member, Number, Row, Vote, majority};
 use rows_saved::{MemoryRows, Rows};
 use std::alloc::Global;
@@ -11,7 +11,7 @@ const MEMBERS: &[(u8, bool)] = &[(0, false), (15, true), (16, false)];
 
 const NUMBERS: &[(u32, bool)] = &[(0, false), (999_999, true), (1_000_000, false)];
 
-const BALLOTS: &[(At, bool)] = &[((0, 1), false), ((4_294_967_295, 15), true)];
+const BALLOTS: &[(PlainBallot, bool)] = &[((0, 1), false), ((4_294_967_295, 15), true)];
 
 /// Whether each value of the three tables is one, or isn't, as told.
 fn are_as_told() -> bool {
@@ -39,7 +39,7 @@ fn ranges(rt: HostRuntime) {
 }
 
 /// Whether member 2's ballot after the one that was seen is this.
-fn follows(seen: Option<At>, next: Option<At>) -> bool {
+fn follows(seen: Option<PlainBallot>, next: Option<PlainBallot>) -> bool {
     let Some(me) = Member::new(2) else {
         return false;
     };
@@ -57,7 +57,7 @@ fn follows(seen: Option<At>, next: Option<At>) -> bool {
     }
 }
 
-const ROUNDS: &[(Option<At>, Option<At>)] = &[
+const ROUNDS: &[(Option<PlainBallot>, Option<PlainBallot>)] = &[
     (None, Some((1, 2))),
     (Some((1, 3)), Some((2, 2))),
     (Some((4_294_967_295, 2)), None),
@@ -72,7 +72,7 @@ fn rounds(rt: HostRuntime) {
 }
 
 /// Whether the ballot is written so.
-fn is_written(alloc: Global, value: At, text: &str) -> bool {
+fn is_written(alloc: Global, value: PlainBallot, text: &str) -> bool {
     let Some(ballot) = ballot(value) else {
         return false;
     };
@@ -107,7 +107,7 @@ fn majorities(rt: HostRuntime) {
 }
 
 /// A copy of a vote for this entry at 1.1, and of the copy, lent.
-fn vote(alloc: Global, agreed: Agreed) -> Option<Vote> {
+fn vote(alloc: Global, agreed: AgreedOn) -> Option<Vote> {
     let entry = owned(alloc, agreed)?;
     let copy = Vote::new(ballot((1, 1))?, entry).copy(alloc).ok()?;
     copy.lend().copy(alloc).ok()
@@ -122,13 +122,13 @@ fn is_refused(alloc: Global) -> bool {
 }
 
 /// A copy of the row with the vote and a promise of 1.3.
-fn row(alloc: Global, agreed: Agreed) -> Option<Row> {
+fn row(alloc: Global, agreed: AgreedOn) -> Option<Row> {
     let row = Row::new(Some(ballot((1, 3))?), Some(vote(alloc, agreed)?))?;
     row.copy(alloc).ok()
 }
 
 /// Whether that row has this promise and this vote.
-fn holds(alloc: Global, promised: At, voted: Voted) -> bool {
+fn holds(alloc: Global, promised: PlainBallot, voted: Voted) -> bool {
     match row(alloc, voted.1) {
         None => false,
         Some(row) => row.promised().map(parts) == Some(promised)
@@ -136,7 +136,7 @@ fn holds(alloc: Global, promised: At, voted: Voted) -> bool {
     }
 }
 
-const VOTED: &[Agreed] = &[Flood, Longest, Void];
+const VOTED: &[AgreedOn] = &[Flood, Longest, Void];
 
 #[test]
 fn saved_rows(rt: HostRuntime) {

@@ -7,11 +7,11 @@ use std::alloc::Global;
 use tape_frames::{Entry, EntryRef, PackedRef, TapeRef};
 
 /// A ballot: its round and its owner.
-pub type At = (u32, u8);
+pub type PlainBallot = (u32, u8);
 
 /// What is agreed on: a tape, or that the number is withdrawn.
 #[derive(Clone, Copy)]
-pub enum Agreed {
+pub enum AgreedOn {
     /// The flood story.
     Flood,
     /// The flood story, packed.
@@ -28,7 +28,7 @@ pub enum Agreed {
 }
 
 /// A vote: its ballot and its entry.
-pub type Voted = (At, Agreed);
+pub type Voted = (PlainBallot, AgreedOn);
 
 /// The tape of these frames, lent.
 fn plain(frames: &'static [u8]) -> Option<EntryRef<'static>> {
@@ -47,20 +47,20 @@ fn packed(length: u16, bytes: &'static [u8]) -> Option<EntryRef<'static>> {
 }
 
 /// The entry of a row, its frames lent.
-pub fn lent(agreed: Agreed) -> Option<EntryRef<'static>> {
+pub fn lent(agreed: AgreedOn) -> Option<EntryRef<'static>> {
     match agreed {
-        Agreed::Flood => plain(fixtures::FLOOD),
-        Agreed::Packed => packed(7, &[0x04, 0x20, 0xc1, 0x0c, 0x21, 0x00]),
-        Agreed::Ligature => plain(fixtures::LIGATURE),
-        Agreed::Harvest => plain(fixtures::HARVEST),
-        Agreed::OneFrame => plain(&[1]),
-        Agreed::Longest => plain(fixtures::LONGEST),
-        Agreed::Void => Some(EntryRef::Void),
+        AgreedOn::Flood => plain(fixtures::FLOOD),
+        AgreedOn::Packed => packed(7, &[0x04, 0x20, 0xc1, 0x0c, 0x21, 0x00]),
+        AgreedOn::Ligature => plain(fixtures::LIGATURE),
+        AgreedOn::Harvest => plain(fixtures::HARVEST),
+        AgreedOn::OneFrame => plain(&[1]),
+        AgreedOn::Longest => plain(fixtures::LONGEST),
+        AgreedOn::Void => Some(EntryRef::Void),
     }
 }
 
 /// The entry of a row, with frames of its own.
-pub fn owned(alloc: Global, agreed: Agreed) -> Option<Entry> {
+pub fn owned(alloc: Global, agreed: AgreedOn) -> Option<Entry> {
     match lent(agreed) {
         Some(entry) => entry.copy(alloc).ok(),
         None => None,
@@ -68,7 +68,7 @@ pub fn owned(alloc: Global, agreed: Agreed) -> Option<Entry> {
 }
 
 /// Whether the entry is that of the row.
-pub fn is_entry(entry: &EntryRef<'_>, agreed: Agreed) -> bool {
+pub fn is_entry(entry: &EntryRef<'_>, agreed: AgreedOn) -> bool {
     match lent(agreed) {
         Some(other) => entry.same(other),
         None => false,
@@ -92,12 +92,12 @@ pub fn is_vote(vote: Option<&Vote>, voted: Option<Voted>) -> bool {
 }
 
 /// The ballot of a row.
-pub fn ballot(at: At) -> Option<Ballot> {
+pub fn ballot(at: PlainBallot) -> Option<Ballot> {
     Ballot::new(at.0, Member::new(at.1)?)
 }
 
 /// The round and the owner of a ballot.
-pub fn parts(ballot: Ballot) -> At {
+pub fn parts(ballot: Ballot) -> PlainBallot {
     (ballot.round(), ballot.owner().get())
 }
 

@@ -1,22 +1,22 @@
 //! Whatever the steps are, the releases agree.
 
 use crate::members::{MIXED, NEW, OLD};
-use crate::scripts::{Kind, first_broken};
+use crate::scripts::{CircuitKind, first_broken};
 
 /// How many scripts are taken of each kind of circuit.
 const SCRIPTS: usize = 200;
 
 /// Circuits in version 1, circuits in version 2, and circuits of which the last member is left in version 1.
-const KINDS: &[Kind] = &[
-    Kind {
+const KINDS: &[CircuitKind] = &[
+    CircuitKind {
         members: 3,
         versions: OLD,
     },
-    Kind {
+    CircuitKind {
         members: 5,
         versions: NEW,
     },
-    Kind {
+    CircuitKind {
         members: 4,
         versions: MIXED,
     },

@@ -3,11 +3,11 @@
 /// A datagram of number 12, in the version of its sender: its kind, its sender, its addressee, the round and owner of its
 /// ballot, and its body.
 #[derive(Clone, Copy)]
-pub struct Sent(pub u8, pub u8, pub u8, pub (u8, u8), pub Body);
+pub struct SentPacket(pub u8, pub u8, pub u8, pub (u8, u8), pub SentBody);
 
 /// What stands in a datagram behind its ballot; in version 1 where nothing else is said.
 #[derive(Clone, Copy)]
-pub enum Body {
+pub enum SentBody {
     /// A Prepare has none.
     Prepare,
     /// A Promise reports no vote, or one for the flood story at 1.1.
@@ -37,17 +37,17 @@ const FLOOD_PACKED: &[u8] = &[0, 7, 0x04, 0x20, 0xc1, 0x0c, 0x21, 0x00];
 const FLOOD_REPORT_PACKED: &[u8] = &[1, 0, 0, 0, 1, 1, 0, 7, 0x04, 0x20, 0xc1, 0x0c, 0x21, 0x00];
 
 /// The bytes of a body.
-pub fn bytes_of(body: Body) -> &'static [u8] {
+pub fn bytes_of(body: SentBody) -> &'static [u8] {
     match body {
-        Body::Prepare => &[],
-        Body::NoReport => &[0],
-        Body::FloodReport => FLOOD_REPORT,
-        Body::FloodTape => FLOOD_TAPE,
-        Body::LigatureTape => LIGATURE_TAPE,
-        Body::PromisedByThree => &[0, 0, 0, 1, 3],
-        Body::FloodPacked => FLOOD_PACKED,
-        Body::FloodReportPacked => FLOOD_REPORT_PACKED,
-        Body::Withdrawal => &[0, 0],
-        Body::WithdrawalReport => &[1, 0, 0, 0, 1, 1, 0, 0],
+        SentBody::Prepare => &[],
+        SentBody::NoReport => &[0],
+        SentBody::FloodReport => FLOOD_REPORT,
+        SentBody::FloodTape => FLOOD_TAPE,
+        SentBody::LigatureTape => LIGATURE_TAPE,
+        SentBody::PromisedByThree => &[0, 0, 0, 1, 3],
+        SentBody::FloodPacked => FLOOD_PACKED,
+        SentBody::FloodReportPacked => FLOOD_REPORT_PACKED,
+        SentBody::Withdrawal => &[0, 0],
+        SentBody::WithdrawalReport => &[1, 0, 0, 0, 1, 1, 0, 0],
     }
 }

@@ -1,28 +1,28 @@
 //! The longest tape goes round in version 2.
 
 use crate::members::{LastWidths, settings};
-use crate::stories::Act::{Deliver, OfferLongest};
-use crate::stories::Ending::Done;
-use crate::stories::{Line, Released};
+use crate::stories::StepEnding::Done;
+use crate::stories::StoryAct::{Deliver, OfferLongest};
+use crate::stories::{StoryLine, StoryRelease};
 use crate::telling::{are_releases, steps_of};
-use fixtures::Given::Longest;
+use fixtures::GivenEntry::Longest;
 use rows_saved::Rows;
 use station::Datagram;
-use station_fixtures::Noted::{Began, Heard, Promised, Proposed, Voted};
+use station_fixtures::NotedBallot::{Began, Heard, Promised, Proposed, Voted};
 use std::alloc::Global;
 use tape_frames::Version;
 use world::{Founders, Played, play_in_memory};
 
 /// Member 1 of three offers it, and all three release it.
-const LINES: &[Line] = &[
-    Line(OfferLongest(1), 1, 1, 2, false, Done(Began(1, 1))),
-    Line(Deliver(1), 2, 3, 1, false, Done(Promised(1, 1))),
-    Line(Deliver(3), 1, 4, 4, false, Done(Proposed(1, 1))),
-    Line(Deliver(6), 2, 8, 0, false, Done(Heard(1, 1))),
-    Line(Deliver(4), 2, 8, 2, true, Done(Voted(1, 1))),
-    Line(Deliver(8), 1, 10, 0, true, Done(Heard(1, 1))),
-    Line(Deliver(9), 3, 10, 0, false, Done(Heard(1, 1))),
-    Line(Deliver(7), 3, 10, 0, true, Done(Heard(1, 1))),
+const LINES: &[StoryLine] = &[
+    StoryLine(OfferLongest(1), 1, 1, 2, false, Done(Began(1, 1))),
+    StoryLine(Deliver(1), 2, 3, 1, false, Done(Promised(1, 1))),
+    StoryLine(Deliver(3), 1, 4, 4, false, Done(Proposed(1, 1))),
+    StoryLine(Deliver(6), 2, 8, 0, false, Done(Heard(1, 1))),
+    StoryLine(Deliver(4), 2, 8, 2, true, Done(Voted(1, 1))),
+    StoryLine(Deliver(8), 1, 10, 0, true, Done(Heard(1, 1))),
+    StoryLine(Deliver(9), 3, 10, 0, false, Done(Heard(1, 1))),
+    StoryLine(Deliver(7), 3, 10, 0, true, Done(Heard(1, 1))),
 ];
 
 /// How long each datagram is, in bytes: 17 of its head; a byte of a Promise that reports nothing; the length in two, and
@@ -30,10 +30,10 @@ const LINES: &[Line] = &[
 const LENGTHS: &[usize] = &[17, 17, 18, 12_307, 12_307, 12_307, 12_307, 12_307, 12_307];
 
 /// Each frame of it is ignored, so that it sets as no slug.
-const RELEASES: &[Released] = &[
-    Released(2, Longest, Ok(())),
-    Released(1, Longest, Ok(())),
-    Released(3, Longest, Ok(())),
+const RELEASES: &[StoryRelease] = &[
+    StoryRelease(2, Longest, Ok(())),
+    StoryRelease(1, Longest, Ok(())),
+    StoryRelease(3, Longest, Ok(())),
 ];
 
 /// Whether the datagrams have these lengths.

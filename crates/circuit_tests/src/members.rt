@@ -4,7 +4,7 @@ use code_table::CodeTable;
 use fixtures::WIDTHS;
 use line_check::{Cause, SetFault};
 use rows_saved::{MemoryRows, Rows, RowsFault};
-use station_fixtures::{Unread, setting};
+use station_fixtures::{UnreadRows, setting};
 use std::alloc::Global;
 use tape_frames::Version;
 use widths::Widths;
@@ -81,10 +81,10 @@ pub fn parts(
 }
 
 /// The same with rows whose first reading is refused for want of memory.
-pub fn unread(alloc: Global, parts: Parts<MemoryRows>) -> Option<Parts<Unread<MemoryRows>>> {
+pub fn unread(alloc: Global, parts: Parts<MemoryRows>) -> Option<Parts<UnreadRows<MemoryRows>>> {
     let mut all = Vec::new(alloc);
     for (table, widths, rows) in parts {
-        let mut rows = Unread::new(rows);
+        let mut rows = UnreadRows::new(rows);
         rows.refuse(RowsFault::OutOfMemory);
         all.push((table, widths, rows)).ok()?;
     }

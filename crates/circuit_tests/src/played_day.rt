@@ -1,7 +1,7 @@
 //! A day of two members is played to a release: there is one.
 
 use days::release_of_two;
-use fixtures::Given::Flood;
+use fixtures::GivenEntry::Flood;
 use fixtures::{FLOOD, OVERSET, WIDTHS};
 use line_check::Setting;
 use station_fixtures::{is_given, setting};

@@ -1,13 +1,15 @@
 //! Circuits and steps that there are not, and offers that are refused.
 
-use crate::bodies::Body::{NoReport, Prepare};
-use crate::bodies::Sent;
-use crate::stories::Act::{Deliver, OfferFlood, Seek};
-use crate::stories::Ending::Done;
-use crate::stories::{ALREADY_OPEN, CALM, Line, NO_DATAGRAM, NO_MEMBER, Offered, Story};
-use crate::telling::{Way, fails_at, is_handed_back, is_unplayed, plays};
-use fixtures::Given::Flood;
-use station_fixtures::Noted::{Began, Promised, Proposed};
+use crate::bodies::SentBody::{NoReport, Prepare};
+use crate::bodies::SentPacket;
+use crate::stories::StepEnding::Done;
+use crate::stories::StoryAct::{Deliver, OfferFlood, Seek};
+use crate::stories::{
+    ALREADY_OPEN, CALM, CircuitStory, NO_DATAGRAM, NO_MEMBER, Offered, StoryLine,
+};
+use crate::telling::{StoryWay, fails_at, is_handed_back, is_unplayed, plays};
+use fixtures::GivenEntry::Flood;
+use station_fixtures::NotedBallot::{Began, Promised, Proposed};
 use world::{RunStop, WorldRefusal};
 
 #[test]
@@ -25,44 +27,44 @@ fn counts_that_are_refused(rt: HostRuntime) {
 }
 
 /// Datagrams that were never sent, and members that there are not.
-const STRANGE: Story = Story {
+const STRANGE: CircuitStory = CircuitStory {
     lines: &[
-        Line(Deliver(0), 0, 0, 0, false, NO_DATAGRAM),
-        Line(Deliver(1), 0, 0, 0, false, NO_DATAGRAM),
-        Line(Seek(0), 0, 0, 0, false, NO_MEMBER),
-        Line(Seek(4), 0, 0, 0, false, NO_MEMBER),
+        StoryLine(Deliver(0), 0, 0, 0, false, NO_DATAGRAM),
+        StoryLine(Deliver(1), 0, 0, 0, false, NO_DATAGRAM),
+        StoryLine(Seek(0), 0, 0, 0, false, NO_MEMBER),
+        StoryLine(Seek(4), 0, 0, 0, false, NO_MEMBER),
     ],
     ..CALM
 };
 
 /// A number is offered while a proposal of it is open.
-const OPEN: Story = Story {
+const OPEN: CircuitStory = CircuitStory {
     lines: &[
-        Line(OfferFlood(1), 1, 1, 2, false, Done(Began(1, 1))),
-        Line(OfferFlood(1), 1, 3, 0, false, ALREADY_OPEN),
+        StoryLine(OfferFlood(1), 1, 1, 2, false, Done(Began(1, 1))),
+        StoryLine(OfferFlood(1), 1, 3, 0, false, ALREADY_OPEN),
     ],
     sent: &[
-        Sent(1, 1, 2, (1, 1), Prepare),
-        Sent(1, 1, 3, (1, 1), Prepare),
+        SentPacket(1, 1, 2, (1, 1), Prepare),
+        SentPacket(1, 1, 3, (1, 1), Prepare),
     ],
     offers: &[Offered(1, Flood)],
     ..CALM
 };
 
-const STORIES: &[Story] = &[STRANGE, OPEN];
+const STORIES: &[CircuitStory] = &[STRANGE, OPEN];
 
 /// The third step delivers what was not sent yet: a run stops before it.
-const TOO_EARLY: &[Story] = &[Story {
+const TOO_EARLY: &[CircuitStory] = &[CircuitStory {
     lines: &[
-        Line(OfferFlood(1), 1, 1, 2, false, Done(Began(1, 1))),
-        Line(Deliver(1), 2, 3, 1, false, Done(Promised(1, 1))),
-        Line(Deliver(4), 0, 0, 0, false, NO_DATAGRAM),
-        Line(Deliver(3), 1, 4, 4, false, Done(Proposed(1, 1))),
+        StoryLine(OfferFlood(1), 1, 1, 2, false, Done(Began(1, 1))),
+        StoryLine(Deliver(1), 2, 3, 1, false, Done(Promised(1, 1))),
+        StoryLine(Deliver(4), 0, 0, 0, false, NO_DATAGRAM),
+        StoryLine(Deliver(3), 1, 4, 4, false, Done(Proposed(1, 1))),
     ],
     sent: &[
-        Sent(1, 1, 2, (1, 1), Prepare),
-        Sent(1, 1, 3, (1, 1), Prepare),
-        Sent(2, 2, 1, (1, 1), NoReport),
+        SentPacket(1, 1, 2, (1, 1), Prepare),
+        SentPacket(1, 1, 3, (1, 1), Prepare),
+        SentPacket(2, 2, 1, (1, 1), NoReport),
     ],
     offers: &[Offered(1, Flood)],
     stop: Some(RunStop {
@@ -76,7 +78,7 @@ const TOO_EARLY: &[Story] = &[Story {
 fn steps_that_there_are_not(rt: HostRuntime) {
     for (place, story) in STORIES.iter().enumerate() {
         assert!(rt;
-            fails_at(rt.alloc(), story, Way::Steps).is_none(),
+            fails_at(rt.alloc(), story, StoryWay::Steps).is_none(),
             "{place}"
         );
     }
@@ -85,7 +87,7 @@ fn steps_that_there_are_not(rt: HostRuntime) {
 #[test]
 fn a_run_stops_before_what_there_is_not(rt: HostRuntime) {
     for story in TOO_EARLY {
-        assert!(rt; fails_at(rt.alloc(), story, Way::Run).is_none());
+        assert!(rt; fails_at(rt.alloc(), story, StoryWay::Run).is_none());
         assert!(rt; plays(rt.alloc(), story) == Some(true));
     }
 }

@@ -4,7 +4,7 @@
 use crate::members::{LastWidths, Parts, Versions, circuit, parts};
 use crate::telling::is_set;
 use ballots::Number;
-use fixtures::{Dice, Given, frames_of};
+use fixtures::{Dice, GivenEntry, frames_of};
 use packets::{BodyRef, decode};
 use rows_saved::{MemoryRows, Rows};
 use station::Datagram;
@@ -20,7 +20,7 @@ const SEED: u64 = 20_010_512;
 const NUMBERS: &[u32] = &[12, 13];
 
 /// The stories that are offered.
-const STORIES: &[Given] = &[Given::Flood, Given::Ligature, Given::Harvest];
+const STORIES: &[GivenEntry] = &[GivenEntry::Flood, GivenEntry::Ligature, GivenEntry::Harvest];
 
 /// How many random steps a script has for each member.
 const STEPS: usize = 30;
@@ -30,12 +30,12 @@ const MOST: usize = 200;
 
 /// Circuits of so many members at these versions.
 #[derive(Clone, Copy)]
-pub struct Kind {
+pub struct CircuitKind {
     pub members: u8,
     pub versions: Versions,
 }
 
-impl Kind {
+impl CircuitKind {
     /// How many members, from the first on, read what all others say.
     fn readers(&self) -> u8 {
         if self.versions.0 == self.versions.1 {
@@ -48,7 +48,7 @@ impl Kind {
 
 /// What scripts came to, to tell that they are no idle ones.
 #[derive(Clone, Copy)]
-struct Tally {
+struct ScriptTally {
     /// How many releases there were among the random steps.
     releases: usize,
     /// How many numbers were released that were offered more than one entry.
@@ -58,16 +58,16 @@ struct Tally {
 }
 
 /// Before any script.
-const IDLE: Tally = Tally {
+const IDLE: ScriptTally = ScriptTally {
     releases: 0,
     rivals: 0,
     withdrawals: 0,
 };
 
-impl Tally {
+impl ScriptTally {
     /// Whether there was a release for each script, and a number with rivals for each third; and withdrawals were released
     /// where the circuits have a version that has them, and only there.
-    fn is_busy(&self, scripts: usize, kind: &Kind) -> bool {
+    fn is_busy(&self, scripts: usize, kind: &CircuitKind) -> bool {
         let withdraws = kind.versions.0 == Version::Two;
         self.releases >= scripts
             && self.rivals >= scripts / 3
@@ -78,7 +78,7 @@ impl Tally {
 /// A script, as far as it is taken: its steps, and the datagram that comes next where all come in order.
 #[derive(Drop)]
 struct Script<R: Rows> {
-    kind: Kind,
+    kind: CircuitKind,
     world: World<R>,
     taken: Vec<Step>,
     dice: Dice,
@@ -110,7 +110,12 @@ fn offer(alloc: Global, dice: &mut Dice, member: u8, now: u64) -> Option<Step> {
 }
 
 /// A script of a circuit of these members, which is of this kind; no step of it is taken.
-fn untaken<R: Rows>(alloc: Global, parts: Parts<R>, kind: Kind, seed: u64) -> Option<Script<R>> {
+fn untaken<R: Rows>(
+    alloc: Global,
+    parts: Parts<R>,
+    kind: CircuitKind,
+    seed: u64,
+) -> Option<Script<R>> {
     let world = circuit(alloc, parts)?;
     Some(Script {
         kind,
@@ -306,7 +311,7 @@ fn were_offered<R: Rows>(world: &World<R>) -> bool {
 /// Whether a release is one of the stories, set as it sets, or a withdrawal, which sets as nothing.
 fn is_story(alloc: Global, log: &ReleaseLog) -> bool {
     if let Entry::Void = log.entry() {
-        return is_set(alloc, log, Given::Void, Ok(()));
+        return is_set(alloc, log, GivenEntry::Void, Ok(()));
     }
     for given in STORIES {
         if is_given(log.entry(), *given) {
@@ -432,7 +437,7 @@ fn had_rivals<R: Rows>(world: &World<R>, number: u32) -> bool {
 }
 
 /// Adds what the random steps of a script came to.
-fn count<R: Rows>(world: &World<R>, tally: &mut Tally) {
+fn count<R: Rows>(world: &World<R>, tally: &mut ScriptTally) {
     tally.releases = tally.releases.saturating_add(world.releases().len());
     for log in world.releases() {
         if let Entry::Void = log.entry() {
@@ -450,7 +455,7 @@ fn count<R: Rows>(world: &World<R>, tally: &mut Tally) {
 fn taken_fault<R: Rows>(
     alloc: Global,
     script: &mut Script<R>,
-    tally: &mut Tally,
+    tally: &mut ScriptTally,
 ) -> Option<&'static str> {
     if script.stir(alloc).is_none() {
         return Some("a step is refused");
@@ -467,7 +472,7 @@ fn fault_over<R: Rows>(
     alloc: Global,
     script: Option<Script<R>>,
     again: Parts<R>,
-    tally: &mut Tally,
+    tally: &mut ScriptTally,
 ) -> Option<&'static str> {
     let Some(mut script) = script else {
         return Some("there is no circuit");
@@ -481,12 +486,17 @@ fn fault_over<R: Rows>(
 }
 
 /// The members of a circuit of this kind, with blank rows.
-fn members(alloc: Global, kind: Kind) -> Option<Parts<MemoryRows>> {
+fn members(alloc: Global, kind: CircuitKind) -> Option<Parts<MemoryRows>> {
     parts(alloc, kind.members, kind.versions, LastWidths::Whole)
 }
 
 /// What does not hold of the script of this seed, of a circuit of this kind; nothing where all holds.
-fn fault_of_seed(alloc: Global, kind: Kind, seed: u64, tally: &mut Tally) -> Option<&'static str> {
+fn fault_of_seed(
+    alloc: Global,
+    kind: CircuitKind,
+    seed: u64,
+    tally: &mut ScriptTally,
+) -> Option<&'static str> {
     match (members(alloc, kind), members(alloc, kind)) {
         (Some(parts), Some(again)) => {
             fault_over(alloc, untaken(alloc, parts, kind, seed), again, tally)
@@ -497,7 +507,11 @@ fn fault_of_seed(alloc: Global, kind: Kind, seed: u64, tally: &mut Tally) -> Opt
 
 /// The seed of the first of so many scripts of which not all holds, and what does not; nothing where all holds, and they are no
 /// idle ones.
-pub fn first_broken(alloc: Global, kind: Kind, scripts: usize) -> Option<(u64, &'static str)> {
+pub fn first_broken(
+    alloc: Global,
+    kind: CircuitKind,
+    scripts: usize,
+) -> Option<(u64, &'static str)> {
     let mut tally = IDLE;
     for script in 0..scripts {
         let seed = SEED.saturating_add(script as u64);

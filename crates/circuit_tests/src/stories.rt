@@ -1,18 +1,18 @@
 //! Stories of a circuit over rows in memory: the steps, what has to be seen of each, and what the logs have to say.
 
-use crate::bodies::Sent;
+use crate::bodies::SentPacket;
 use crate::members::{LastWidths, OLD, Versions, WITHOUT_FI};
-use fixtures::Given;
+use fixtures::GivenEntry;
 use line_check::SetFault;
 use packets::PacketFault;
 use rows_saved::RowsFault;
 use station::StepRefusal;
-use station_fixtures::Noted;
+use station_fixtures::NotedBallot;
 use world::{RunStop, WorldRefusal};
 
 /// What is done, of number 12 and at moment 0 where nothing else is said.
 #[derive(Clone, Copy)]
-pub enum Act {
+pub enum StoryAct {
     OfferFlood(u8),
     OfferLigature(u8),
     OfferLongest(u8),
@@ -27,8 +27,8 @@ pub enum Act {
 
 /// How a step ends.
 #[derive(Clone, Copy)]
-pub enum Ending {
-    Done(Noted),
+pub enum StepEnding {
+    Done(NotedBallot),
     Refused(StepRefusal),
     Restarted,
     Upgraded,
@@ -39,50 +39,61 @@ pub enum Ending {
 }
 
 /// The store refuses, or memory is refused as rows are read, and the station stops.
-pub const STORE_REFUSES: Ending = Ending::Refused(StepRefusal::Store(RowsFault::Store));
+pub const STORE_REFUSES: StepEnding = StepEnding::Refused(StepRefusal::Store(RowsFault::Store));
 
-pub const MEMORY_REFUSED: Ending = Ending::Refused(StepRefusal::Store(RowsFault::OutOfMemory));
+pub const MEMORY_REFUSED: StepEnding = StepEnding::Refused(StepRefusal::Store(
+    RowsFault::OutOfMemory,
+));
 
 /// Refusals of a datagram, of an offer, and of the ligature story at widths that lack `fi`.
-pub const BAD_VERSION: Ending = Ending::Refused(StepRefusal::BadDatagram(PacketFault::BadVersion));
+pub const BAD_VERSION: StepEnding = StepEnding::Refused(StepRefusal::BadDatagram(
+    PacketFault::BadVersion,
+));
 
-pub const ALREADY_OPEN: Ending = Ending::Refused(StepRefusal::AlreadyOpen);
+pub const ALREADY_OPEN: StepEnding = StepEnding::Refused(StepRefusal::AlreadyOpen);
 
-pub const WIRE_TOO_OLD: Ending = Ending::Refused(StepRefusal::WireTooOld);
+pub const WIRE_TOO_OLD: StepEnding = StepEnding::Refused(StepRefusal::WireTooOld);
 
-pub const TAPE_FAULTY: Ending = Ending::Refused(StepRefusal::TapeFaulty(WITHOUT_FI));
+pub const TAPE_FAULTY: StepEnding = StepEnding::Refused(StepRefusal::TapeFaulty(WITHOUT_FI));
 
 /// There is no such datagram, or no such member.
-pub const NO_DATAGRAM: Ending = Ending::NoStep(WorldRefusal::NoSuchDatagram);
+pub const NO_DATAGRAM: StepEnding = StepEnding::NoStep(WorldRefusal::NoSuchDatagram);
 
-pub const NO_MEMBER: Ending = Ending::NoStep(WorldRefusal::NoSuchMember);
+pub const NO_MEMBER: StepEnding = StepEnding::NoStep(WorldRefusal::NoSuchMember);
 
 /// A step, and what is to be seen of it: who acted, the first datagram, how many were sent, whether an entry was released,
 /// and how it ended.
 #[derive(Clone, Copy)]
-pub struct Line(pub Act, pub u8, pub usize, pub usize, pub bool, pub Ending);
+pub struct StoryLine(
+    pub StoryAct,
+    pub u8,
+    pub usize,
+    pub usize,
+    pub bool,
+    pub StepEnding,
+);
 
 /// An offer for number 12: the member and the entry.
 #[derive(Clone, Copy)]
-pub struct Offered(pub u8, pub Given);
+pub struct Offered(pub u8, pub GivenEntry);
 
 /// A release of number 12: the member, the entry, and whether it sets as it has to or has this fault.
 #[derive(Clone, Copy)]
-pub struct Released(pub u8, pub Given, pub Result<(), SetFault>);
+pub struct StoryRelease(pub u8, pub GivenEntry, pub Result<(), SetFault>);
 
 /// A circuit of so many members at these versions, the last with these widths; its steps; and what its logs then have: all
 /// datagrams in order, all offers and all releases; and the open ballot of member 1.
 #[derive(Clone, Copy)]
-pub struct Story {
+pub struct CircuitStory {
     pub members: u8,
     pub versions: Versions,
     pub last: LastWidths,
-    pub lines: &'static [Line],
-    pub sent: &'static [Sent],
+    pub lines: &'static [StoryLine],
+    pub sent: &'static [SentPacket],
     /// How many of these were sent before members went over; those behind are of version 2.
     pub before: usize,
     pub offers: &'static [Offered],
-    pub releases: &'static [Released],
+    pub releases: &'static [StoryRelease],
     pub open: Option<Option<(u32, u8)>>,
     /// Whether its steps are also taken in one run.
     pub runs: bool,
@@ -91,7 +102,7 @@ pub struct Story {
 }
 
 /// A circuit of three at version 1 to which nothing happens.
-pub const CALM: Story = Story {
+pub const CALM: CircuitStory = CircuitStory {
     members: 3,
     versions: OLD,
     last: LastWidths::Whole,

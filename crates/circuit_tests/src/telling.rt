@@ -1,10 +1,10 @@
 //! How the steps of a story are taken, and what of it is not as it is told.
 
-use crate::bodies::{Sent, bytes_of};
+use crate::bodies::{SentPacket, bytes_of};
 use crate::members::{LastWidths, OLD, Parts, circuit, parts, settings, unread, version_of};
-use crate::stories::{Act, Ending, Line, Offered, Released, Story};
+use crate::stories::{CircuitStory, Offered, StepEnding, StoryAct, StoryLine, StoryRelease};
 use ballots::Number;
-use fixtures::{Given, frames_of, galley_of};
+use fixtures::{GivenEntry, frames_of, galley_of};
 use line_check::{SetFault, galley};
 use rows_saved::Rows;
 use station::Datagram;
@@ -17,15 +17,17 @@ use world::{
 };
 
 /// The step of an act.
-fn step_of(alloc: Global, act: Act) -> Option<Step> {
+fn step_of(alloc: Global, act: StoryAct) -> Option<Step> {
     let (number, now) = (12, 0);
     let given = match act {
-        Act::OfferFlood(_) => Given::Flood,
-        Act::OfferLongest(_) => Given::Longest,
-        _ => Given::Ligature,
+        StoryAct::OfferFlood(_) => GivenEntry::Flood,
+        StoryAct::OfferLongest(_) => GivenEntry::Longest,
+        _ => GivenEntry::Ligature,
     };
     Some(match act {
-        Act::OfferFlood(member) | Act::OfferLigature(member) | Act::OfferLongest(member) => {
+        StoryAct::OfferFlood(member)
+        | StoryAct::OfferLigature(member)
+        | StoryAct::OfferLongest(member) => {
             Step::Offer {
                 member,
                 number,
@@ -33,38 +35,39 @@ fn step_of(alloc: Global, act: Act) -> Option<Step> {
                 now,
             }
         }
-        Act::Withdraw(member) => Step::Withdraw {
+        StoryAct::Withdraw(member) => Step::Withdraw {
             member,
             number,
             now,
         },
-        Act::Seek(member) => Step::Seek {
+        StoryAct::Seek(member) => Step::Seek {
             member,
             number,
             now,
         },
-        Act::Due(member, now) => Step::Due { member, now },
-        Act::Deliver(k) => Step::Deliver { k, now },
-        Act::Restart(member) => Step::Restart { member },
-        Act::Upgrade(member) => Step::Upgrade { member },
-        Act::Balk(member, saved) => Step::Balk { member, saved },
+        StoryAct::Due(member, now) => Step::Due { member, now },
+        StoryAct::Deliver(k) => Step::Deliver { k, now },
+        StoryAct::Restart(member) => Step::Restart { member },
+        StoryAct::Upgrade(member) => Step::Upgrade { member },
+        StoryAct::Balk(member, saved) => Step::Balk { member, saved },
     })
 }
 
 /// Whether a step ended so.
-fn is_end(outcome: Outcome, told: Ending) -> bool {
+fn is_end(outcome: Outcome, told: StepEnding) -> bool {
     match (outcome, told) {
-        (Outcome::Done(note), Ending::Done(noted)) => is_note(note, noted),
-        (Outcome::Refused(reason), Ending::Refused(refusal)) => reason == refusal,
-        (Outcome::Restarted, Ending::Restarted) | (Outcome::Upgraded, Ending::Upgraded) => true,
-        (Outcome::Armed { saved }, Ending::Armed(passed_on)) => saved == passed_on,
+        (Outcome::Done(note), StepEnding::Done(noted)) => is_note(note, noted),
+        (Outcome::Refused(reason), StepEnding::Refused(refusal)) => reason == refusal,
+        (Outcome::Restarted, StepEnding::Restarted) | (Outcome::Upgraded, StepEnding::Upgraded) =>
+            true,
+        (Outcome::Armed { saved }, StepEnding::Armed(passed_on)) => saved == passed_on,
         _ => false,
     }
 }
 
 /// Whether this is seen of a step.
-fn is_seen(seen: &Seen, line: &Line) -> bool {
-    let Line(_, member, first, count, released, told) = *line;
+fn is_seen(seen: &Seen, line: &StoryLine) -> bool {
+    let StoryLine(_, member, first, count, released, told) = *line;
     seen.member == member
         && seen.first == first
         && seen.count == count
@@ -73,19 +76,19 @@ fn is_seen(seen: &Seen, line: &Line) -> bool {
 }
 
 /// Whether what is to be seen of a step is seen, or it is the step's refusal.
-fn takes<R: Rows>(alloc: Global, world: &mut World<R>, line: &Line) -> bool {
+fn takes<R: Rows>(alloc: Global, world: &mut World<R>, line: &StoryLine) -> bool {
     let Some(step) = step_of(alloc, line.0) else {
         return false;
     };
     match (world.step(&step), line.5) {
         (Ok(seen), _) => is_seen(&seen, line),
-        (Err(refusal), Ending::NoStep(told)) => refusal == told,
+        (Err(refusal), StepEnding::NoStep(told)) => refusal == told,
         (Err(_), _) => false,
     }
 }
 
 /// How many steps are seen as they have to be, up to the first that is not.
-fn taken<R: Rows>(alloc: Global, world: &mut World<R>, lines: &[Line]) -> usize {
+fn taken<R: Rows>(alloc: Global, world: &mut World<R>, lines: &[StoryLine]) -> usize {
     for (place, line) in lines.iter().enumerate() {
         if !takes(alloc, world, line) {
             return place;
@@ -95,7 +98,7 @@ fn taken<R: Rows>(alloc: Global, world: &mut World<R>, lines: &[Line]) -> usize 
 }
 
 /// The steps of a story.
-pub fn steps_of(alloc: Global, lines: &[Line]) -> Option<Vec<Step>> {
+pub fn steps_of(alloc: Global, lines: &[StoryLine]) -> Option<Vec<Step>> {
     let mut steps = Vec::new(alloc);
     for line in lines {
         steps.push(step_of(alloc, line.0)?).ok()?;
@@ -104,7 +107,7 @@ pub fn steps_of(alloc: Global, lines: &[Line]) -> Option<Vec<Step>> {
 }
 
 /// The number of the version in which a member sent the datagram of this place.
-fn spoken(story: &Story, place: usize, member: u8) -> u8 {
+fn spoken(story: &CircuitStory, place: usize, member: u8) -> u8 {
     if place >= story.before {
         return 2;
     }
@@ -115,8 +118,8 @@ fn spoken(story: &Story, place: usize, member: u8) -> u8 {
 }
 
 /// Whether this datagram, of this place, is the one that is told, byte for byte.
-fn is_told(datagram: &Datagram, story: &Story, place: usize, told: &Sent) -> bool {
-    let Sent(kind, from, to, (round, owner), body) = *told;
+fn is_told(datagram: &Datagram, story: &CircuitStory, place: usize, told: &SentPacket) -> bool {
+    let SentPacket(kind, from, to, (round, owner), body) = *told;
     let version = spoken(story, place, from);
     let body = bytes_of(body);
     let head = [
@@ -130,7 +133,7 @@ fn is_told(datagram: &Datagram, story: &Story, place: usize, told: &Sent) -> boo
 }
 
 /// Whether these are the datagrams.
-fn are_sent(datagrams: &[Datagram], story: &Story) -> bool {
+fn are_sent(datagrams: &[Datagram], story: &CircuitStory) -> bool {
     for (place, (datagram, told)) in datagrams.iter().zip(story.sent).enumerate() {
         if !is_told(datagram, story, place, told) {
             return false;
@@ -151,7 +154,12 @@ fn are_offers(logs: &[OfferLog], told: &[Offered]) -> bool {
 }
 
 /// Whether a release sets as this does, or has this fault.
-pub fn is_set(alloc: Global, log: &ReleaseLog, given: Given, told: Result<(), SetFault>) -> bool {
+pub fn is_set(
+    alloc: Global,
+    log: &ReleaseLog,
+    given: GivenEntry,
+    told: Result<(), SetFault>,
+) -> bool {
     match (log.set(), told) {
         (Ok(slugs), Ok(())) => {
             let mut out = Vec::new(alloc);
@@ -163,9 +171,9 @@ pub fn is_set(alloc: Global, log: &ReleaseLog, given: Given, told: Result<(), Se
 }
 
 /// Whether these are the releases.
-pub fn are_releases(alloc: Global, logs: &[ReleaseLog], told: &[Released]) -> bool {
+pub fn are_releases(alloc: Global, logs: &[ReleaseLog], told: &[StoryRelease]) -> bool {
     for (log, released) in logs.iter().zip(told) {
-        let Released(member, given, set) = *released;
+        let StoryRelease(member, given, set) = *released;
         let same = log.member() == member && log.number() == 12 && is_given(log.entry(), given);
         if !same || !is_set(alloc, log, given, set) {
             return false;
@@ -188,7 +196,7 @@ fn has_members<R: Rows>(world: &World<R>, members: u8) -> bool {
 }
 
 /// Whether the members are there, and the logs have what they have to.
-fn has_logged<R: Rows>(alloc: Global, world: &World<R>, story: &Story) -> bool {
+fn has_logged<R: Rows>(alloc: Global, world: &World<R>, story: &CircuitStory) -> bool {
     let same_open = match story.open {
         None => true,
         Some(open) => open_ballot(world) == open,
@@ -201,7 +209,7 @@ fn has_logged<R: Rows>(alloc: Global, world: &World<R>, story: &Story) -> bool {
 }
 
 /// How many steps of a story are seen as they have to be, and one more where the logs are then what they have to be.
-fn told<R: Rows>(alloc: Global, world: &mut World<R>, story: &Story) -> usize {
+fn told<R: Rows>(alloc: Global, world: &mut World<R>, story: &CircuitStory) -> usize {
     let count = taken(alloc, world, story.lines);
     if count == story.lines.len() && has_logged(alloc, world, story) {
         count.saturating_add(1)
@@ -212,7 +220,7 @@ fn told<R: Rows>(alloc: Global, world: &mut World<R>, story: &Story) -> usize {
 
 /// The same of the steps in one run, which stops where it has to; none where the run or the logs are not as they have
 /// to be.
-fn ran<R: Rows>(alloc: Global, world: &mut World<R>, story: &Story) -> usize {
+fn ran<R: Rows>(alloc: Global, world: &mut World<R>, story: &CircuitStory) -> usize {
     let Some(steps) = steps_of(alloc, story.lines) else {
         return 0;
     };
@@ -229,7 +237,7 @@ fn ran<R: Rows>(alloc: Global, world: &mut World<R>, story: &Story) -> usize {
 
 /// How the steps of a story are taken, and what is asked of them.
 #[derive(Clone, Copy)]
-pub enum Way {
+pub enum StoryWay {
     /// One by one: what is seen of each, and what the logs then have.
     Steps,
     /// In one run: where it stops, and what the logs then have.
@@ -238,53 +246,53 @@ pub enum Way {
 
 /// How many steps of a story come to what they have to in a circuit of these members, up to the first that does not, and
 /// one more where all is as it has to be.
-fn come<R: Rows>(alloc: Global, parts: Parts<R>, story: &Story, way: Way) -> usize {
+fn come<R: Rows>(alloc: Global, parts: Parts<R>, story: &CircuitStory, way: StoryWay) -> usize {
     let Some(mut world) = circuit(alloc, parts) else {
         return 0;
     };
     match way {
-        Way::Steps => told(alloc, &mut world, story),
-        Way::Run => ran(alloc, &mut world, story),
+        StoryWay::Steps => told(alloc, &mut world, story),
+        StoryWay::Run => ran(alloc, &mut world, story),
     }
 }
 
 /// How many steps of a story come to what they have to, and one more where all is as it has to be.
-fn counted(alloc: Global, story: &Story, way: Way) -> Option<usize> {
+fn counted(alloc: Global, story: &CircuitStory, way: StoryWay) -> Option<usize> {
     let parts = parts(alloc, story.members, story.versions, story.last)?;
     Some(come(alloc, parts, story, way))
 }
 
 /// The same in a circuit each of whose members is refused memory as it reads its rows for the first time.
-fn counted_unread(alloc: Global, story: &Story) -> Option<usize> {
+fn counted_unread(alloc: Global, story: &CircuitStory) -> Option<usize> {
     let parts = parts(alloc, story.members, story.versions, story.last)?;
-    Some(come(alloc, unread(alloc, parts)?, story, Way::Steps))
+    Some(come(alloc, unread(alloc, parts)?, story, StoryWay::Steps))
 }
 
 /// The place behind so many steps of a story, or nothing where these are more than it has.
-fn place(story: &Story, count: Option<usize>) -> Option<usize> {
+fn place(story: &CircuitStory, count: Option<usize>) -> Option<usize> {
     let count = count.unwrap_or(0);
     (count <= story.lines.len()).then_some(count)
 }
 
 /// The place of the first step of a story that does not come to what it has to, or its length where only the logs are
 /// not what they have to be; nothing where all is.
-pub fn fails_at(alloc: Global, story: &Story, way: Way) -> Option<usize> {
+pub fn fails_at(alloc: Global, story: &CircuitStory, way: StoryWay) -> Option<usize> {
     place(story, counted(alloc, story, way))
 }
 
 /// The same of its steps one by one, where each member is refused memory as it reads its rows for the first time.
-pub fn fails_unread_at(alloc: Global, story: &Story) -> Option<usize> {
+pub fn fails_unread_at(alloc: Global, story: &CircuitStory) -> Option<usize> {
     place(story, counted_unread(alloc, story))
 }
 
 /// Whether a circuit that was played stopped where a story has to, and its logs are what they have to be.
-fn has_played<R: Rows>(alloc: Global, played: &Played<R>, story: &Story) -> bool {
+fn has_played<R: Rows>(alloc: Global, played: &Played<R>, story: &CircuitStory) -> bool {
     played.run.err() == story.stop && has_logged(alloc, &played.world, story)
 }
 
 /// Whether the steps of a story whose members have one version, played from the beginning of its circuit, leave the logs
 /// as they have to be.
-pub fn plays(alloc: Global, story: &Story) -> Option<bool> {
+pub fn plays(alloc: Global, story: &CircuitStory) -> Option<bool> {
     let members = settings(alloc, story.members, story.last)?;
     let steps = steps_of(alloc, story.lines)?;
     let founders = Founders {

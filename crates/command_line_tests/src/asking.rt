@@ -9,7 +9,7 @@ use tape_frames::Version;
 
 /// What a line has to come to.
 #[derive(Clone, Copy)]
-pub enum Wanted<'a> {
+pub enum LineWanted<'a> {
     /// It is usage, and this help is printed.
     Help(&'a str),
     /// It is usage, with this told between the word `error` and the hint at the help.
@@ -55,14 +55,14 @@ fn is_same(plan: &Plan<'_>, wanted: &Plan<'_>) -> bool {
 }
 
 /// Whether a line that is told so asks for what is wanted.
-fn is_asked(asked: &Result<Asked<'_>, End>, wanted: &Wanted<'_>) -> bool {
+fn is_asked(asked: &Result<Asked<'_>, End>, wanted: &LineWanted<'_>) -> bool {
     match (asked, wanted) {
-        (Err(end), Wanted::Help(_) | Wanted::Mistake(_) | Wanted::Mismatch(_)) => {
+        (Err(end), LineWanted::Help(_) | LineWanted::Mistake(_) | LineWanted::Mismatch(_)) => {
             *end == End::Usage
         }
-        (Ok(Asked::Version), Wanted::Version) => true,
-        (Ok(Asked::Serve(plan)), Wanted::Plan(wanted)) => is_same(plan, wanted),
-        (Ok(Asked::Answer { circuit, wire, .. }), Wanted::Answer(wanted)) => {
+        (Ok(Asked::Version), LineWanted::Version) => true,
+        (Ok(Asked::Serve(plan)), LineWanted::Plan(wanted)) => is_same(plan, wanted),
+        (Ok(Asked::Answer { circuit, wire, .. }), LineWanted::Answer(wanted)) => {
             *circuit == 7 && *wire == *wanted
         }
         (
@@ -73,23 +73,23 @@ fn is_asked(asked: &Result<Asked<'_>, End>, wanted: &Wanted<'_>) -> bool {
                     room,
                 },
             ),
-            Wanted::Punch(named, version),
+            LineWanted::Punch(named, version),
         ) => {
             paths.table == "codes.toml"
                 && paths.story == "story.txt"
                 && *ligatures == *named
                 && *room == *version
         }
-        (Ok(Asked::Create(plan)), Wanted::Create(wanted)) => {
+        (Ok(Asked::Create(plan)), LineWanted::Create(wanted)) => {
             plan.config == "station.toml" && plan.layout == *wanted
         }
-        (Ok(Asked::Run(plan)), Wanted::Run(made, terms)) => {
+        (Ok(Asked::Run(plan)), LineWanted::Run(made, terms)) => {
             plan.config == "station.toml" && plan.create == *made && plan.log == *terms
         }
-        (Ok(Asked::Status { config, json }), Wanted::Status { json: wanted }) => {
+        (Ok(Asked::Status { config, json }), LineWanted::Status { json: wanted }) => {
             *config == "station.toml" && *json == *wanted
         }
-        (Ok(Asked::Watch { config }), Wanted::Watch) => *config == "station.toml",
+        (Ok(Asked::Watch { config }), LineWanted::Watch) => *config == "station.toml",
         _ => false,
     }
 }
@@ -103,17 +103,17 @@ fn told_of(err: &[u8]) -> Option<&[u8]> {
 }
 
 /// Whether what is printed and what is told of a line is what is wanted.
-fn is_said(out: &[u8], err: &[u8], wanted: &Wanted<'_>) -> bool {
+fn is_said(out: &[u8], err: &[u8], wanted: &LineWanted<'_>) -> bool {
     match wanted {
-        Wanted::Help(text) => out == text.as_bytes() && err.is_empty(),
-        Wanted::Mistake(text) => out.is_empty() && told_of(err) == Some(text.as_bytes()),
-        Wanted::Mismatch(text) => out.is_empty() && err == text.as_bytes(),
+        LineWanted::Help(text) => out == text.as_bytes() && err.is_empty(),
+        LineWanted::Mistake(text) => out.is_empty() && told_of(err) == Some(text.as_bytes()),
+        LineWanted::Mismatch(text) => out.is_empty() && err == text.as_bytes(),
         _ => out.is_empty() && err.is_empty(),
     }
 }
 
 /// Whether a line comes to this.
-pub fn comes_to(alloc: Global, line: &str, wanted: Wanted<'_>) -> bool {
+pub fn comes_to(alloc: Global, line: &str, wanted: LineWanted<'_>) -> bool {
     let Some(words) = words_of(alloc, line) else {
         return false;
     };

@@ -1,6 +1,6 @@
 //! The help of the program and of each command.
 
-use super::asking::{Wanted, comes_to};
+use super::asking::{LineWanted, comes_to};
 use std::alloc::Global;
 
 /// The lines that ask for a help, and the help.
@@ -423,7 +423,7 @@ fn is_row(alloc: Global, row: &str) -> Option<bool> {
     Some(
         lines
             .split(", ")
-            .all(|line| comes_to(alloc, line, Wanted::Help(help))),
+            .all(|line| comes_to(alloc, line, LineWanted::Help(help))),
     )
 }
 

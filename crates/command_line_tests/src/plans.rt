@@ -1,6 +1,6 @@
 //! Command lines that are taken.
 
-use super::asking::{Wanted, comes_to};
+use super::asking::{LineWanted, comes_to};
 use command_ends::End;
 use command_line::{Plan, TapeOffer, print_version};
 use log_terms::{LogTerms, Loudness};
@@ -54,7 +54,10 @@ const PLANS: &[(&str, Plan<'static>)] = &[
 #[test]
 fn plans_of_serve(rt: HostRuntime) {
     for (line, plan) in PLANS {
-        assert!(rt; comes_to(rt.alloc(), line, Wanted::Plan(*plan)), "{line}");
+        assert!(rt;
+            comes_to(rt.alloc(), line, LineWanted::Plan(*plan)),
+            "{line}"
+        );
     }
 }
 
@@ -69,7 +72,10 @@ const ANSWERS: &[(&str, Version)] = &[
 #[test]
 fn versions_of_answer(rt: HostRuntime) {
     for (line, wire) in ANSWERS {
-        assert!(rt; comes_to(rt.alloc(), line, Wanted::Answer(*wire)), "{line}");
+        assert!(rt;
+            comes_to(rt.alloc(), line, LineWanted::Answer(*wire)),
+            "{line}"
+        );
     }
 }
 
@@ -92,7 +98,7 @@ const PUNCHES: &[(&str, Option<&str>, Version)] = &[
 fn options_of_punch(rt: HostRuntime) {
     for (line, ligatures, room) in PUNCHES {
         assert!(rt;
-            comes_to(rt.alloc(), line, Wanted::Punch(*ligatures, *room)),
+            comes_to(rt.alloc(), line, LineWanted::Punch(*ligatures, *room)),
             "{line}"
         );
     }
@@ -109,7 +115,7 @@ const CREATIONS: &[(&str, Version)] = &[
 fn layouts_of_create(rt: HostRuntime) {
     for (line, layout) in CREATIONS {
         assert!(rt;
-            comes_to(rt.alloc(), line, Wanted::Create(*layout)),
+            comes_to(rt.alloc(), line, LineWanted::Create(*layout)),
             "{line}"
         );
     }
@@ -174,7 +180,7 @@ const RUNS: &[(&str, Option<Version>, LogTerms)] = &[
 fn plans_of_run(rt: HostRuntime) {
     for (line, made, terms) in RUNS {
         assert!(rt;
-            comes_to(rt.alloc(), line, Wanted::Run(*made, *terms)),
+            comes_to(rt.alloc(), line, LineWanted::Run(*made, *terms)),
             "{line}"
         );
     }
@@ -182,15 +188,15 @@ fn plans_of_run(rt: HostRuntime) {
 
 #[test]
 fn plans_of_status(rt: HostRuntime) {
-    let plain = Wanted::Status { json: false };
-    let json = Wanted::Status { json: true };
+    let plain = LineWanted::Status { json: false };
+    let json = LineWanted::Status { json: true };
     assert!(rt; comes_to(rt.alloc(), "circuitd status station.toml", plain));
     assert!(rt; comes_to(rt.alloc(), "circuitd status --json station.toml", json));
     assert!(rt;
         comes_to(
             rt.alloc(),
             "circuitd status station.toml --watch",
-            Wanted::Watch
+            LineWanted::Watch
         )
     );
 }
@@ -205,7 +211,7 @@ fn prints_version(alloc: Global) -> bool {
 
 #[test]
 fn version_of_the_program(rt: HostRuntime) {
-    assert!(rt; comes_to(rt.alloc(), "circuitd --version", Wanted::Version));
-    assert!(rt; comes_to(rt.alloc(), "circuitd -V", Wanted::Version));
+    assert!(rt; comes_to(rt.alloc(), "circuitd --version", LineWanted::Version));
+    assert!(rt; comes_to(rt.alloc(), "circuitd -V", LineWanted::Version));
     assert!(rt; prints_version(rt.alloc()));
 }

@@ -1,6 +1,6 @@
 //! Command lines that are usage, each with what is said of it.
 
-use super::asking::{Wanted, comes_to};
+use super::asking::{LineWanted, comes_to};
 use std::alloc::Global;
 
 /// Lines that ask for nothing, each with what is told of it between the word `error` and the hint at the help: the mistake,
@@ -197,7 +197,7 @@ Usage: circuitd run <CONFIG>
 /// Whether a row, a line and what is told of it, is right.
 fn is_row(alloc: Global, row: &str) -> Option<bool> {
     let (line, told) = row.split_once('\n')?;
-    Some(comes_to(alloc, line, Wanted::Mistake(told)))
+    Some(comes_to(alloc, line, LineWanted::Mistake(told)))
 }
 
 #[test]
@@ -209,15 +209,19 @@ fn lines_that_are_usage(rt: HostRuntime) {
     assert!(rt; rows.split("$ ").count() == 50);
 }
 
-const UNPAIRED: Wanted<'static> = Wanted::Mismatch("usage: --number and --tape go together\n");
+const UNPAIRED: LineWanted<'static> = LineWanted::Mismatch(
+    "usage: --number and --tape go together\n",
+);
 
-const LAYOUT_ALONE: Wanted<'static> = Wanted::Mismatch("usage: --layout goes with --create\n");
+const LAYOUT_ALONE: LineWanted<'static> = LineWanted::Mismatch(
+    "usage: --layout goes with --create\n",
+);
 
-const TAPES_APART: Wanted<'static> = Wanted::Mismatch("usage: no -- goes between tapes\n");
+const TAPES_APART: LineWanted<'static> = LineWanted::Mismatch("usage: no -- goes between tapes\n");
 
 /// Lines of which something does not go together, each with what is told. Of two such mistakes the offer's is told, and
 /// before both one of `clap`'s.
-const MISMATCHES: &[(&str, Wanted<'static>)] = &[
+const MISMATCHES: &[(&str, LineWanted<'static>)] = &[
     ("circuitd serve one.toml --turns 1 --number 12", UNPAIRED),
     (
         "circuitd serve one.toml --turns 1 --tape story.tape",
@@ -239,7 +243,7 @@ const MISMATCHES: &[(&str, Wanted<'static>)] = &[
     ),
     (
         "circuitd serve one.toml --turns 0 --number 12",
-        Wanted::Mistake("invalid value '0' for '--turns <T>': 0 is not in 1..=1000000\n"),
+        LineWanted::Mistake("invalid value '0' for '--turns <T>': 0 is not in 1..=1000000\n"),
     ),
 ];
 

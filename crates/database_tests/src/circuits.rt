@@ -19,7 +19,7 @@ type Withdrawn = (u8, u32);
 /// members go over to version 2; one withdraws a number, and then these datagrams come. So many datagrams, offers and
 /// releases are logged.
 #[derive(Clone, Copy)]
-struct Story {
+struct StoreStory {
     version: Version,
     before: &'static [usize],
     upgraded: &'static [u8],
@@ -29,7 +29,7 @@ struct Story {
 }
 
 /// The story is released three times; version 1 has no withdrawal of another number.
-const OLD: Story = Story {
+const OLD: StoreStory = StoreStory {
     version: Version::One,
     before: &[1, 3, 6, 4, 8, 9, 7],
     upgraded: &[],
@@ -39,7 +39,7 @@ const OLD: Story = Story {
 };
 
 /// Version 2 has it: two Prepares are sent, and members 1 and 3 promise.
-const NEW: Story = Story {
+const NEW: StoreStory = StoreStory {
     version: Version::Two,
     after: &[10, 11],
     logged: [13, 2, 3],
@@ -48,7 +48,7 @@ const NEW: Story = Story {
 
 /// Member 2 votes for the story and goes over; member 3, which goes over too, withdraws the number, and hears of the
 /// vote: it proposes the story in its ballot, and releases it. Member 1, which stays, reads nothing of that.
-const OUTLIVED: Story = Story {
+const OUTLIVED: StoreStory = StoreStory {
     before: &[1, 3, 4],
     upgraded: &[2, 3],
     withdrawn: (3, 12),
@@ -57,7 +57,7 @@ const OUTLIVED: Story = Story {
     ..OLD
 };
 
-const STORIES: &[Story] = &[OLD, NEW, OUTLIVED];
+const STORIES: &[StoreStory] = &[OLD, NEW, OUTLIVED];
 
 /// Adds the deliveries of these datagrams.
 fn deliver(steps: &mut Vec<Step>, datagrams: &[usize]) -> Option<()> {
@@ -76,7 +76,7 @@ fn upgrade(steps: &mut Vec<Step>, members: &[u8]) -> Option<()> {
 }
 
 /// The steps of a story.
-fn steps(alloc: Global, story: &Story) -> Option<Vec<Step>> {
+fn steps(alloc: Global, story: &StoreStory) -> Option<Vec<Step>> {
     let mut steps = Vec::new(alloc);
     let offer = Step::Offer {
         member: 1,
@@ -174,7 +174,11 @@ fn counted<R: Rows>(
 }
 
 /// The same of the circuit of a story over databases: here alone a circuit over them has its whole type.
-fn in_databases(alloc: Global, story: &Story, plain: &World<MemoryRows>) -> Option<[usize; 3]> {
+fn in_databases(
+    alloc: Global,
+    story: &StoreStory,
+    plain: &World<MemoryRows>,
+) -> Option<[usize; 3]> {
     let steps = steps(alloc, story)?;
     let members = members(alloc)?;
     match play_in_databases(7, story.version, members, steps.as_slice()) {
@@ -185,7 +189,7 @@ fn in_databases(alloc: Global, story: &Story, plain: &World<MemoryRows>) -> Opti
 
 /// How many datagrams, offers and releases the circuit of a story logs, where they are the same over rows in memory and over
 /// databases.
-fn logged(alloc: Global, story: &Story) -> Option<[usize; 3]> {
+fn logged(alloc: Global, story: &StoreStory) -> Option<[usize; 3]> {
     let steps = steps(alloc, story)?;
     let members = members(alloc)?;
     let founders = Founders {

@@ -8,7 +8,7 @@ use std::fmt::Write;
 
 /// A piece of a look that has taken a millisecond so far.
 #[derive(Clone, Copy)]
-struct Piece {
+struct LookPiece {
     /// The names that it found, each with the inode of its file.
     files: &'static [(&'static str, u64)],
     /// Whether the look has come to its end, at this moment in milliseconds.
@@ -19,14 +19,14 @@ struct Piece {
 }
 
 /// A look of two turns: a name that comes twice counts once, and one that is left alone does not count.
-const TWO_TURNS: &[Piece] = &[
-    Piece {
+const TWO_TURNS: &[LookPiece] = &[
+    LookPiece {
         files: &[("13.tape", 1), ("story.tape", 2), (".12.tape", 3)],
         is_end: false,
         now: 10,
         found: None,
     },
-    Piece {
+    LookPiece {
         files: &[
             ("12.seek", 4),
             ("13.tape", 5),
@@ -37,7 +37,7 @@ const TWO_TURNS: &[Piece] = &[
         now: 20,
         found: Some((&[12, 13], 1)),
     },
-    Piece {
+    LookPiece {
         files: &[],
         is_end: true,
         now: 520,
@@ -54,7 +54,7 @@ fn stamp_of(inode: u64) -> Stamp {
     }
 }
 
-fn listing_of(alloc: Global, piece: &Piece) -> Option<Listing> {
+fn listing_of(alloc: Global, piece: &LookPiece) -> Option<Listing> {
     let mut listing = Listing::new(alloc);
     listing.is_end = piece.is_end;
     listing.took = 1;
@@ -90,7 +90,7 @@ fn has_found(seen: looks::EndedLook, numbers: &[u32], others: usize) -> bool {
 }
 
 /// Whether a look finds in a piece what it has to.
-fn finds(looking: &mut Looking, listing: Listing, piece: &Piece) -> bool {
+fn finds(looking: &mut Looking, listing: Listing, piece: &LookPiece) -> bool {
     match (looking.push(listing, piece.now), piece.found) {
         (None, None) => true,
         (Some(Ok(seen)), Some((numbers, others))) => {
@@ -101,7 +101,7 @@ fn finds(looking: &mut Looking, listing: Listing, piece: &Piece) -> bool {
 }
 
 /// The place of the first piece that finds anything else than it has to, or that comes before it is due.
-fn wrong_piece(alloc: Global, pieces: &[Piece]) -> usize {
+fn wrong_piece(alloc: Global, pieces: &[LookPiece]) -> usize {
     let mut looking = Looking::new(alloc);
     for (place, piece) in pieces.iter().enumerate() {
         let Some(listing) = listing_of(alloc, piece) else {
@@ -122,7 +122,7 @@ fn a_look_goes_on_where_it_left_off(rt: HostRuntime) {
 
 /// What happens to a file whose name asks for nothing. Moments are in milliseconds.
 #[derive(Clone, Copy)]
-enum Event {
+enum StrayEvent {
     /// A look at a moment finds it, with this inode, alone.
     Seen(u64, u64),
     /// It is to be moved, or is not.
@@ -133,10 +133,10 @@ enum Event {
     Moved,
 }
 
-use Event::{Moved, Ripe, Seen, Stuck};
+use StrayEvent::{Moved, Ripe, Seen, Stuck};
 
 /// It is moved once it has stayed half a second, is tried again each minute, and what keeps it is told again after an hour.
-const STORY: &[Event] = &[
+const STORY: &[StrayEvent] = &[
     Ripe(false),
     Seen(100, 1),
     Ripe(false),
@@ -185,7 +185,7 @@ fn is_told(strays: &Strays, now: u64) -> Option<bool> {
     Some(sighting.is_to_be_told(FolderFault::NotAllowed, now))
 }
 
-fn goes_so(alloc: Global, strays: &mut Strays, event: Event) -> bool {
+fn goes_so(alloc: Global, strays: &mut Strays, event: StrayEvent) -> bool {
     match event {
         Seen(now, inode) => is_seen(alloc, strays, now, inode),
         Ripe(is_ripe) => strays.find() == is_ripe && strays.first().is_some() == is_ripe,
@@ -202,7 +202,7 @@ fn goes_so(alloc: Global, strays: &mut Strays, event: Event) -> bool {
 }
 
 /// The place of the first event that goes otherwise.
-fn wrong_event(alloc: Global, events: &[Event]) -> usize {
+fn wrong_event(alloc: Global, events: &[StrayEvent]) -> usize {
     let mut strays = Strays::new(alloc);
     for (place, event) in events.iter().enumerate() {
         if !goes_so(alloc, &mut strays, *event) {

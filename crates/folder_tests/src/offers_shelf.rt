@@ -8,7 +8,7 @@ use tape_frames::{Entry, Tape, TapeFault};
 
 /// What is to be done with a file.
 #[derive(Clone, Copy, PartialEq, Eq)]
-pub enum Told {
+pub enum FileTold {
     Nothing,
     Read,
     /// It is read, and was replaced while it was under way.
@@ -21,7 +21,7 @@ pub enum Told {
 
 /// One thing that happens, or that has to be so. Moments are in milliseconds.
 #[derive(Clone, Copy)]
-pub enum Event {
+pub enum ShelfEvent {
     /// A file of this number and kind is laid, behind the others.
     Lay(u32, OfferKind),
     /// The file at this place is written anew: it has this length.
@@ -31,13 +31,13 @@ pub enum Event {
     /// A look, at this moment.
     Look(u64),
     /// The next deed is this one, with a file of this number, or 0; files may be moved, and asked for.
-    Next(Told, u32),
+    Next(FileTold, u32),
     /// The same, where no file may be moved.
-    Unmoved(Told, u32),
+    Unmoved(FileTold, u32),
     /// The same, where none may be asked for.
-    Unasked(Told, u32),
+    Unasked(FileTold, u32),
     /// The file of this number is moved once the number was released: to this place, or not.
-    Leaving(Told, u32),
+    Leaving(FileTold, u32),
     /// The file was read: a tape holds one story, the same each time, and a withdrawal and a search are what they are.
     Holds(u32, OfferKind),
     /// The file was read, and holds no tape.
@@ -74,9 +74,9 @@ fn request(number: u32, kind: OfferKind) -> Option<FileRequest> {
 }
 
 /// A deed in a word, and its number.
-fn word_of(deed: Option<Deed>) -> (Told, u32) {
+fn word_of(deed: Option<Deed>) -> (FileTold, u32) {
     match deed {
-        None => (Told::Nothing, 0),
+        None => (FileTold::Nothing, 0),
         Some(
             Deed::Read {
                 request,
@@ -84,19 +84,23 @@ fn word_of(deed: Option<Deed>) -> (Told, u32) {
                 ..
             },
         ) => {
-            let told = if replaced { Told::ReadAnew } else { Told::Read };
-            (told, request.number.get())
-        }
-        Some(Deed::Ask { request }) => (Told::Ask, request.number.get()),
-        Some(Deed::Move { request, to, .. }) => {
-            let told = if to == Place::Sent {
-                Told::Sent
+            let told = if replaced {
+                FileTold::ReadAnew
             } else {
-                Told::Lost
+                FileTold::Read
             };
             (told, request.number.get())
         }
-        Some(Deed::Refuse { request, .. }) => (Told::Refuse, request.number.get()),
+        Some(Deed::Ask { request }) => (FileTold::Ask, request.number.get()),
+        Some(Deed::Move { request, to, .. }) => {
+            let told = if to == Place::Sent {
+                FileTold::Sent
+            } else {
+                FileTold::Lost
+            };
+            (told, request.number.get())
+        }
+        Some(Deed::Refuse { request, .. }) => (FileTold::Refuse, request.number.get()),
     }
 }
 
@@ -127,11 +131,11 @@ impl Shelf {
         Some(true)
     }
 
-    fn next(&mut self, moves: bool, asks: bool, wanted: (Told, u32)) -> bool {
+    fn next(&mut self, moves: bool, asks: bool, wanted: (FileTold, u32)) -> bool {
         word_of(self.book.next(Allowed { moves, asks })) == wanted
     }
 
-    fn leaving(&self, number: u32, wanted: Told) -> Option<bool> {
+    fn leaving(&self, number: u32, wanted: FileTold) -> Option<bool> {
         let leaving = word_of(self.book.leaving(Number::new(number)?));
         Some(leaving.0 == wanted)
     }
@@ -184,17 +188,17 @@ impl Shelf {
     }
 
     /// What the station or the folders tell.
-    fn hears(&mut self, event: Event) -> Option<bool> {
+    fn hears(&mut self, event: ShelfEvent) -> Option<bool> {
         match event {
-            Event::Holds(number, kind) => self.holds(number, kind),
-            Event::HoldsNone(number, kind) => self.holds_none(number, kind),
-            Event::CouldNot(number, kind, now) => self.could_not(number, kind, now),
-            Event::Moved(number, kind) => self.moved(number, kind),
-            Event::Ended(number, now, was) => self.ended(number, now, was),
-            Event::Busy(number, now) => self.busy(number, now),
-            Event::Barred(number) => self.barred(number),
-            Event::Withdrawn(number) => self.released(number, Entry::Void),
-            Event::Story(number) => {
+            ShelfEvent::Holds(number, kind) => self.holds(number, kind),
+            ShelfEvent::HoldsNone(number, kind) => self.holds_none(number, kind),
+            ShelfEvent::CouldNot(number, kind, now) => self.could_not(number, kind, now),
+            ShelfEvent::Moved(number, kind) => self.moved(number, kind),
+            ShelfEvent::Ended(number, now, was) => self.ended(number, now, was),
+            ShelfEvent::Busy(number, now) => self.busy(number, now),
+            ShelfEvent::Barred(number) => self.barred(number),
+            ShelfEvent::Withdrawn(number) => self.released(number, Entry::Void),
+            ShelfEvent::Story(number) => {
                 let entry = story(self.alloc)?;
                 self.released(number, entry)
             }
@@ -203,17 +207,17 @@ impl Shelf {
     }
 
     /// Whether what has to be is, once this has happened.
-    fn takes(&mut self, event: Event) -> Option<bool> {
+    fn takes(&mut self, event: ShelfEvent) -> Option<bool> {
         match event {
-            Event::Lay(number, kind) => self.lay(number, kind),
-            Event::Change(place, length) => self.change(place, length),
-            Event::Take => Some(self.found.pop().is_some()),
-            Event::Look(now) => Some(self.book.see(&self.found, now).is_ok()),
-            Event::Next(told, number) => Some(self.next(true, true, (told, number))),
-            Event::Unmoved(told, number) => Some(self.next(false, true, (told, number))),
-            Event::Unasked(told, number) => Some(self.next(true, false, (told, number))),
-            Event::Leaving(told, number) => self.leaving(number, told),
-            Event::UnderWay(many) => Some(self.book.under_way() == many),
+            ShelfEvent::Lay(number, kind) => self.lay(number, kind),
+            ShelfEvent::Change(place, length) => self.change(place, length),
+            ShelfEvent::Take => Some(self.found.pop().is_some()),
+            ShelfEvent::Look(now) => Some(self.book.see(&self.found, now).is_ok()),
+            ShelfEvent::Next(told, number) => Some(self.next(true, true, (told, number))),
+            ShelfEvent::Unmoved(told, number) => Some(self.next(false, true, (told, number))),
+            ShelfEvent::Unasked(told, number) => Some(self.next(true, false, (told, number))),
+            ShelfEvent::Leaving(told, number) => self.leaving(number, told),
+            ShelfEvent::UnderWay(many) => Some(self.book.under_way() == many),
             _ => self.hears(event),
         }
     }
@@ -221,7 +225,7 @@ impl Shelf {
 
 /// The place of the first event of a story after which something is not as it has to be; how many events there are where there is none. Files come only by
 /// being renamed, or not only so.
-pub fn first_fault(alloc: Global, renamed: bool, story: &[Event]) -> usize {
+pub fn first_fault(alloc: Global, renamed: bool, story: &[ShelfEvent]) -> usize {
     let mut shelf = Shelf {
         alloc,
         book: Book::over(alloc, renamed),

@@ -1,16 +1,16 @@
 //! The book of offers: what is done with the files among the offers, and in which order.
 
-use crate::offers_shelf::Event::{
+use crate::offers_shelf::FileTold::{Ask, Lost, Nothing, Read, ReadAnew, Refuse, Sent};
+use crate::offers_shelf::ShelfEvent::{
     Barred, Busy, Change, CouldNot, Ended, Holds, HoldsNone, Lay, Leaving, Look, Moved, Next,
     Story, Take, Unasked, UnderWay, Unmoved, Withdrawn,
 };
-use crate::offers_shelf::Told::{Ask, Lost, Nothing, Read, ReadAnew, Refuse, Sent};
-use crate::offers_shelf::{Event, first_fault};
+use crate::offers_shelf::{ShelfEvent, first_fault};
 use folders::OfferKind::{Seek, Tape, Text, Withdraw};
 
 /// A file is read once two looks, half a second apart, found it as it is; one that is changed is watched anew, also where it waits; one that
 /// could not be read is read a minute later; one that is taken away is forgotten.
-const QUIET: &[Event] = &[
+const QUIET: &[ShelfEvent] = &[
     Lay(12, Withdraw),
     Look(0),
     Next(Nothing, 0),
@@ -52,7 +52,7 @@ const QUIET: &[Event] = &[
 ];
 
 /// The three files of one number: one is under way at a time, after pauses that grow, and each leaves by what was released.
-const THREE: &[Event] = &[
+const THREE: &[ShelfEvent] = &[
     Lay(14, Tape),
     Lay(14, Withdraw),
     Lay(14, Seek),
@@ -100,7 +100,7 @@ const THREE: &[Event] = &[
 
 /// One that is replaced while it is under way: its number goes on with the entry as it was; then the new one is read, and asked for where
 /// nothing was released, or laid beside what was.
-const REPLACED: &[Event] = &[
+const REPLACED: &[ShelfEvent] = &[
     Lay(12, Tape),
     Look(0),
     Look(1000),
@@ -129,7 +129,7 @@ const REPLACED: &[Event] = &[
 
 /// Of searches the station is asked first for the one whose moment came first, and not for the least number; moves come before, others behind, and
 /// one of them after eight asks.
-const ORDER: &[Event] = &[
+const ORDER: &[ShelfEvent] = &[
     Lay(10, Seek),
     Lay(20, Seek),
     Look(0),
@@ -153,7 +153,7 @@ const ORDER: &[Event] = &[
 ];
 
 /// After eight asks one file is read, and at most 16 are under way.
-const MANY: &[Event] = &[
+const MANY: &[ShelfEvent] = &[
     Lay(1, Seek),
     Lay(2, Seek),
     Lay(3, Seek),
@@ -218,7 +218,7 @@ const MANY: &[Event] = &[
 /// A search that finds nothing, again and again, keeps no tape of its number waiting: the tape is asked for as soon as the number is under
 /// way no more, since its moment came first. Where the station has the number open for another reason, the tape is asked for again each
 /// second.
-const BESIDE_A_SEARCH: &[Event] = &[
+const BESIDE_A_SEARCH: &[ShelfEvent] = &[
     Lay(12, Seek),
     Look(0),
     Look(1000),
@@ -254,7 +254,7 @@ const BESIDE_A_SEARCH: &[Event] = &[
 ];
 
 /// A story that is laid behind three searches goes first, though their moments came first.
-const BEHIND_SEARCHES: &[Event] = &[
+const BEHIND_SEARCHES: &[ShelfEvent] = &[
     Lay(1, Seek),
     Lay(2, Seek),
     Lay(3, Seek),
@@ -274,7 +274,7 @@ const BEHIND_SEARCHES: &[Event] = &[
 ];
 
 /// Files that are no searches are read before the searches, also where some of these were read already.
-const READ_FIRST: &[Event] = &[
+const READ_FIRST: &[ShelfEvent] = &[
     Lay(1, Seek),
     Lay(2, Seek),
     Lay(3, Seek),
@@ -302,7 +302,7 @@ const READ_FIRST: &[Event] = &[
 
 /// Tapes, texts and withdrawals are asked for in the order of their moments, of one moment in the order of their numbers; after eight of
 /// them one search goes first, and then the next of them.
-const NINTH: &[Event] = &[
+const NINTH: &[ShelfEvent] = &[
     Lay(1, Seek),
     Lay(2, Seek),
     Lay(11, Tape),
@@ -349,7 +349,7 @@ const NINTH: &[Event] = &[
 ];
 
 /// What is no offer leaves the offers at once, and is tried again after a pause where it could not be moved.
-const NO_OFFERS: &[Event] = &[
+const NO_OFFERS: &[ShelfEvent] = &[
     Lay(5, Tape),
     Lay(6, Withdraw),
     Look(0),
@@ -374,7 +374,7 @@ const NO_OFFERS: &[Event] = &[
 ];
 
 /// Where files come only by being renamed: one look is enough, also for one that is put in place of another.
-const RENAMED: &[Event] = &[
+const RENAMED: &[ShelfEvent] = &[
     Lay(12, Tape),
     Look(100),
     Next(Read, 12),
@@ -389,7 +389,7 @@ const RENAMED: &[Event] = &[
 ];
 
 /// The stories.
-const STORIES: &[&[Event]] = &[
+const STORIES: &[&[ShelfEvent]] = &[
     QUIET,
     THREE,
     REPLACED,

@@ -54,26 +54,26 @@ const TAPE: &str = "12.tape";
 /// What is put, in order, what stands among the releases in the end, and how many files stand there besides, under other names, where a
 /// look came before, at which two files are made ahead.
 #[derive(Clone, Copy)]
-struct Release {
+struct PutRelease {
     put: &'static [Paper],
     stands: &'static [Paper],
     left: usize,
 }
 
-const RELEASES_IN_TURN: &[Release] = &[
-    Release {
+const RELEASES_IN_TURN: &[PutRelease] = &[
+    PutRelease {
         put: &[Paper::Tape, Paper::Galley],
         stands: &[Paper::Tape, Paper::Galley],
         left: 0,
     },
     // More than lie ready.
-    Release {
+    PutRelease {
         put: &[Paper::Tape, Paper::Galley, Paper::Next],
         stands: &[Paper::Tape, Paper::Galley, Paper::Next],
         left: 0,
     },
     // More than are begun together, twice.
-    Release {
+    PutRelease {
         put: &[
             Paper::Tape,
             Paper::Galley,
@@ -85,13 +85,13 @@ const RELEASES_IN_TURN: &[Release] = &[
         left: 0,
     },
     // One is long.
-    Release {
+    PutRelease {
         put: &[Paper::Long],
         stands: &[Paper::Long],
         left: 1,
     },
     // A file stands in place of the one before it.
-    Release {
+    PutRelease {
         put: &[Paper::Tape, Paper::Other],
         stands: &[Paper::Other],
         left: 0,
@@ -154,7 +154,7 @@ fn are_put<F: Folders>(rt: &HostRuntime, folders: &mut F, papers: &[Paper]) -> b
 }
 
 /// Whether what is put stands there in the end, after a look, and no more is left under other names.
-fn is_released<F: Folders>(rt: &HostRuntime, folders: &mut F, release: &Release) -> bool {
+fn is_released<F: Folders>(rt: &HostRuntime, folders: &mut F, release: &PutRelease) -> bool {
     folders.list(rt.alloc(), MOST).is_ok()
         && are_put(rt, folders, release.put)
         && release.stands.iter().all(|paper| stands(rt, *paper))
@@ -350,9 +350,9 @@ fn is_read<F: Folders>(rt: &HostRuntime, folders: &mut F) -> bool {
 
 /// What is done with folders.
 #[derive(Clone, Copy)]
-enum Task<'a> {
+enum FoldersTask<'a> {
     /// A release is put, after a look.
-    Release(&'a Release),
+    Release(&'a PutRelease),
     /// The folder of releases is replaced by a copy of itself.
     Replaced,
     /// Offers are set aside, and read.
@@ -364,23 +364,23 @@ enum Task<'a> {
 }
 
 /// Whether it goes as it has to with these folders.
-fn goes<F: Folders>(rt: &HostRuntime, folders: &mut F, task: Task<'_>) -> bool {
+fn goes<F: Folders>(rt: &HostRuntime, folders: &mut F, task: FoldersTask<'_>) -> bool {
     match task {
-        Task::Release(release) => is_released(rt, folders, release),
-        Task::Replaced => is_the_file_written(rt, folders),
-        Task::Offers => {
+        FoldersTask::Release(release) => is_released(rt, folders, release),
+        FoldersTask::Replaced => is_the_file_written(rt, folders),
+        FoldersTask::Offers => {
             stays_without_its_text(rt, folders)
                 && keeps_all(rt, folders)
                 && stays_where_replaced(rt, folders)
                 && is_read(rt, folders)
         }
-        Task::Turns => looks_in_turns(rt, folders),
-        Task::Nothing => true,
+        FoldersTask::Turns => looks_in_turns(rt, folders),
+        FoldersTask::Nothing => true,
     }
 }
 
 /// Whether it does with the folders of the host: here alone they have their whole type.
-fn goes_on_host(rt: &HostRuntime, task: Task<'_>) -> bool {
+fn goes_on_host(rt: &HostRuntime, task: FoldersTask<'_>) -> bool {
     match folders_of(rt) {
         Some(mut folders) => goes(rt, &mut folders, task),
         None => false,
@@ -398,7 +398,7 @@ fn are_held_alone(rt: &HostRuntime) -> bool {
 /// The place of the first of the releases that is not as it has to be; nothing where there is none.
 fn first_amiss(rt: &HostRuntime) -> Option<usize> {
     for (place, release) in RELEASES_IN_TURN.iter().enumerate() {
-        if !(lay_out(rt) && goes_on_host(rt, Task::Release(release))) {
+        if !(lay_out(rt) && goes_on_host(rt, FoldersTask::Release(release))) {
             return Some(place);
         }
     }
@@ -418,7 +418,7 @@ fn settles_leftovers(rt: &HostRuntime) -> bool {
         && fs::write(rt, way.as_str(), b"on its way").is_ok()
         && fs::write(rt, "circuitd_folders/releases/.1.part", b"").is_ok()
         && fs::write(rt, "circuitd_folders/releases/.circuitd-1-2-3.part", b"").is_ok()
-        && goes_on_host(rt, Task::Nothing)
+        && goes_on_host(rt, FoldersTask::Nothing)
         && holds(rt, OFFER, b"on its way")
         && count(rt, OFFERS) == 1
         && count(rt, RELEASES) == 0
@@ -487,9 +487,9 @@ fn first_misjudged(rt: &HostRuntime) -> Option<usize> {
 #[test]
 fn folders_of_the_host(rt: HostRuntime) {
     assert_eq!(rt; first_amiss(&rt), None);
-    assert!(rt; lay_out(&rt) && goes_on_host(&rt, Task::Replaced));
-    assert!(rt; lay_out(&rt) && goes_on_host(&rt, Task::Turns));
-    assert!(rt; lay_out(&rt) && goes_on_host(&rt, Task::Offers));
+    assert!(rt; lay_out(&rt) && goes_on_host(&rt, FoldersTask::Replaced));
+    assert!(rt; lay_out(&rt) && goes_on_host(&rt, FoldersTask::Turns));
+    assert!(rt; lay_out(&rt) && goes_on_host(&rt, FoldersTask::Offers));
     assert_eq!(rt; first_misjudged(&rt), None);
     assert!(rt; are_held_alone(&rt));
     assert!(rt; settles_leftovers(&rt));

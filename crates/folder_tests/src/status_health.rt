@@ -5,7 +5,7 @@ use std::alloc::Global;
 
 /// How long ago things were, whether hearing is judged, and what is not well then.
 #[derive(Clone, Copy)]
-struct Row {
+struct HealthRow {
     written: u64,
     /// When the two other members were heard.
     heard: (u64, u64),
@@ -17,7 +17,7 @@ struct Row {
 }
 
 /// All is well, and hearing is judged.
-const WELL: Row = Row {
+const WELL: HealthRow = HealthRow {
     written: 0,
     heard: (0, 0),
     missing: None,
@@ -27,40 +27,40 @@ const WELL: Row = Row {
     is_missing: false,
 };
 
-const ROWS: &[Row] = &[
+const ROWS: &[HealthRow] = &[
     WELL,
-    Row {
+    HealthRow {
         written: 90,
         heard: (180, 500),
         missing: Some(60),
         ..WELL
     },
-    Row {
+    HealthRow {
         written: 91,
         heard: (180, 500),
         is_old: true,
         ..WELL
     },
-    Row {
+    HealthRow {
         heard: (181, 181),
         is_alone: true,
         ..WELL
     },
-    Row {
+    HealthRow {
         heard: (181, 181),
         judges: false,
         ..WELL
     },
-    Row {
+    HealthRow {
         heard: (181, 0),
         ..WELL
     },
-    Row {
+    HealthRow {
         missing: Some(61),
         is_missing: true,
         ..WELL
     },
-    Row {
+    HealthRow {
         written: 91,
         heard: (999, 999),
         missing: Some(999),
@@ -72,7 +72,7 @@ const ROWS: &[Row] = &[
 ];
 
 /// Whether that is found not well which has to be.
-fn is_found(alloc: Global, row: &Row) -> bool {
+fn is_found(alloc: Global, row: &HealthRow) -> bool {
     let (first, second) = row.heard;
     let Ok(heard) = Vec::from_slice(alloc, &[first, second]) else {
         return false;

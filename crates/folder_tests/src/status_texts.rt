@@ -257,24 +257,24 @@ fn fault_of(alloc: Global, text: &str) -> Option<Unread> {
 
 /// What a text is read as.
 #[derive(Clone, Copy)]
-enum Reading {
+enum TextReading {
     Status,
     NoStatus,
     Later,
 }
 
 /// Whether a text is read so.
-fn is_read_as(alloc: Global, text: &str, reading: Reading) -> bool {
+fn is_read_as(alloc: Global, text: &str, reading: TextReading) -> bool {
     match fault_of(alloc, text) {
-        None => matches!(reading, Reading::Status),
-        Some(Unread::NoStatus) => matches!(reading, Reading::NoStatus),
-        Some(Unread::Later) => matches!(reading, Reading::Later),
+        None => matches!(reading, TextReading::Status),
+        Some(Unread::NoStatus) => matches!(reading, TextReading::NoStatus),
+        Some(Unread::Later) => matches!(reading, TextReading::Later),
         Some(Unread::OutOfMemory) => false,
     }
 }
 
 /// The place among texts, a line of dashes between two, of the first that is not read so.
-fn amiss(alloc: Global, texts: &str, reading: Reading) -> Option<usize> {
+fn amiss(alloc: Global, texts: &str, reading: TextReading) -> Option<usize> {
     for (place, text) in texts.split("--\n").enumerate() {
         if !is_read_as(alloc, text, reading) {
             return Some(place);
@@ -290,12 +290,12 @@ fn text_of_a_record(rt: HostRuntime) {
 
 #[test]
 fn texts_that_are_read(rt: HostRuntime) {
-    assert!(rt; amiss(rt.alloc(), EXAMPLE, Reading::Status) == None);
-    assert!(rt; amiss(rt.alloc(), GOOD, Reading::Status) == None);
+    assert!(rt; amiss(rt.alloc(), EXAMPLE, TextReading::Status) == None);
+    assert!(rt; amiss(rt.alloc(), GOOD, TextReading::Status) == None);
 }
 
 #[test]
 fn texts_that_are_not(rt: HostRuntime) {
-    assert!(rt; amiss(rt.alloc(), BAD, Reading::NoStatus) == None);
-    assert!(rt; amiss(rt.alloc(), LATER, Reading::Later) == None);
+    assert!(rt; amiss(rt.alloc(), BAD, TextReading::NoStatus) == None);
+    assert!(rt; amiss(rt.alloc(), LATER, TextReading::Later) == None);
 }

@@ -48,7 +48,7 @@ const CUT: &[u8] = b"\0\0\0\x2a\x80";
 
 /// What a start has to answer.
 #[derive(Clone, Copy)]
-struct Wanted {
+struct WantedStart {
     /// The numbers that have a row.
     known: &'static [u32],
     numbers: &'static [u32],
@@ -58,11 +58,11 @@ struct Wanted {
 
 /// What is done, and what has to come of it.
 #[derive(Clone, Copy)]
-enum Act {
+enum WentOutAct {
     /// A file is written at a path, of these parts.
     Lay(&'static str, &'static [&'static [u8]]),
     /// A start answers this.
-    Start(Wanted),
+    Start(WantedStart),
     /// These numbers are noted.
     Note(&'static [u32]),
     /// A look.
@@ -84,10 +84,10 @@ enum Act {
 }
 
 /// What processes do, one after the other, each act by act.
-type Runs = &'static [&'static [Act]];
+type Runs = &'static [&'static [WentOutAct]];
 
 /// A first start without rows.
-const EMPTY: Act = Act::Start(Wanted {
+const EMPTY: WentOutAct = WentOutAct::Start(WantedStart {
     known: &[],
     numbers: &[],
     missing: Some(&[]),
@@ -95,7 +95,7 @@ const EMPTY: Act = Act::Start(Wanted {
 });
 
 /// A later start that finds 41.
-const KEPT: Act = Act::Start(Wanted {
+const KEPT: WentOutAct = WentOutAct::Start(WantedStart {
     known: &[41, 42, 43],
     numbers: &[41],
     missing: None,
@@ -103,19 +103,19 @@ const KEPT: Act = Act::Start(Wanted {
 });
 
 /// One that finds 41 and 42.
-const BOTH: Act = Act::Start(Wanted {
+const BOTH: WentOutAct = WentOutAct::Start(WantedStart {
     numbers: &[41, 42],
     ..WANTED
 });
 
 /// One that finds 42 alone.
-const WITHOUT_BAD: Act = Act::Start(Wanted {
+const WITHOUT_BAD: WentOutAct = WentOutAct::Start(WantedStart {
     numbers: &[42],
     ..WANTED
 });
 
 /// A later start.
-const WANTED: Wanted = Wanted {
+const WANTED: WantedStart = WantedStart {
     known: &[41, 42, 43],
     numbers: &[],
     missing: None,
@@ -123,7 +123,7 @@ const WANTED: Wanted = Wanted {
 };
 
 /// A first start in place of another station's file: 42 has a row.
-const IN_PLACE: Act = Act::Start(Wanted {
+const IN_PLACE: WentOutAct = WentOutAct::Start(WantedStart {
     known: &[42],
     numbers: &[42],
     missing: Some(&[42]),
@@ -135,124 +135,124 @@ const CASES: &[Runs] = &[
     &[
         &[
             EMPTY,
-            Act::Holds(RELEASED, &[HEAD]),
-            Act::Note(&[41]),
-            Act::Holds(RELEASED, &[HEAD]),
-            Act::Look,
-            Act::Holds(RELEASED, &[HEAD, FIRST]),
-            Act::Note(&[42, 41]),
-            Act::Settle,
-            Act::Settle,
-            Act::Holds(RELEASED, &[HEAD, FIRST, NEXT]),
+            WentOutAct::Holds(RELEASED, &[HEAD]),
+            WentOutAct::Note(&[41]),
+            WentOutAct::Holds(RELEASED, &[HEAD]),
+            WentOutAct::Look,
+            WentOutAct::Holds(RELEASED, &[HEAD, FIRST]),
+            WentOutAct::Note(&[42, 41]),
+            WentOutAct::Settle,
+            WentOutAct::Settle,
+            WentOutAct::Holds(RELEASED, &[HEAD, FIRST, NEXT]),
         ],
-        &[BOTH, Act::Holds(RELEASED, &[HEAD, FIRST, NEXT])],
+        &[BOTH, WentOutAct::Holds(RELEASED, &[HEAD, FIRST, NEXT])],
     ],
     // The first start with rows: of 41 a tape lies among the releases, of 42 a second text lies among what was sent, of 43 nothing does.
     &[
         &[
-            Act::Make(SENT),
-            Act::Lay("circuitd_gone_out/releases/41.tape", &[]),
-            Act::Lay("circuitd_gone_out/releases/43.txt", &[]),
-            Act::Lay("circuitd_gone_out/offers/sent/42.text.2", &[]),
-            Act::Start(Wanted {
+            WentOutAct::Make(SENT),
+            WentOutAct::Lay("circuitd_gone_out/releases/41.tape", &[]),
+            WentOutAct::Lay("circuitd_gone_out/releases/43.txt", &[]),
+            WentOutAct::Lay("circuitd_gone_out/offers/sent/42.text.2", &[]),
+            WentOutAct::Start(WantedStart {
                 known: &[41, 42, 43],
                 numbers: &[41, 42, 43],
                 missing: Some(&[43]),
                 set_aside: false,
             }),
-            Act::Holds(RELEASED, &[HEAD, FIRST, NEXT, LAST]),
+            WentOutAct::Holds(RELEASED, &[HEAD, FIRST, NEXT, LAST]),
         ],
-        &[Act::Start(Wanted {
+        &[WentOutAct::Start(WantedStart {
             numbers: &[41, 42, 43],
             ..WANTED
         })],
     ],
     // A record that is cut short is cut off before the next is added; what was noted before the start is known is written too.
     &[&[
-        Act::Lay(RELEASED, &[HEAD, FIRST, CUT]),
-        Act::Note(&[42]),
+        WentOutAct::Lay(RELEASED, &[HEAD, FIRST, CUT]),
+        WentOutAct::Note(&[42]),
         KEPT,
-        Act::Holds(RELEASED, &[HEAD, FIRST, NEXT]),
-        Act::Note(&[43]),
-        Act::Settle,
-        Act::Holds(RELEASED, &[HEAD, FIRST, NEXT, LAST]),
+        WentOutAct::Holds(RELEASED, &[HEAD, FIRST, NEXT]),
+        WentOutAct::Note(&[43]),
+        WentOutAct::Settle,
+        WentOutAct::Holds(RELEASED, &[HEAD, FIRST, NEXT, LAST]),
     ]],
     // A bad record is passed over.
     &[&[
-        Act::Lay(RELEASED, &[HEAD, BAD, NEXT]),
+        WentOutAct::Lay(RELEASED, &[HEAD, BAD, NEXT]),
         WITHOUT_BAD,
-        Act::Note(&[41]),
-        Act::Settle,
-        Act::Holds(RELEASED, &[HEAD, BAD, NEXT, FIRST]),
+        WentOutAct::Note(&[41]),
+        WentOutAct::Settle,
+        WentOutAct::Holds(RELEASED, &[HEAD, BAD, NEXT, FIRST]),
     ]],
     // A head that is damaged is written anew, and the bad records are gone.
     &[&[
-        Act::Lay(RELEASED, &[BAD_HEAD, FIRST, BAD]),
+        WentOutAct::Lay(RELEASED, &[BAD_HEAD, FIRST, BAD]),
         KEPT,
-        Act::Holds(RELEASED, &[HEAD, FIRST]),
+        WentOutAct::Holds(RELEASED, &[HEAD, FIRST]),
     ]],
     // The file of another station is set aside, and so is one in which nothing can be read.
     &[
         &[
-            Act::Lay(RELEASED, &[OTHER_HEAD, OTHER]),
+            WentOutAct::Lay(RELEASED, &[OTHER_HEAD, OTHER]),
             IN_PLACE,
-            Act::Holds(SECOND, &[OTHER_HEAD, OTHER]),
-            Act::Holds(RELEASED, &[HEAD, NEXT]),
+            WentOutAct::Holds(SECOND, &[OTHER_HEAD, OTHER]),
+            WentOutAct::Holds(RELEASED, &[HEAD, NEXT]),
         ],
         &[
-            Act::Lay(RELEASED, &[BAD_HEAD, BAD]),
+            WentOutAct::Lay(RELEASED, &[BAD_HEAD, BAD]),
             IN_PLACE,
-            Act::Holds(THIRD, &[BAD_HEAD, BAD]),
-            Act::Holds(SECOND, &[OTHER_HEAD, OTHER]),
-            Act::Holds(RELEASED, &[HEAD, NEXT]),
+            WentOutAct::Holds(THIRD, &[BAD_HEAD, BAD]),
+            WentOutAct::Holds(SECOND, &[OTHER_HEAD, OTHER]),
+            WentOutAct::Holds(RELEASED, &[HEAD, NEXT]),
         ],
     ],
     // Another folder stands in place of the releases: there the file is made with all that is known.
     &[&[
         EMPTY,
-        Act::Note(&[41]),
-        Act::Look,
-        Act::Move(RELEASES, AWAY),
-        Act::Make(RELEASES),
-        Act::Note(&[42]),
-        Act::Look,
-        Act::Holds(RELEASED, &[HEAD, FIRST, NEXT]),
+        WentOutAct::Note(&[41]),
+        WentOutAct::Look,
+        WentOutAct::Move(RELEASES, AWAY),
+        WentOutAct::Make(RELEASES),
+        WentOutAct::Note(&[42]),
+        WentOutAct::Look,
+        WentOutAct::Holds(RELEASED, &[HEAD, FIRST, NEXT]),
     ]],
     // Another file stands in its place: what that one lacks is added. Where it is another station's, it is set aside.
     &[&[
         EMPTY,
-        Act::Note(&[41]),
-        Act::Look,
-        Act::Lay(AWAY, &[HEAD, LAST]),
-        Act::Move(AWAY, RELEASED),
-        Act::Note(&[42]),
-        Act::Look,
-        Act::Holds(RELEASED, &[HEAD, LAST, FIRST, NEXT]),
-        Act::Lay(AWAY, &[OTHER_HEAD]),
-        Act::Move(AWAY, RELEASED),
-        Act::Look,
-        Act::Holds(SECOND, &[OTHER_HEAD]),
-        Act::Holds(RELEASED, &[HEAD, FIRST, NEXT, LAST]),
-        Act::Remove(RELEASED),
-        Act::Settle,
-        Act::Holds(RELEASED, &[HEAD, FIRST, NEXT, LAST]),
+        WentOutAct::Note(&[41]),
+        WentOutAct::Look,
+        WentOutAct::Lay(AWAY, &[HEAD, LAST]),
+        WentOutAct::Move(AWAY, RELEASED),
+        WentOutAct::Note(&[42]),
+        WentOutAct::Look,
+        WentOutAct::Holds(RELEASED, &[HEAD, LAST, FIRST, NEXT]),
+        WentOutAct::Lay(AWAY, &[OTHER_HEAD]),
+        WentOutAct::Move(AWAY, RELEASED),
+        WentOutAct::Look,
+        WentOutAct::Holds(SECOND, &[OTHER_HEAD]),
+        WentOutAct::Holds(RELEASED, &[HEAD, FIRST, NEXT, LAST]),
+        WentOutAct::Remove(RELEASED),
+        WentOutAct::Settle,
+        WentOutAct::Holds(RELEASED, &[HEAD, FIRST, NEXT, LAST]),
     ]],
     // What is refused is written once the folder serves again.
     &[&[
         EMPTY,
-        Act::Move(RELEASES, AWAY),
-        Act::Note(&[41]),
-        Act::Refused(FolderFault::Missing),
-        Act::Move(AWAY, RELEASES),
-        Act::Settle,
-        Act::Holds(RELEASED, &[HEAD, FIRST]),
-        Act::Remove(RELEASED),
-        Act::Make(RELEASED),
-        Act::Note(&[42]),
-        Act::Refused(FolderFault::NoFile),
-        Act::Clear(RELEASED),
-        Act::Settle,
-        Act::Holds(RELEASED, &[HEAD, FIRST, NEXT]),
+        WentOutAct::Move(RELEASES, AWAY),
+        WentOutAct::Note(&[41]),
+        WentOutAct::Refused(FolderFault::Missing),
+        WentOutAct::Move(AWAY, RELEASES),
+        WentOutAct::Settle,
+        WentOutAct::Holds(RELEASED, &[HEAD, FIRST]),
+        WentOutAct::Remove(RELEASED),
+        WentOutAct::Make(RELEASED),
+        WentOutAct::Note(&[42]),
+        WentOutAct::Refused(FolderFault::NoFile),
+        WentOutAct::Clear(RELEASED),
+        WentOutAct::Settle,
+        WentOutAct::Holds(RELEASED, &[HEAD, FIRST, NEXT]),
     ]],
 ];
 
@@ -314,7 +314,7 @@ fn are(numbers: &Numbers, wanted: &[u32]) -> bool {
 }
 
 /// Whether it is what was wanted.
-fn is_wanted(went: &WentOut, wanted: &Wanted) -> bool {
+fn is_wanted(went: &WentOut, wanted: &WantedStart) -> bool {
     let is_missing = match (&went.missing, wanted.missing) {
         (Some(numbers), Some(values)) => are(numbers, values),
         (None, None) => true,
@@ -324,7 +324,7 @@ fn is_wanted(went: &WentOut, wanted: &Wanted) -> bool {
 }
 
 /// Whether a start answers what is wanted.
-fn starts<F: Folders>(rt: &HostRuntime, folders: &mut F, wanted: &Wanted) -> bool {
+fn starts<F: Folders>(rt: &HostRuntime, folders: &mut F, wanted: &WantedStart) -> bool {
     let (Some(own), Some(known)) = (own(), set_of(rt.alloc(), wanted.known)) else {
         return false;
     };
@@ -347,31 +347,31 @@ fn notes<F: Folders>(rt: &HostRuntime, folders: &mut F, values: &[u32]) -> bool 
 }
 
 /// Whether it goes as it has to with these folders.
-fn goes<F: Folders>(rt: &HostRuntime, folders: &mut F, act: &Act) -> bool {
+fn goes<F: Folders>(rt: &HostRuntime, folders: &mut F, act: &WentOutAct) -> bool {
     match act {
-        Act::Lay(path, parts) => is_laid(rt, path, parts),
-        Act::Start(wanted) => starts(rt, folders, wanted),
-        Act::Note(values) => notes(rt, folders, values),
-        Act::Look => folders.list(rt.alloc(), 64).is_ok(),
-        Act::Settle => folders.settle(rt.alloc()).is_ok(),
-        Act::Refused(fault) => {
+        WentOutAct::Lay(path, parts) => is_laid(rt, path, parts),
+        WentOutAct::Start(wanted) => starts(rt, folders, wanted),
+        WentOutAct::Note(values) => notes(rt, folders, values),
+        WentOutAct::Look => folders.list(rt.alloc(), 64).is_ok(),
+        WentOutAct::Settle => folders.settle(rt.alloc()).is_ok(),
+        WentOutAct::Refused(fault) => {
             matches!(folders.settle(rt.alloc()), Err(found) if found == *fault)
         }
-        Act::Move(from, to) => fs::rename(rt, *from, *to).is_ok(),
-        Act::Make(path) => fs::create_dir(rt, *path).is_ok(),
-        Act::Clear(path) => fs::remove_dir(rt, *path).is_ok(),
-        Act::Remove(path) => fs::remove_file(rt, *path).is_ok(),
-        Act::Holds(path, parts) => holds(rt, path, parts),
+        WentOutAct::Move(from, to) => fs::rename(rt, *from, *to).is_ok(),
+        WentOutAct::Make(path) => fs::create_dir(rt, *path).is_ok(),
+        WentOutAct::Clear(path) => fs::remove_dir(rt, *path).is_ok(),
+        WentOutAct::Remove(path) => fs::remove_file(rt, *path).is_ok(),
+        WentOutAct::Holds(path, parts) => holds(rt, path, parts),
     }
 }
 
 /// The place of the first of these acts that does not go as it has to; nothing where there is none.
-fn first_not<F: Folders>(rt: &HostRuntime, folders: &mut F, acts: &[Act]) -> Option<usize> {
+fn first_not<F: Folders>(rt: &HostRuntime, folders: &mut F, acts: &[WentOutAct]) -> Option<usize> {
     acts.iter().position(|act| !goes(rt, folders, act))
 }
 
 /// The same with folders of the host, of a process of their own: here alone they have their whole type.
-fn first_not_on_host(rt: &HostRuntime, acts: &[Act]) -> Option<usize> {
+fn first_not_on_host(rt: &HostRuntime, acts: &[WentOutAct]) -> Option<usize> {
     let offers = String::from_str(rt.alloc(), OFFERS).ok()?;
     let releases = String::from_str(rt.alloc(), RELEASES).ok()?;
     match HostFolders::open(rt, offers, releases) {

@@ -16,7 +16,7 @@ const OWN: u8 = 2;
 
 /// What happens, or what has to come next. Moments are in milliseconds.
 #[derive(Clone, Copy)]
-enum Step {
+enum CatchUpStep {
     /// The station promised a ballot of this number, at a moment.
     Saved(u32, u64),
     /// A ballot of this number for a file among the offers was begun, at a moment.
@@ -43,105 +43,105 @@ enum Step {
 
 // The two others are asked, then the plant tells itself; 300 ms later the others are asked once more. 2 s after the recall the number
 // is sought, once nothing came of it for 2 s.
-const ALONE: &[Step] = &[
-    Step::Saved(41, 1_000),
-    Step::Nothing(5_999),
-    Step::Send(6_000, 1, 1, 41, 41),
-    Step::Send(6_000, 3, 1, 41, 41),
-    Step::Tell(6_000, 41, 2),
-    Step::Nothing(6_299),
-    Step::Send(6_300, 1, 2, 41, 41),
-    Step::Send(6_300, 3, 2, 41, 41),
-    Step::Nothing(6_300),
-    Step::Voted(41, 7_000),
-    Step::Nothing(8_999),
-    Step::Seek(9_000, 41),
-    Step::Nothing(60_000),
+const ALONE: &[CatchUpStep] = &[
+    CatchUpStep::Saved(41, 1_000),
+    CatchUpStep::Nothing(5_999),
+    CatchUpStep::Send(6_000, 1, 1, 41, 41),
+    CatchUpStep::Send(6_000, 3, 1, 41, 41),
+    CatchUpStep::Tell(6_000, 41, 2),
+    CatchUpStep::Nothing(6_299),
+    CatchUpStep::Send(6_300, 1, 2, 41, 41),
+    CatchUpStep::Send(6_300, 3, 2, 41, 41),
+    CatchUpStep::Nothing(6_300),
+    CatchUpStep::Voted(41, 7_000),
+    CatchUpStep::Nothing(8_999),
+    CatchUpStep::Seek(9_000, 41),
+    CatchUpStep::Nothing(60_000),
 ];
 
 // A ballot of an offer is open: nothing is lacked.
-const OPEN: &[Step] = &[Step::Opened(41, 1_000), Step::Nothing(60_000)];
+const OPEN: &[CatchUpStep] = &[CatchUpStep::Opened(41, 1_000), CatchUpStep::Nothing(60_000)];
 
 // The members that ask take turns, each with the numbers in its order, and those of its own come in between.
-const TURNS: &[Step] = &[
-    Step::Ask(1, 5, 7),
-    Step::Ask(3, 5, 5),
-    Step::Tell(0, 5, 1),
-    Step::Tell(0, 5, 3),
-    Step::Tell(0, 6, 1),
-    Step::Saved(9, 0),
-    Step::Ask(3, 8, 9),
-    Step::Send(5_000, 1, 1, 9, 9),
-    Step::Tell(5_000, 8, 3),
-    Step::Send(5_000, 3, 1, 9, 9),
-    Step::Tell(5_000, 7, 1),
-    Step::Tell(5_000, 9, 2),
-    Step::Tell(5_000, 9, 3),
-    Step::Nothing(5_000),
+const TURNS: &[CatchUpStep] = &[
+    CatchUpStep::Ask(1, 5, 7),
+    CatchUpStep::Ask(3, 5, 5),
+    CatchUpStep::Tell(0, 5, 1),
+    CatchUpStep::Tell(0, 5, 3),
+    CatchUpStep::Tell(0, 6, 1),
+    CatchUpStep::Saved(9, 0),
+    CatchUpStep::Ask(3, 8, 9),
+    CatchUpStep::Send(5_000, 1, 1, 9, 9),
+    CatchUpStep::Tell(5_000, 8, 3),
+    CatchUpStep::Send(5_000, 3, 1, 9, 9),
+    CatchUpStep::Tell(5_000, 7, 1),
+    CatchUpStep::Tell(5_000, 9, 2),
+    CatchUpStep::Tell(5_000, 9, 3),
+    CatchUpStep::Nothing(5_000),
 ];
 
 // A member that was told a million bytes waits until a second is over since the first of them.
-const LIMIT: &[Step] = &[
-    Step::Told(1, 999_999, 100),
-    Step::Ask(1, 1, 3),
-    Step::Tell(500, 1, 1),
-    Step::Told(1, 1, 600),
-    Step::Nothing(1_099),
-    Step::Ask(3, 1, 1),
-    Step::Tell(1_099, 1, 3),
-    Step::Tell(1_100, 2, 1),
-    Step::Told(1, 2_000_000, 1_100),
-    Step::Nothing(2_099),
-    Step::Tell(2_100, 3, 1),
+const LIMIT: &[CatchUpStep] = &[
+    CatchUpStep::Told(1, 999_999, 100),
+    CatchUpStep::Ask(1, 1, 3),
+    CatchUpStep::Tell(500, 1, 1),
+    CatchUpStep::Told(1, 1, 600),
+    CatchUpStep::Nothing(1_099),
+    CatchUpStep::Ask(3, 1, 1),
+    CatchUpStep::Tell(1_099, 1, 3),
+    CatchUpStep::Tell(1_100, 2, 1),
+    CatchUpStep::Told(1, 2_000_000, 1_100),
+    CatchUpStep::Nothing(2_099),
+    CatchUpStep::Tell(2_100, 3, 1),
 ];
 
 // 64 wait of a member; what waits is not dropped when it is asked for again.
-const MANY: &[Step] = &[
-    Step::Ask(1, 1, 64),
-    Step::Dropped(0),
-    Step::Ask(1, 64, 66),
-    Step::Dropped(2),
-    Step::Ask(3, 64, 66),
-    Step::Dropped(2),
-    Step::Tell(0, 1, 1),
-    Step::Ask(1, 66, 67),
-    Step::Dropped(3),
+const MANY: &[CatchUpStep] = &[
+    CatchUpStep::Ask(1, 1, 64),
+    CatchUpStep::Dropped(0),
+    CatchUpStep::Ask(1, 64, 66),
+    CatchUpStep::Dropped(2),
+    CatchUpStep::Ask(3, 64, 66),
+    CatchUpStep::Dropped(2),
+    CatchUpStep::Tell(0, 1, 1),
+    CatchUpStep::Ask(1, 66, 67),
+    CatchUpStep::Dropped(3),
 ];
 
 // What goes out while it is recalled is asked for no longer.
-const OUT: &[Step] = &[
-    Step::Saved(3, 0),
-    Step::Saved(4, 0),
-    Step::Send(5_000, 1, 1, 3, 4),
-    Step::Out(3),
-    Step::Send(5_000, 3, 1, 4, 4),
-    Step::Tell(5_000, 4, 2),
-    Step::Nothing(5_000),
+const OUT: &[CatchUpStep] = &[
+    CatchUpStep::Saved(3, 0),
+    CatchUpStep::Saved(4, 0),
+    CatchUpStep::Send(5_000, 1, 1, 3, 4),
+    CatchUpStep::Out(3),
+    CatchUpStep::Send(5_000, 3, 1, 4, 4),
+    CatchUpStep::Tell(5_000, 4, 2),
+    CatchUpStep::Nothing(5_000),
 ];
 
 // The second batch has the plant's next number.
-const TWICE: &[Step] = &[
-    Step::Saved(3, 0),
-    Step::Send(5_000, 1, 1, 3, 3),
-    Step::Saved(4, 5_000),
-    Step::Send(10_000, 3, 1, 3, 3),
-    Step::Tell(10_000, 3, 2),
-    Step::Send(10_000, 1, 2, 4, 4),
+const TWICE: &[CatchUpStep] = &[
+    CatchUpStep::Saved(3, 0),
+    CatchUpStep::Send(5_000, 1, 1, 3, 3),
+    CatchUpStep::Saved(4, 5_000),
+    CatchUpStep::Send(10_000, 3, 1, 3, 3),
+    CatchUpStep::Tell(10_000, 3, 2),
+    CatchUpStep::Send(10_000, 1, 2, 4, 4),
 ];
 
 // A plant alone asks nobody, and tells itself.
-const SINGLE: &[Step] = &[
-    Step::Saved(3, 0),
-    Step::Tell(5_000, 3, 1),
-    Step::Nothing(5_000),
+const SINGLE: &[CatchUpStep] = &[
+    CatchUpStep::Saved(3, 0),
+    CatchUpStep::Tell(5_000, 3, 1),
+    CatchUpStep::Nothing(5_000),
 ];
 
 // Where it is not known what went out, nothing is asked for, and others are answered.
-const UNKNOWN: &[Step] = &[
-    Step::Saved(3, 0),
-    Step::Nothing(60_000),
-    Step::Ask(1, 3, 3),
-    Step::Tell(60_000, 3, 1),
+const UNKNOWN: &[CatchUpStep] = &[
+    CatchUpStep::Saved(3, 0),
+    CatchUpStep::Nothing(60_000),
+    CatchUpStep::Ask(1, 3, 3),
+    CatchUpStep::Tell(60_000, 3, 1),
 ];
 
 /// The plant: a member of a circuit of so many, the last where they are fewer.
@@ -182,15 +182,15 @@ fn is_recall(bytes: &[u8], step: (u8, u32, u32, u32)) -> bool {
 }
 
 /// Whether an errand is that of the step.
-fn is_errand(errand: &Errand, step: Step) -> bool {
+fn is_errand(errand: &Errand, step: CatchUpStep) -> bool {
     match (errand, step) {
-        (Errand::Send { to, bytes }, Step::Send(_, member, asked, first, last)) => {
+        (Errand::Send { to, bytes }, CatchUpStep::Send(_, member, asked, first, last)) => {
             to.get() == member && is_recall(bytes.as_slice(), (member, asked, first, last))
         }
-        (Errand::Tell { number, to }, Step::Tell(_, wanted, member)) => {
+        (Errand::Tell { number, to }, CatchUpStep::Tell(_, wanted, member)) => {
             number.get() == wanted && to.get() == member
         }
-        (Errand::Seek { number }, Step::Seek(_, wanted)) => number.get() == wanted,
+        (Errand::Seek { number }, CatchUpStep::Seek(_, wanted)) => number.get() == wanted,
         _ => false,
     }
 }
@@ -215,13 +215,13 @@ fn next_other(plant: &mut CatchUp, now: u64) -> Option<Option<Errand>> {
 }
 
 /// Whether the step's errand comes next at a moment, or nothing.
-fn comes(plant: &mut CatchUp, step: Step, now: u64) -> Option<bool> {
+fn comes(plant: &mut CatchUp, step: CatchUpStep, now: u64) -> Option<bool> {
     plant.look();
     let errand = next_other(plant, now)?;
     let stirred = plant.has_errand();
     match &errand {
         Some(errand) => Some(stirred && is_errand(errand, step)),
-        None => Some(!stirred && matches!(step, Step::Nothing(_))),
+        None => Some(!stirred && matches!(step, CatchUpStep::Nothing(_))),
     }
 }
 
@@ -238,18 +238,18 @@ fn ask(alloc: Global, plant: &mut CatchUp, from: u8, numbers: (u32, u32)) -> Opt
 }
 
 /// Whether the step goes as it says.
-fn goes(alloc: Global, plant: &mut CatchUp, step: Step) -> Option<bool> {
+fn goes(alloc: Global, plant: &mut CatchUp, step: CatchUpStep) -> Option<bool> {
     let ballot = Ballot::new(1, Member::new(OWN)?)?;
     match step {
-        Step::Saved(n, now) => {
+        CatchUpStep::Saved(n, now) => {
             let note = Note::Promised { ballot };
             Some(plant.did(Number::new(n)?, &note, false, now).is_ok())
         }
-        Step::Opened(n, now) => {
+        CatchUpStep::Opened(n, now) => {
             let note = Note::Began { ballot };
             Some(plant.did(Number::new(n)?, &note, true, now).is_ok())
         }
-        Step::Voted(n, now) => {
+        CatchUpStep::Voted(n, now) => {
             let packet = PacketHead {
                 number: Number::new(n)?,
                 sender: Member::new(1)?,
@@ -257,19 +257,20 @@ fn goes(alloc: Global, plant: &mut CatchUp, step: Step) -> Option<bool> {
             };
             Some(plant.came(packet, now).is_ok())
         }
-        Step::Out(n) => {
+        CatchUpStep::Out(n) => {
             plant.went_out(Number::new(n)?);
             Some(plant.has_gone_out(Number::new(n)?))
         }
-        Step::Ask(from, first, last) => ask(alloc, plant, from, (first, last)),
-        Step::Told(to, bytes, now) => {
+        CatchUpStep::Ask(from, first, last) => ask(alloc, plant, from, (first, last)),
+        CatchUpStep::Told(to, bytes, now) => {
             plant.told(Member::new(to)?, bytes, now);
             Some(true)
         }
-        Step::Dropped(many) => Some(plant.dropped() == many),
-        Step::Send(now, ..) | Step::Tell(now, ..) | Step::Seek(now, _) | Step::Nothing(now) => {
-            comes(plant, step, now)
-        }
+        CatchUpStep::Dropped(many) => Some(plant.dropped() == many),
+        CatchUpStep::Send(now, ..)
+        | CatchUpStep::Tell(now, ..)
+        | CatchUpStep::Seek(now, _)
+        | CatchUpStep::Nothing(now) => { comes(plant, step, now) }
     }
 }
 
@@ -291,7 +292,7 @@ fn plant_of(alloc: Global, count: u8, knows: bool) -> Option<CatchUp> {
 }
 
 /// The place of the first step that does not go as it says, or how many there are.
-fn gone(alloc: Global, count: u8, knows: bool, steps: &[Step]) -> Option<usize> {
+fn gone(alloc: Global, count: u8, knows: bool, steps: &[CatchUpStep]) -> Option<usize> {
     let mut plant = plant_of(alloc, count, knows)?;
     for (place, step) in steps.iter().enumerate() {
         if goes(alloc, &mut plant, *step) != Some(true) {
@@ -325,8 +326,8 @@ fn starts(alloc: Global) -> Option<bool> {
         asks: true,
     };
     let mut plant = CatchUp::new(alloc, start, 0).ok()?;
-    let early = comes(&mut plant, Step::Nothing(4_999), 4_999)?;
-    let late = comes(&mut plant, Step::Send(5_000, 1, 1, 6, 6), 5_000)?;
+    let early = comes(&mut plant, CatchUpStep::Nothing(4_999), 4_999)?;
+    let late = comes(&mut plant, CatchUpStep::Send(5_000, 1, 1, 6, 6), 5_000)?;
     Some(early && late && plant.has_gone_out(Number::new(5)?))
 }
 

@@ -5,11 +5,11 @@ use gone_out::{Numbers, Origin, head, head_of, numbers_of, record, whole_len};
 use std::alloc::Global;
 
 /// A circuit, a member and how many there are.
-type Station = (u16, u8, u8);
+type StationSeat = (u16, u8, u8);
 
-const FIRST: Station = (1, 1, 3);
+const FIRST: StationSeat = (1, 1, 3);
 
-const OTHER: Station = (700, 2, 3);
+const OTHER: StationSeat = (700, 2, 3);
 
 const HEAD: &[u8] = &[
     0x47, 0x4f, 0x4e, 0x45, 0, 0, 0, 1, 0, 1, 1, 3, 0x8b, 0xd1, 0x1e, 0x13,
@@ -46,7 +46,7 @@ const NONE: &[u8] = &[
 ];
 
 // Bytes, whose file they are, and the numbers that the first station reads in them.
-const FILES: &[(&[u8], Option<Station>, &[u32])] = &[
+const FILES: &[(&[u8], Option<StationSeat>, &[u32])] = &[
     (&[], None, &[]),
     (&[0x47, 0x4f, 0x4e, 0x45], None, &[]),
     (HEAD, Some(FIRST), &[]),
@@ -58,7 +58,7 @@ const FILES: &[(&[u8], Option<Station>, &[u32])] = &[
     (NONE, Some(FIRST), &[]),
 ];
 
-fn origin_of(station: Station) -> Option<Origin> {
+fn origin_of(station: StationSeat) -> Option<Origin> {
     let (circuit, member, count) = station;
     Some(Origin {
         circuit,
@@ -67,7 +67,7 @@ fn origin_of(station: Station) -> Option<Origin> {
     })
 }
 
-fn is_of(found: Option<Origin>, station: Option<Station>) -> bool {
+fn is_of(found: Option<Origin>, station: Option<StationSeat>) -> bool {
     match (found, station) {
         (Some(origin), Some((circuit, member, count))) => origin.circuit == circuit
             && origin.member.get() == member
@@ -90,13 +90,18 @@ fn are(numbers: &Numbers, wanted: &[u32]) -> bool {
     numbers.len() as usize == wanted.len()
 }
 
-fn reads(alloc: Global, bytes: &[u8], station: Option<Station>, wanted: &[u32]) -> Option<bool> {
+fn reads(
+    alloc: Global,
+    bytes: &[u8],
+    station: Option<StationSeat>,
+    wanted: &[u32],
+) -> Option<bool> {
     let origin = origin_of(FIRST)?;
     let numbers = numbers_of(alloc, bytes, &origin).ok()?;
     Some(is_of(head_of(bytes), station) && are(&numbers, wanted))
 }
 
-fn writes(bytes: &[u8], station: Station, first: u32, second: u32) -> Option<bool> {
+fn writes(bytes: &[u8], station: StationSeat, first: u32, second: u32) -> Option<bool> {
     let origin = origin_of(station)?;
     let first = record(&origin, Number::new(first)?);
     let second = record(&origin, Number::new(second)?);

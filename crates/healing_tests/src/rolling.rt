@@ -13,7 +13,7 @@ const CIRCUIT: u16 = 7;
 
 /// What happens, or what has to come next; numbers are on the first page. Moments are in milliseconds.
 #[derive(Clone, Copy)]
-enum Step {
+enum RollStep {
     /// A member that is asked tells, at a moment, that it has votes of the numbers from the first to the last: how many when it is asked
     /// for that, and then which.
     Tells(u64, u8, u32, u32),
@@ -38,38 +38,42 @@ enum Step {
 }
 
 /// What a page tells is recalled at once.
-const AT_ONCE: &[Step] = &[
-    Step::Tells(0, 1, 41, 43),
-    Step::Recalls(1, 41, 43),
-    Step::Tells(1_600, 3, 44, 44),
-    Step::Recalls(1_601, 44, 44),
+const AT_ONCE: &[RollStep] = &[
+    RollStep::Tells(0, 1, 41, 43),
+    RollStep::Recalls(1, 41, 43),
+    RollStep::Tells(1_600, 3, 44, 44),
+    RollStep::Recalls(1_601, 44, 44),
 ];
 
 /// In the first start what a page tells went out before. It is told once a majority told its votes.
-const FIRST: &[Step] = &[
-    Step::NotBefore,
-    Step::Tells(0, 1, 41, 43),
-    Step::Rests(60),
-    Step::IsOut(41),
-    Step::IsOut(43),
-    Step::Before(3),
-    Step::NotBefore,
-    Step::Tells(1_600, 3, 44, 44),
-    Step::Recalls(1_601, 44, 44),
+const FIRST: &[RollStep] = &[
+    RollStep::NotBefore,
+    RollStep::Tells(0, 1, 41, 43),
+    RollStep::Rests(60),
+    RollStep::IsOut(41),
+    RollStep::IsOut(43),
+    RollStep::Before(3),
+    RollStep::NotBefore,
+    RollStep::Tells(1_600, 3, 44, 44),
+    RollStep::Recalls(1_601, 44, 44),
 ];
 
 /// A plant that does not ask still answers.
-const OFF: &[Step] = &[Step::Silent(0), Step::Answers(10, 1), Step::Silent(60_000)];
+const OFF: &[RollStep] = &[
+    RollStep::Silent(0),
+    RollStep::Answers(10, 1),
+    RollStep::Silent(60_000),
+];
 
 /// What a search did not find is asked for again once another member has a vote.
-const AGAIN: &[Step] = &[
-    Step::Tells(0, 1, 41, 41),
-    Step::Recalls(1, 41, 41),
-    Step::Seeks(2_001, 41),
-    Step::FindsNothing(41, 2_500),
-    Step::Rests(9_000),
-    Step::Tells(20_000, 3, 41, 41),
-    Step::Recalls(20_001, 41, 41),
+const AGAIN: &[RollStep] = &[
+    RollStep::Tells(0, 1, 41, 41),
+    RollStep::Recalls(1, 41, 41),
+    RollStep::Seeks(2_001, 41),
+    RollStep::FindsNothing(41, 2_500),
+    RollStep::Rests(9_000),
+    RollStep::Tells(20_000, 3, 41, 41),
+    RollStep::Recalls(20_001, 41, 41),
 ];
 
 /// Those numbers.
@@ -140,23 +144,23 @@ fn is_recall(bytes: &[u8], first: u32, last: u32) -> bool {
 }
 
 /// Whether a recall of these numbers to member 1, or the search of the first, is the next of those at a moment.
-fn comes(plant: &mut CatchUp, step: Step, now: u64) -> Option<bool> {
+fn comes(plant: &mut CatchUp, step: RollStep, now: u64) -> Option<bool> {
     for _ in 0..16 {
         plant.look();
         let Some(errand) = &plant.next(now, false).ok()? else {
-            return Some(matches!(step, Step::Rests(_)));
+            return Some(matches!(step, RollStep::Rests(_)));
         };
         match (errand, step) {
-            (Errand::Send { to, bytes }, Step::Recalls(_, first, last)) => {
+            (Errand::Send { to, bytes }, RollStep::Recalls(_, first, last)) => {
                 if to.get() == 1 && is_recall(bytes.as_slice(), first, last) {
                     return Some(true);
                 }
             }
-            (Errand::Seek { number }, Step::Seeks(_, wanted)) => {
+            (Errand::Seek { number }, RollStep::Seeks(_, wanted)) => {
                 return Some(number.get() == wanted);
             }
             (Errand::Seek { .. }, _) => return Some(false),
-            (Errand::Send { bytes, .. }, Step::Rests(_)) => {
+            (Errand::Send { bytes, .. }, RollStep::Rests(_)) => {
                 if recalls::decode(bytes.as_slice()).is_ok() {
                     return Some(false);
                 }
@@ -202,18 +206,20 @@ fn finds_nothing(plant: &mut CatchUp, n: u32, now: u64) -> Option<bool> {
 }
 
 /// Whether the step goes as it says.
-fn goes(alloc: Global, plant: &mut CatchUp, step: Step) -> Option<bool> {
+fn goes(alloc: Global, plant: &mut CatchUp, step: RollStep) -> Option<bool> {
     match step {
-        Step::Tells(now, member, first, last) => {
+        RollStep::Tells(now, member, first, last) => {
             tells(plant, member, &numbers_of(alloc, first, last)?, now)
         }
-        Step::Answers(now, member) => answers(plant, member, now),
-        Step::Recalls(now, ..) | Step::Seeks(now, _) | Step::Rests(now) => comes(plant, step, now),
-        Step::Silent(now) => is_silent(plant, now),
-        Step::FindsNothing(n, now) => finds_nothing(plant, n, now),
-        Step::IsOut(n) => Some(plant.has_gone_out(Number::new(n)?)),
-        Step::Before(many) => Some(went_before(plant, many)),
-        Step::NotBefore => Some(plant.take_from_before().is_none()),
+        RollStep::Answers(now, member) => answers(plant, member, now),
+        RollStep::Recalls(now, ..) | RollStep::Seeks(now, _) | RollStep::Rests(now) => comes(
+            plant, step, now,
+        ),
+        RollStep::Silent(now) => is_silent(plant, now),
+        RollStep::FindsNothing(n, now) => finds_nothing(plant, n, now),
+        RollStep::IsOut(n) => Some(plant.has_gone_out(Number::new(n)?)),
+        RollStep::Before(many) => Some(went_before(plant, many)),
+        RollStep::NotBefore => Some(plant.take_from_before().is_none()),
     }
 }
 
@@ -235,7 +241,7 @@ fn plant_of(alloc: Global, is_first: bool, asks: bool) -> Option<CatchUp> {
 }
 
 /// The place of the first step that does not go as it says, or how many there are.
-fn gone(alloc: Global, is_first: bool, asks: bool, steps: &[Step]) -> Option<usize> {
+fn gone(alloc: Global, is_first: bool, asks: bool, steps: &[RollStep]) -> Option<usize> {
     let mut plant = plant_of(alloc, is_first, asks)?;
     for (place, step) in steps.iter().enumerate() {
         if goes(alloc, &mut plant, *step) != Some(true) {

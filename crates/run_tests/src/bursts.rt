@@ -1,10 +1,10 @@
 //! Many files at once, and much traffic: nothing is lost, few are under way, and a look comes whatever waits.
 
-use crate::plant::{RUN, Run, count_filed, machine_of, station_of, terms};
-use crate::stage::Held::{Flood, Nothing};
-use crate::stage::Name::{Seek12, Stop, Tape12};
-use crate::stage::What::{Burst, Laid};
-use crate::stage::{Act, Stage};
+use crate::plant::{PlantRun, RUN, count_filed, machine_of, station_of, terms};
+use crate::stage::OfferHeld::{Flood, Nothing};
+use crate::stage::OfferName::{Seek12, Stop, Tape12};
+use crate::stage::StageChange::{Burst, Laid};
+use crate::stage::{OffersStage, StageAct};
 use crate::wires::{Flooded, Threesome};
 use command_ends::{End, end_with};
 use driver::Machine;
@@ -14,12 +14,12 @@ use std::alloc::Global;
 use std::str;
 
 /// Forty stories, laid at once.
-const FORTY: &[Act] = &[Act(1, Burst(40)), Act(20, Laid(Stop, Nothing))];
+const FORTY: &[StageAct] = &[StageAct(1, Burst(40)), StageAct(20, Laid(Stop, Nothing))];
 
 /// What the lines of a run tell: how many ballots were begun, how many numbers released, how many files sent, and how many numbers were
 /// begun and not released at most.
 #[derive(Clone, Copy, PartialEq, Eq)]
-struct Told {
+struct RunTold {
     began: usize,
     released: usize,
     sent: usize,
@@ -27,8 +27,8 @@ struct Told {
 }
 
 /// Counts the lines of a run, of which none may be of another kind.
-fn count(lines: &str) -> Option<Told> {
-    let mut told = Told {
+fn count(lines: &str) -> Option<RunTold> {
+    let mut told = RunTold {
         began: 0,
         released: 0,
         sent: 0,
@@ -52,7 +52,7 @@ fn count(lines: &str) -> Option<Told> {
 
 /// What came of a run of one of three stations.
 #[derive(Drop)]
-struct Came {
+struct RunCame {
     end: End,
     err: Vec<u8>,
     /// How many files were written among the releases.
@@ -62,8 +62,8 @@ struct Came {
 }
 
 /// A run of one of three stations at which this is laid. The others take in one datagram each in so many turns.
-fn three(alloc: Global, acts: &'static [Act], slowness: u32) -> Option<Came> {
-    let run = Run { members: 3, ..RUN };
+fn three(alloc: Global, acts: &'static [StageAct], slowness: u32) -> Option<RunCame> {
+    let run = PlantRun { members: 3, ..RUN };
     let terms = terms(Loudness::All)?;
     let station = station_of(alloc, &run)?;
     let wire = Threesome::new(alloc, slowness)?;
@@ -71,12 +71,12 @@ fn three(alloc: Global, acts: &'static [Act], slowness: u32) -> Option<Came> {
         alloc,
         station,
         wire,
-        outside: Stage::new(alloc, acts),
+        outside: OffersStage::new(alloc, acts),
     };
     let mut err = Vec::new(alloc);
     let outcome = run_station(&mut machine, terms, &mut err);
     let end = end_with(outcome, &mut err);
-    Some(Came {
+    Some(RunCame {
         end,
         err,
         filed: count_filed(&machine.outside.folders),
@@ -85,7 +85,7 @@ fn three(alloc: Global, acts: &'static [Act], slowness: u32) -> Option<Came> {
 }
 
 /// The same of forty stories: what is told, and how many the others released.
-fn burst(alloc: Global, slowness: u32) -> Option<(Told, (usize, usize))> {
+fn burst(alloc: Global, slowness: u32) -> Option<(RunTold, (usize, usize))> {
     let came = three(alloc, FORTY, slowness)?;
     if came.end != End::Done || came.filed != 80 {
         return None;
@@ -109,10 +109,10 @@ fn slow_members_are_waited_for(rt: HostRuntime) {
 }
 
 /// A search for number 12 and a tape of it, laid at once.
-const BOTH: &[Act] = &[
-    Act(1, Laid(Seek12, Nothing)),
-    Act(1, Laid(Tape12, Flood)),
-    Act(40, Laid(Stop, Nothing)),
+const BOTH: &[StageAct] = &[
+    StageAct(1, Laid(Seek12, Nothing)),
+    StageAct(1, Laid(Tape12, Flood)),
+    StageAct(40, Laid(Stop, Nothing)),
 ];
 
 /// Whether the tape is out at each of the three.
@@ -129,7 +129,7 @@ fn a_search_keeps_no_tape_waiting(rt: HostRuntime) {
 }
 
 /// Nothing was told.
-const NONE: Told = Told {
+const NONE: RunTold = RunTold {
     began: 0,
     released: 0,
     sent: 0,
@@ -138,9 +138,9 @@ const NONE: Told = Told {
 
 /// The lines of a run of one of three stations, among which nobody answers, at which seventeen stories are laid.
 fn unanswered(alloc: Global) -> Option<Vec<u8>> {
-    let run = Run {
+    let run = PlantRun {
         members: 3,
-        acts: &[Act(1, Burst(17))],
+        acts: &[StageAct(1, Burst(17))],
         quarters: 64,
         ..RUN
     };
@@ -188,7 +188,7 @@ fn hears(alloc: Global) -> Option<bool> {
             left: 4_000,
             lost: Some(7),
         },
-        outside: Stage::new(alloc, &[Act(3, Laid(Stop, Nothing))]),
+        outside: OffersStage::new(alloc, &[StageAct(3, Laid(Stop, Nothing))]),
     };
     let mut err = Vec::new(alloc);
     let outcome = run_station(&mut machine, terms, &mut err);

@@ -1,7 +1,7 @@
 //! What a plant does about a vote of its own that was released nowhere, and what it keeps of what went out.
 
-use crate::plant::{RUN, Run, Saved, holds, machine_of, own, terms};
-use crate::stage::Stage;
+use crate::plant::{PlantRun, RUN, SavedBefore, holds, machine_of, own, terms};
+use crate::stage::OffersStage;
 use ballots::Number;
 use command_ends::{End, end_with};
 use gone_out::{Known, head, record};
@@ -11,7 +11,7 @@ use std::alloc::{AllocError, Global};
 
 /// What was kept before of what went out.
 #[derive(Clone, Copy)]
-enum Kept {
+enum KeptBefore {
     /// Nothing: it is the first start that keeps it.
     Nothing,
     /// That nothing went out.
@@ -23,17 +23,17 @@ enum Kept {
 }
 
 /// The bytes of `.released` that were left before.
-fn bytes_of(alloc: Global, kept: Kept) -> Option<Vec<u8>> {
+fn bytes_of(alloc: Global, kept: KeptBefore) -> Option<Vec<u8>> {
     let own = own()?;
     let mut bytes = Vec::new(alloc);
     let mut whose = own;
     match kept {
-        Kept::Nothing => return Some(bytes),
-        Kept::Another => whose.circuit = 8,
-        Kept::None | Kept::Number12 => {}
+        KeptBefore::Nothing => return Some(bytes),
+        KeptBefore::Another => whose.circuit = 8,
+        KeptBefore::None | KeptBefore::Number12 => {}
     }
     bytes.extend_from_slice(&head(&whose)).ok()?;
-    if let Kept::Number12 = kept {
+    if let KeptBefore::Number12 = kept {
         bytes
             .extend_from_slice(&record(&own, Number::new(12)?))
             .ok()?;
@@ -48,7 +48,7 @@ fn known(alloc: Global) -> Option<Known> {
     Some(known)
 }
 
-fn lay(alloc: Global, stage: &mut Stage, bytes: &[u8]) -> Result<(), AllocError> {
+fn lay(alloc: Global, stage: &mut OffersStage, bytes: &[u8]) -> Result<(), AllocError> {
     if bytes.is_empty() {
         return Ok(());
     }
@@ -57,9 +57,9 @@ fn lay(alloc: Global, stage: &mut Stage, bytes: &[u8]) -> Result<(), AllocError>
 
 /// Runs a plant alone for ten seconds that has a vote for the flood story under number 12: what it told, and whether its folders hold this
 /// then.
-fn told(alloc: Global, kept: Kept, folders: &str) -> Option<Vec<u8>> {
-    let run = Run {
-        saved: Saved::Vote,
+fn told(alloc: Global, kept: KeptBefore, folders: &str) -> Option<Vec<u8>> {
+    let run = PlantRun {
+        saved: SavedBefore::Vote,
         quarters: 40,
         ..RUN
     };
@@ -76,20 +76,20 @@ fn told(alloc: Global, kept: Kept, folders: &str) -> Option<Vec<u8>> {
 }
 
 /// What was kept, what the folders hold then, and what was told.
-const CASES: &[(Kept, &str, &str)] = &[
+const CASES: &[(KeptBefore, &str, &str)] = &[
     (
-        Kept::None,
+        KeptBefore::None,
         "wrote 12.tape 7\nwrote 12.galley 25\n",
         "12 missed, asked for\n12 released\ncaught up: 1 released, 0 nothing\nsocket: receive failed\n",
     ),
-    (Kept::Number12, "", "socket: receive failed\n"),
+    (KeptBefore::Number12, "", "socket: receive failed\n"),
     (
-        Kept::Nothing,
+        KeptBefore::Nothing,
         "",
         "1 may be missing from before: 12.seek\nsocket: receive failed\n",
     ),
     (
-        Kept::Another,
+        KeptBefore::Another,
         "",
         "folders: releases has .released of another station, which was set aside\n\
 1 may be missing from before: 12.seek\nsocket: receive failed\n",

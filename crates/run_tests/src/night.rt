@@ -30,14 +30,14 @@ const LAST_PAUSE: u64 = 60_000;
 
 /// What is told, and where.
 #[derive(Drop)]
-struct Log {
+struct NightLog {
     told: Told,
     err: Vec<u8>,
 }
 
-impl Log {
-    fn new(alloc: Global, loudness: Loudness) -> Log {
-        Log {
+impl NightLog {
+    fn new(alloc: Global, loudness: Loudness) -> NightLog {
+        NightLog {
             told: Told::new(alloc, loudness),
             err: Vec::new(alloc),
         }
@@ -83,7 +83,7 @@ impl Log {
 
 /// How many lines a day of one offer that waits costs, where so much is told that begins so.
 fn day_of(alloc: Global, loudness: Loudness, begins: &str) -> Option<usize> {
-    let mut log = Log::new(alloc, loudness);
+    let mut log = NightLog::new(alloc, loudness);
     log.wait(12)?;
     let lines = log.lines()?;
     lines.starts_with(begins).then_some(lines.lines().count())
@@ -110,7 +110,7 @@ const FORGOTTEN: &str = "\
 12 began 2.1\n12 gave-up 32.1\n13 began 2.1\n13 gave-up 32.1\n12 released\n12 began 2.1\n12 gave-up 32.1\n13 lost\n";
 
 fn forgets(alloc: Global) -> Option<bool> {
-    let mut log = Log::new(alloc, Loudness::Usual);
+    let mut log = NightLog::new(alloc, Loudness::Usual);
     log.try_once(12, 1, 0)?;
     log.try_once(13, 1, 0)?;
     log.try_once(12, 33, MINUTE)?;
@@ -137,12 +137,12 @@ fn a_fifo(alloc: Global) -> Option<Vec<PassedOver>> {
 }
 
 /// What goes on is tried at a moment: a file that can't be moved, releases that can't be written, and what a look could not read.
-fn go_on(alloc: Global, log: &mut Log, fault: FolderFault, now: u64) -> Option<()> {
+fn go_on(alloc: Global, log: &mut NightLog, fault: FolderFault, now: u64) -> Option<()> {
     let request = FileRequest {
         number: Number::new(12)?,
         kind: OfferKind::Tape,
     };
-    let Log { told, err } = log;
+    let NightLog { told, err } = log;
     told.cannot_move(&Trouble { request, fault }, now, err);
     told.cannot_write(fault, now, err);
     told.passed_over(a_fifo(alloc)?, now, err);
@@ -160,7 +160,7 @@ folders: cannot move 12.tape: the disk is full\nfolders: cannot write releases: 
 
 /// How many lines of a day of it are told, tried each minute, of which the last are told as it is another fault.
 fn day_of_faults(alloc: Global) -> Option<usize> {
-    let mut log = Log::new(alloc, Loudness::Faults);
+    let mut log = NightLog::new(alloc, Loudness::Faults);
     for minute in 0..DAY / MINUTE {
         go_on(
             alloc,
@@ -182,9 +182,9 @@ fn day_of_faults_that_go_on(rt: HostRuntime) {
 
 /// Lines of refusals that come each 100 milliseconds for 10 seconds: each second, whichever it is.
 fn refusals(alloc: Global) -> Option<usize> {
-    let mut log = Log::new(alloc, Loudness::Faults);
+    let mut log = NightLog::new(alloc, Loudness::Faults);
     for each in 0..100 {
-        let Log { told, err } = &mut log;
+        let NightLog { told, err } = &mut log;
         told.hear_refusal(StepRefusal::NotForMe, each * 100, err);
         told.hear_refusal(StepRefusal::Stranger, each * 100, err);
         told.hear_refusal(StepRefusal::AlreadyOpen, each * 100, err);

@@ -1,37 +1,40 @@
 //! Stories, withdrawals and searches among the offers, and where they are put.
 
-use crate::plant::{RUN, Run, Saved, is_true};
-use crate::stage::Held::{Flood, Harvest, Nothing, Start, Why};
-use crate::stage::Name::{Range, Seek12, Stop, Tape12, Withdraw14};
-use crate::stage::What::{Laid, LaidAt, Left};
-use crate::stage::{Act, Call};
+use crate::plant::{PlantRun, RUN, SavedBefore, is_true};
+use crate::stage::OfferHeld::{Flood, Harvest, Nothing, Start, Why};
+use crate::stage::OfferName::{Range, Seek12, Stop, Tape12, Withdraw14};
+use crate::stage::StageChange::{Laid, LaidAt, Left};
+use crate::stage::{FoldersCall, StageAct};
 use log_terms::Loudness;
 
 /// An offer is released and sent; as it is usually told, quietly, and beside so many files that a look takes two turns, too.
-const LOUD: Run = Run {
-    acts: &[Act(1, Laid(Tape12, Flood)), Act(20, Laid(Stop, Nothing))],
+const LOUD: PlantRun = PlantRun {
+    acts: &[
+        StageAct(1, Laid(Tape12, Flood)),
+        StageAct(20, Laid(Stop, Nothing)),
+    ],
     folders: "wrote 12.tape 7\nwrote 12.galley 25\nsent 12.tape\n",
     err: "12 released\n12 sent\n",
     ..RUN
 };
 
-const SENT: &[Run] = &[
+const SENT: &[PlantRun] = &[
     LOUD,
-    Run {
+    PlantRun {
         loudness: Loudness::Usual,
         err: "12 released\n",
         ..LOUD
     },
-    Run {
+    PlantRun {
         loudness: Loudness::Faults,
         err: "",
         ..LOUD
     },
-    Run {
+    PlantRun {
         acts: &[
-            Act(1, Left(600)),
-            Act(1, Laid(Tape12, Flood)),
-            Act(30, Laid(Stop, Nothing)),
+            StageAct(1, Left(600)),
+            StageAct(1, Laid(Tape12, Flood)),
+            StageAct(30, Laid(Stop, Nothing)),
         ],
         ..LOUD
     },
@@ -45,20 +48,23 @@ fn sent(rt: HostRuntime) {
 }
 
 /// Where another story stands under the number, the offer is lost, and that story lies beside it; at once, or later.
-const LOST: &[Run] = &[
-    Run {
-        saved: Saved::Vote,
-        acts: &[Act(1, Laid(Tape12, Harvest)), Act(20, Laid(Stop, Nothing))],
+const LOST: &[PlantRun] = &[
+    PlantRun {
+        saved: SavedBefore::Vote,
+        acts: &[
+            StageAct(1, Laid(Tape12, Harvest)),
+            StageAct(20, Laid(Stop, Nothing)),
+        ],
         folders: "\
 wrote 12.tape 7\nwrote 12.galley 25\nlost 12.tape\nlost 12.tape.txt: release 12 01020301030204\n",
         err: "12 released\n12 lost\n",
         ..RUN
     },
-    Run {
+    PlantRun {
         acts: &[
-            Act(1, Laid(Tape12, Flood)),
-            Act(10, Laid(Tape12, Harvest)),
-            Act(20, Laid(Stop, Nothing)),
+            StageAct(1, Laid(Tape12, Flood)),
+            StageAct(10, Laid(Tape12, Harvest)),
+            StageAct(20, Laid(Stop, Nothing)),
         ],
         folders: "\
 wrote 12.tape 7\nwrote 12.galley 25\nsent 12.tape\nlost 12.tape\n\
@@ -77,30 +83,30 @@ fn lost(rt: HostRuntime) {
 
 /// A story that is written anew just before it is read, while it is, or just before it is moved, is neither read nor moved: it is found anew,
 /// and then as it is.
-const CHANGED: &[Run] = &[
-    Run {
+const CHANGED: &[PlantRun] = &[
+    PlantRun {
         acts: &[
-            Act(1, Laid(Tape12, Harvest)),
-            Act(1, LaidAt(Call::Read, Tape12, Flood)),
-            Act(20, Laid(Stop, Nothing)),
+            StageAct(1, Laid(Tape12, Harvest)),
+            StageAct(1, LaidAt(FoldersCall::Read, Tape12, Flood)),
+            StageAct(20, Laid(Stop, Nothing)),
         ],
         ..LOUD
     },
     // It is half of a story as it is read.
-    Run {
+    PlantRun {
         acts: &[
-            Act(1, Laid(Tape12, Harvest)),
-            Act(1, LaidAt(Call::WithinRead, Tape12, Start(3))),
-            Act(5, Laid(Tape12, Flood)),
-            Act(20, Laid(Stop, Nothing)),
+            StageAct(1, Laid(Tape12, Harvest)),
+            StageAct(1, LaidAt(FoldersCall::WithinRead, Tape12, Start(3))),
+            StageAct(5, Laid(Tape12, Flood)),
+            StageAct(20, Laid(Stop, Nothing)),
         ],
         ..LOUD
     },
-    Run {
+    PlantRun {
         acts: &[
-            Act(1, Laid(Tape12, Flood)),
-            Act(1, LaidAt(Call::SetAside, Tape12, Harvest)),
-            Act(20, Laid(Stop, Nothing)),
+            StageAct(1, Laid(Tape12, Flood)),
+            StageAct(1, LaidAt(FoldersCall::SetAside, Tape12, Harvest)),
+            StageAct(20, Laid(Stop, Nothing)),
         ],
         folders: "\
 wrote 12.tape 7\nwrote 12.galley 25\nlost 12.tape\nlost 12.tape.txt: release 12 01020301030204\n",
@@ -117,23 +123,29 @@ fn changed(rt: HostRuntime) {
 }
 
 /// A search finds what was voted for; where there is nothing, it is made again after a pause that grows, and given back after ten times.
-const SOUGHT: &[Run] = &[
-    Run {
-        saved: Saved::Vote,
-        acts: &[Act(1, Laid(Seek12, Nothing)), Act(20, Laid(Stop, Nothing))],
+const SOUGHT: &[PlantRun] = &[
+    PlantRun {
+        saved: SavedBefore::Vote,
+        acts: &[
+            StageAct(1, Laid(Seek12, Nothing)),
+            StageAct(20, Laid(Stop, Nothing)),
+        ],
         folders: "wrote 12.tape 7\nwrote 12.galley 25\nsent 12.seek\n",
         err: "12 released\n12 sent\n",
         ..RUN
     },
-    Run {
-        acts: &[Act(1, Laid(Seek12, Nothing)), Act(20, Laid(Stop, Nothing))],
+    PlantRun {
+        acts: &[
+            StageAct(1, Laid(Seek12, Nothing)),
+            StageAct(20, Laid(Stop, Nothing)),
+        ],
         err: "12 nothing 1.1\n12 nothing 2.1\n12 nothing 3.1\n",
         ..RUN
     },
-    Run {
+    PlantRun {
         acts: &[
-            Act(1, Laid(Seek12, Nothing)),
-            Act(1030, Laid(Stop, Nothing)),
+            StageAct(1, Laid(Seek12, Nothing)),
+            StageAct(1030, Laid(Stop, Nothing)),
         ],
         quarters: 1100,
         folders: "done 12.seek\ndone 12.seek.txt: nothing\n",
@@ -144,22 +156,25 @@ const SOUGHT: &[Run] = &[
 ];
 
 /// A range is searched number by number, and its file tells what came of each.
-const RANGES: &[Run] = &[
-    Run {
-        saved: Saved::Vote,
-        acts: &[Act(1, Laid(Range, Nothing)), Act(20, Laid(Stop, Nothing))],
+const RANGES: &[PlantRun] = &[
+    PlantRun {
+        saved: SavedBefore::Vote,
+        acts: &[
+            StageAct(1, Laid(Range, Nothing)),
+            StageAct(20, Laid(Stop, Nothing)),
+        ],
         folders: "\
 wrote 12.tape 7\nwrote 12.galley 25\ndone 12-14.seek\ndone 12-14.seek.txt: 12 tape\n13-14 nothing\n",
         err: "12 released\ndone 12-14.seek: 1 tapes, 0 void, 2 nothing\n",
         ..RUN
     },
-    Run {
-        saved: Saved::Vote,
+    PlantRun {
+        saved: SavedBefore::Vote,
         loudness: Loudness::Faults,
         acts: &[
-            Act(1, Laid(Seek12, Nothing)),
-            Act(10, Laid(Range, Nothing)),
-            Act(30, Laid(Stop, Nothing)),
+            StageAct(1, Laid(Seek12, Nothing)),
+            StageAct(10, Laid(Range, Nothing)),
+            StageAct(30, Laid(Stop, Nothing)),
         ],
         folders: "\
 wrote 12.tape 7\nwrote 12.galley 25\nsent 12.seek\ndone 12-14.seek\n\
@@ -183,8 +198,11 @@ fn sought(rt: HostRuntime) {
 }
 
 /// A withdrawal is released as an empty file.
-const WITHDRAWN: Run = Run {
-    acts: &[Act(1, Laid(Withdraw14, Why)), Act(20, Laid(Stop, Nothing))],
+const WITHDRAWN: PlantRun = PlantRun {
+    acts: &[
+        StageAct(1, Laid(Withdraw14, Why)),
+        StageAct(20, Laid(Stop, Nothing)),
+    ],
     folders: "wrote 14.void 0\nsent 14.withdraw\n",
     err: "14 released\n14 sent\n",
     ..RUN

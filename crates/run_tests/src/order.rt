@@ -1,10 +1,10 @@
 //! In which order a run does what it does with its folders.
 
-use crate::plant::{RUN, Run, machine_of, place_word, terms};
-use crate::stage::Act as Happens;
-use crate::stage::Held::{Flood, Harvest, Nothing};
-use crate::stage::Name::{Stop, Tape12};
-use crate::stage::What::Laid;
+use crate::plant::{PlantRun, RUN, machine_of, place_word, terms};
+use crate::stage::OfferHeld::{Flood, Harvest, Nothing};
+use crate::stage::OfferName::{Stop, Tape12};
+use crate::stage::StageAct as Happens;
+use crate::stage::StageChange::Laid;
 use folders::Act;
 use log_terms::Loudness;
 use run_command::run_station;
@@ -27,7 +27,7 @@ fn put_act(act: &Act, text: &mut Vec<u8>) -> bool {
 /// What was done with the folders of a plant in a run of a circuit of one, in which a tape is laid there, then
 /// another one of its number, and then `stop`.
 fn done(alloc: Global) -> Option<Vec<u8>> {
-    let run = Run {
+    let run = PlantRun {
         acts: &[
             Happens(1, Laid(Tape12, Flood)),
             Happens(10, Laid(Tape12, Harvest)),

@@ -1,12 +1,12 @@
 //! A plant over rows and folders in memory, and what has to come of a run.
 
-use crate::stage::{Act, Stage};
+use crate::stage::{OffersStage, StageAct};
 use crate::wires::Ticking;
 use ballots::Member;
 use code_table::CodeTable;
 use command_ends::{End, end_with};
 use driver::Machine;
-use folders::{Act as Doing, MemoryFolders, Place};
+use folders::{MemoryFolders, Place, StageAct as Doing};
 use gone_out::Origin;
 use log_terms::Loudness;
 use plant_status::NoStatus;
@@ -20,7 +20,7 @@ use tape_frames::Version;
 
 /// What the station saved of number 12 before.
 #[derive(Clone, Copy)]
-pub enum Saved {
+pub enum SavedBefore {
     Nothing,
     /// A vote for the flood story.
     Vote,
@@ -31,13 +31,13 @@ pub enum Saved {
 /// A run: what the station saved before, how files come into its folders, what happens to these, after how many quarters of a second the
 /// network fails, how it has to end, what the folders have to hold, and what has to be told.
 #[derive(Clone, Copy)]
-pub struct Run {
+pub struct PlantRun {
     pub members: u8,
     pub version: Version,
-    pub saved: Saved,
+    pub saved: SavedBefore,
     /// Whether files come into the folder of offers only by being renamed.
     pub renamed: bool,
-    pub acts: &'static [Act],
+    pub acts: &'static [StageAct],
     pub quarters: u64,
     pub loudness: Loudness,
     pub end: End,
@@ -47,10 +47,10 @@ pub struct Run {
 }
 
 /// A run of one station over layout 2 to which nothing happens, and which a file ends.
-pub const RUN: Run = Run {
+pub const RUN: PlantRun = PlantRun {
     members: 1,
     version: Version::Two,
-    saved: Saved::Nothing,
+    saved: SavedBefore::Nothing,
     renamed: false,
     acts: &[],
     quarters: 60,
@@ -60,15 +60,15 @@ pub const RUN: Run = Run {
     err: "",
 };
 
-fn rows_of(alloc: Global, run: &Run) -> Option<MemoryRows> {
+fn rows_of(alloc: Global, run: &PlantRun) -> Option<MemoryRows> {
     match run.saved {
-        Saved::Nothing => rows_with(alloc, run.version, None),
-        Saved::LastPromise => rows_with(alloc, run.version, Some((u32::MAX, 1))),
-        Saved::Vote => rows_with_vote(alloc, run.version),
+        SavedBefore::Nothing => rows_with(alloc, run.version, None),
+        SavedBefore::LastPromise => rows_with(alloc, run.version, Some((u32::MAX, 1))),
+        SavedBefore::Vote => rows_with_vote(alloc, run.version),
     }
 }
 
-pub fn station_of(alloc: Global, run: &Run) -> Option<Station<MemoryRows>> {
+pub fn station_of(alloc: Global, run: &PlantRun) -> Option<Station<MemoryRows>> {
     station_over(alloc, 1, run.members, rows_of(alloc, run)?)
 }
 
@@ -177,7 +177,10 @@ pub fn terms_by(texts: Option<CodeTable>) -> Option<Terms<NoStatus>> {
 }
 
 /// The station of a run, on a wire on which nothing comes, and what happens to its folders.
-pub fn machine_of(alloc: Global, run: &Run) -> Option<Machine<MemoryRows, Ticking, Stage>> {
+pub fn machine_of(
+    alloc: Global,
+    run: &PlantRun,
+) -> Option<Machine<MemoryRows, Ticking, OffersStage>> {
     Some(Machine {
         alloc,
         station: station_of(alloc, run)?,
@@ -186,12 +189,12 @@ pub fn machine_of(alloc: Global, run: &Run) -> Option<Machine<MemoryRows, Tickin
             tick: 25,
             until: run.quarters.saturating_mul(250),
         },
-        outside: Stage::new(alloc, run.acts),
+        outside: OffersStage::new(alloc, run.acts),
     })
 }
 
 /// Whether a run on these terms comes to what it has to.
-pub fn comes_to(alloc: Global, terms: Terms<NoStatus>, run: &Run) -> Option<bool> {
+pub fn comes_to(alloc: Global, terms: Terms<NoStatus>, run: &PlantRun) -> Option<bool> {
     let mut machine = machine_of(alloc, run)?;
     let mut err = Vec::new(alloc);
     let outcome = run_station(&mut machine, terms, &mut err);
@@ -201,7 +204,7 @@ pub fn comes_to(alloc: Global, terms: Terms<NoStatus>, run: &Run) -> Option<bool
 }
 
 /// Whether a run comes to what it has to.
-pub fn is_true(alloc: Global, run: &Run) -> bool {
+pub fn is_true(alloc: Global, run: &PlantRun) -> bool {
     let Some(mut terms) = terms(run.loudness) else {
         return false;
     };

@@ -1,25 +1,25 @@
 //! Files that are no offers.
 
-use crate::plant::{RUN, Run, Saved, is_true};
-use crate::stage::Act;
-use crate::stage::Held::{BadFrame, Flood, Nothing, Overset, TooLong};
-use crate::stage::Name::{
+use crate::plant::{PlantRun, RUN, SavedBefore, is_true};
+use crate::stage::OfferHeld::{BadFrame, Flood, Nothing, Overset, TooLong};
+use crate::stage::OfferName::{
     DottedTape, GreatSeek, PartTape, Stop, StoryTape, Tape12, Tape13, Tape14, TwoLines, Withdraw14,
     ZeroTape,
 };
-use crate::stage::What::Laid;
+use crate::stage::StageAct;
+use crate::stage::StageChange::Laid;
 use tape_frames::Version;
 
 /// Names that ask for nothing, and tapes that are none. What is being handed over is left alone.
-const REFUSED: &[Run] = &[
-    Run {
+const REFUSED: &[PlantRun] = &[
+    PlantRun {
         acts: &[
-            Act(1, Laid(ZeroTape, Flood)),
-            Act(1, Laid(StoryTape, Flood)),
-            Act(1, Laid(GreatSeek, Nothing)),
-            Act(1, Laid(DottedTape, Flood)),
-            Act(1, Laid(PartTape, Flood)),
-            Act(9, Laid(Stop, Nothing)),
+            StageAct(1, Laid(ZeroTape, Flood)),
+            StageAct(1, Laid(StoryTape, Flood)),
+            StageAct(1, Laid(GreatSeek, Nothing)),
+            StageAct(1, Laid(DottedTape, Flood)),
+            StageAct(1, Laid(PartTape, Flood)),
+            StageAct(9, Laid(Stop, Nothing)),
         ],
         folders: "\
 refused 012.tape\nrefused 1000000.seek\nrefused story.tape\nrefused 012.tape.txt: no number\n\
@@ -28,18 +28,21 @@ refused 1000000.seek.txt: no number\nrefused story.tape.txt: no number\n",
         ..RUN
     },
     // A name that would forge a line of the log.
-    Run {
-        acts: &[Act(1, Laid(TwoLines, Flood)), Act(9, Laid(Stop, Nothing))],
+    PlantRun {
+        acts: &[
+            StageAct(1, Laid(TwoLines, Flood)),
+            StageAct(9, Laid(Stop, Nothing)),
+        ],
         folders: "refused 12 lost\n13.tape\nrefused 12 lost\n13.tape.txt: no number\n",
         err: "refused 12 lost\\n13.tape: no number\n",
         ..RUN
     },
-    Run {
+    PlantRun {
         acts: &[
-            Act(1, Laid(Tape12, BadFrame)),
-            Act(1, Laid(Tape13, Nothing)),
-            Act(1, Laid(Tape14, TooLong)),
-            Act(9, Laid(Stop, Nothing)),
+            StageAct(1, Laid(Tape12, BadFrame)),
+            StageAct(1, Laid(Tape13, Nothing)),
+            StageAct(1, Laid(Tape14, TooLong)),
+            StageAct(9, Laid(Stop, Nothing)),
         ],
         folders: "\
 refused 12.tape\nrefused 13.tape\nrefused 14.tape\nrefused 12.tape.txt: tape: bad frame at 1\n\
@@ -59,26 +62,32 @@ fn refused(rt: HostRuntime) {
 }
 
 /// What the station does not take: a tape that does not set, a withdrawal over layout 1, a number whose rounds are spent.
-const NOT_TAKEN: &[Run] = &[
-    Run {
-        acts: &[Act(1, Laid(Tape12, Overset)), Act(9, Laid(Stop, Nothing))],
+const NOT_TAKEN: &[PlantRun] = &[
+    PlantRun {
+        acts: &[
+            StageAct(1, Laid(Tape12, Overset)),
+            StageAct(9, Laid(Stop, Nothing)),
+        ],
         folders: "refused 12.tape\nrefused 12.tape.txt: tape-faulty overset 1 at 7 line 1\n",
         err: "refused 12.tape: tape-faulty overset 1 at 7 line 1\n",
         ..RUN
     },
-    Run {
+    PlantRun {
         version: Version::One,
         acts: &[
-            Act(1, Laid(Withdraw14, Nothing)),
-            Act(9, Laid(Stop, Nothing)),
+            StageAct(1, Laid(Withdraw14, Nothing)),
+            StageAct(9, Laid(Stop, Nothing)),
         ],
         folders: "refused 14.withdraw\nrefused 14.withdraw.txt: wire-too-old\n",
         err: "refused 14.withdraw: wire-too-old\n",
         ..RUN
     },
-    Run {
-        saved: Saved::LastPromise,
-        acts: &[Act(1, Laid(Tape12, Flood)), Act(9, Laid(Stop, Nothing))],
+    PlantRun {
+        saved: SavedBefore::LastPromise,
+        acts: &[
+            StageAct(1, Laid(Tape12, Flood)),
+            StageAct(9, Laid(Stop, Nothing)),
+        ],
         folders: "refused 12.tape\nrefused 12.tape.txt: rounds-spent\n",
         err: "refused 12.tape: rounds-spent\n",
         ..RUN

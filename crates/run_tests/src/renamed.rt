@@ -1,36 +1,39 @@
 //! Offers to which files come only by being renamed, and such to which they come in any way.
 
-use crate::plant::{RUN, Run, is_true};
-use crate::stage::Act;
-use crate::stage::Held::{Flood, Harvest, Nothing};
-use crate::stage::Name::{Stop, Tape12};
-use crate::stage::What::{Laid, Taken};
+use crate::plant::{PlantRun, RUN, is_true};
+use crate::stage::OfferHeld::{Flood, Harvest, Nothing};
+use crate::stage::OfferName::{Stop, Tape12};
+use crate::stage::StageAct;
+use crate::stage::StageChange::{Laid, Taken};
 
 /// A file that lies there at one look alone goes out where files are renamed, and not where they may be written as they lie there. Where
 /// one is written on nevertheless, what the first look found goes out, and the rest is lost.
-const RUNS: &[Run] = &[
-    Run {
+const RUNS: &[PlantRun] = &[
+    PlantRun {
         renamed: true,
-        acts: &[Act(1, Laid(Tape12, Flood)), Act(2, Laid(Stop, Nothing))],
+        acts: &[
+            StageAct(1, Laid(Tape12, Flood)),
+            StageAct(2, Laid(Stop, Nothing)),
+        ],
         folders: "wrote 12.tape 7\nwrote 12.galley 25\nsent 12.tape\n",
         err: "12 released\n12 sent\n",
         ..RUN
     },
-    Run {
+    PlantRun {
         acts: &[
-            Act(1, Laid(Tape12, Flood)),
-            Act(2, Taken(Tape12)),
-            Act(9, Laid(Stop, Nothing)),
+            StageAct(1, Laid(Tape12, Flood)),
+            StageAct(2, Taken(Tape12)),
+            StageAct(9, Laid(Stop, Nothing)),
         ],
         folders: "gone 12.tape\n",
         ..RUN
     },
-    Run {
+    PlantRun {
         renamed: true,
         acts: &[
-            Act(1, Laid(Tape12, Flood)),
-            Act(2, Laid(Tape12, Harvest)),
-            Act(9, Laid(Stop, Nothing)),
+            StageAct(1, Laid(Tape12, Flood)),
+            StageAct(2, Laid(Tape12, Harvest)),
+            StageAct(9, Laid(Stop, Nothing)),
         ],
         folders: "\
 wrote 12.tape 7\nwrote 12.galley 25\nsent 12.tape\nlost 12.tape\n\

@@ -1,10 +1,10 @@
 //! Files that are replaced, or taken away, while they are under way; three files of one number; and names that ask for nothing.
 
-use crate::plant::{RUN, Run, is_true, machine_of, terms};
-use crate::stage::Act;
-use crate::stage::Held::{Flood, Harvest, Nothing, Why};
-use crate::stage::Name::{Seek14, Stop, Tape12, Tape14, Withdraw14};
-use crate::stage::What::{Laid, Strays, Taken};
+use crate::plant::{PlantRun, RUN, is_true, machine_of, terms};
+use crate::stage::OfferHeld::{Flood, Harvest, Nothing, Why};
+use crate::stage::OfferName::{Seek14, Stop, Tape12, Tape14, Withdraw14};
+use crate::stage::StageAct;
+use crate::stage::StageChange::{Laid, Strays, Taken};
 use command_ends::{End, end_with};
 use log_terms::Loudness;
 use run_command::run_station;
@@ -12,10 +12,13 @@ use std::alloc::Global;
 
 /// Where nobody answers, a file that is replaced while it is under way is read once its ballots are given up, and not before; one that is
 /// taken away is not asked for again. In the usual log the second ballot is told, and that they are given up.
-const GIVEN_UP: &[Run] = &[
-    Run {
+const GIVEN_UP: &[PlantRun] = &[
+    PlantRun {
         members: 3,
-        acts: &[Act(1, Laid(Tape12, Flood)), Act(10, Laid(Tape12, Harvest))],
+        acts: &[
+            StageAct(1, Laid(Tape12, Flood)),
+            StageAct(10, Laid(Tape12, Harvest)),
+        ],
         quarters: 45,
         end: End::Socket,
         err: "\
@@ -27,18 +30,24 @@ const GIVEN_UP: &[Run] = &[
 12 began 31.1\n12 began 32.1\n12 gave-up 32.1\n12 replaced while it was under way\n12 began 33.1\nsocket: receive failed\n",
         ..RUN
     },
-    Run {
+    PlantRun {
         members: 3,
-        acts: &[Act(1, Laid(Tape12, Flood)), Act(10, Laid(Tape12, Harvest))],
+        acts: &[
+            StageAct(1, Laid(Tape12, Flood)),
+            StageAct(10, Laid(Tape12, Harvest)),
+        ],
         quarters: 45,
         loudness: Loudness::Usual,
         end: End::Socket,
         err: "12 began 2.1\n12 gave-up 32.1\n12 replaced while it was under way\nsocket: receive failed\n",
         ..RUN
     },
-    Run {
+    PlantRun {
         members: 3,
-        acts: &[Act(1, Laid(Tape12, Flood)), Act(10, Taken(Tape12))],
+        acts: &[
+            StageAct(1, Laid(Tape12, Flood)),
+            StageAct(10, Taken(Tape12)),
+        ],
         quarters: 60,
         end: End::Socket,
         folders: "gone 12.tape\n",
@@ -61,12 +70,12 @@ fn under_way(rt: HostRuntime) {
 }
 
 /// Of three files of one number, which ask for three things, the tape is released; each of the others leaves by that.
-const THREE: Run = Run {
+const THREE: PlantRun = PlantRun {
     acts: &[
-        Act(1, Laid(Seek14, Nothing)),
-        Act(1, Laid(Withdraw14, Why)),
-        Act(1, Laid(Tape14, Flood)),
-        Act(20, Laid(Stop, Nothing)),
+        StageAct(1, Laid(Seek14, Nothing)),
+        StageAct(1, Laid(Withdraw14, Why)),
+        StageAct(1, Laid(Tape14, Flood)),
+        StageAct(20, Laid(Stop, Nothing)),
     ],
     folders: "\
 wrote 14.tape 7\nwrote 14.galley 25\nsent 14.tape\nlost 14.withdraw\nsent 14.seek\n\
@@ -82,11 +91,11 @@ fn three_wishes(rt: HostRuntime) {
 
 /// How many lines are told where so many files lie there whose names ask for nothing, beside a story; and the last.
 fn among_strays(alloc: Global) -> Option<(usize, bool)> {
-    let run = Run {
+    let run = PlantRun {
         acts: &[
-            Act(1, Strays(40)),
-            Act(1, Laid(Tape12, Flood)),
-            Act(20, Laid(Stop, Nothing)),
+            StageAct(1, Strays(40)),
+            StageAct(1, Laid(Tape12, Flood)),
+            StageAct(20, Laid(Stop, Nothing)),
         ],
         ..RUN
     };

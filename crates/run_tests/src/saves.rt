@@ -1,10 +1,10 @@
 //! When a release goes into the folders of a plant: once the save of its step is stored, and not before.
 
 use crate::plant::{count_filed, terms};
-use crate::stage::Held::{Flood, Nothing};
-use crate::stage::Name::{Stop, Tape12};
-use crate::stage::What::Laid;
-use crate::stage::{Act, Stage};
+use crate::stage::OfferHeld::{Flood, Nothing};
+use crate::stage::OfferName::{Stop, Tape12};
+use crate::stage::StageChange::Laid;
+use crate::stage::{OffersStage, StageAct};
 use crate::wires::Ticking;
 use command_ends::{End, end_with};
 use driver::Machine;
@@ -16,7 +16,10 @@ use std::alloc::Global;
 use tape_frames::Version;
 
 /// A tape, and then the end of the run.
-const ACTS: &[Act] = &[Act(1, Laid(Tape12, Flood)), Act(20, Laid(Stop, Nothing))];
+const ACTS: &[StageAct] = &[
+    StageAct(1, Laid(Tape12, Flood)),
+    StageAct(20, Laid(Stop, Nothing)),
+];
 
 /// How a run of a circuit of one ends, over rows of which steps share a save, and how many files are written among the releases. The first
 /// save is refused, or none is.
@@ -34,7 +37,7 @@ fn came_to(alloc: Global, is_refused: bool) -> Option<(End, usize)> {
             tick: 25,
             until: 15_000,
         },
-        outside: Stage::new(alloc, ACTS),
+        outside: OffersStage::new(alloc, ACTS),
     };
     let mut err = Vec::new(alloc);
     let outcome = run_station(&mut machine, terms, &mut err);

@@ -11,7 +11,7 @@ use std::alloc::{AllocError, Global};
 
 /// The name of a file among the offers.
 #[derive(Clone, Copy)]
-pub enum Name {
+pub enum OfferName {
     Tape12,
     Text12,
     Tape13,
@@ -33,29 +33,29 @@ pub enum Name {
     PartTape,
 }
 
-fn text_of(name: Name) -> &'static str {
+fn text_of(name: OfferName) -> &'static str {
     match name {
-        Name::Tape12 => "12.tape",
-        Name::Text12 => "12.text",
-        Name::Tape13 => "13.tape",
-        Name::Tape14 => "14.tape",
-        Name::Seek12 => "12.seek",
-        Name::Seek14 => "14.seek",
-        Name::Range => "12-14.seek",
-        Name::Withdraw14 => "14.withdraw",
-        Name::Stop => "stop",
-        Name::ZeroTape => "012.tape",
-        Name::StoryTape => "story.tape",
-        Name::GreatSeek => "1000000.seek",
-        Name::TwoLines => "12 lost\n13.tape",
-        Name::DottedTape => ".13.tape",
-        Name::PartTape => "13.tape.part",
+        OfferName::Tape12 => "12.tape",
+        OfferName::Text12 => "12.text",
+        OfferName::Tape13 => "13.tape",
+        OfferName::Tape14 => "14.tape",
+        OfferName::Seek12 => "12.seek",
+        OfferName::Seek14 => "14.seek",
+        OfferName::Range => "12-14.seek",
+        OfferName::Withdraw14 => "14.withdraw",
+        OfferName::Stop => "stop",
+        OfferName::ZeroTape => "012.tape",
+        OfferName::StoryTape => "story.tape",
+        OfferName::GreatSeek => "1000000.seek",
+        OfferName::TwoLines => "12 lost\n13.tape",
+        OfferName::DottedTape => ".13.tape",
+        OfferName::PartTape => "13.tape.part",
     }
 }
 
 /// What a file among the offers holds.
 #[derive(Clone, Copy)]
-pub enum Held {
+pub enum OfferHeld {
     Nothing,
     /// A word.
     Why,
@@ -75,25 +75,25 @@ pub enum Held {
     TooLong,
 }
 
-fn bytes_of(held: Held) -> &'static [u8] {
+fn bytes_of(held: OfferHeld) -> &'static [u8] {
     match held {
-        Held::Nothing => &[],
-        Held::Why => b"why",
-        Held::FloodText => b"ab a b\n",
-        Held::LastLine => b"ab a b\nab?\n",
-        Held::Flood => FLOOD,
-        Held::Harvest => HARVEST,
-        Held::Ligature => LIGATURE,
-        Held::Overset => OVERSET,
-        Held::Start(count) => FLOOD.get(..count).unwrap_or(&[]),
-        Held::BadFrame => &[1, 64],
-        Held::TooLong => &[1; 16_385],
+        OfferHeld::Nothing => &[],
+        OfferHeld::Why => b"why",
+        OfferHeld::FloodText => b"ab a b\n",
+        OfferHeld::LastLine => b"ab a b\nab?\n",
+        OfferHeld::Flood => FLOOD,
+        OfferHeld::Harvest => HARVEST,
+        OfferHeld::Ligature => LIGATURE,
+        OfferHeld::Overset => OVERSET,
+        OfferHeld::Start(count) => FLOOD.get(..count).unwrap_or(&[]),
+        OfferHeld::BadFrame => &[1, 64],
+        OfferHeld::TooLong => &[1; 16_385],
     }
 }
 
 /// A call of the folders; or, within one that reads, what comes between its first look at the file and the reading.
 #[derive(Clone, Copy, PartialEq, Eq)]
-pub enum Call {
+pub enum FoldersCall {
     Read,
     WithinRead,
     SetAside,
@@ -101,15 +101,15 @@ pub enum Call {
 
 /// What happens to the folders.
 #[derive(Clone, Copy)]
-pub enum What {
+pub enum StageChange {
     /// A file is laid among the offers, or written anew.
-    Laid(Name, Held),
+    Laid(OfferName, OfferHeld),
     /// The same, just before the next such call.
-    LaidAt(Call, Name, Held),
+    LaidAt(FoldersCall, OfferName, OfferHeld),
     /// A file is taken from the offers.
-    Taken(Name),
+    Taken(OfferName),
     /// A text of so many letters in one line is laid among the offers.
-    Letters(Name, usize),
+    Letters(OfferName, usize),
     /// The flood story is laid among the offers for each of so many numbers, from 1 on.
     Burst(u32),
     /// So many files are laid among the offers whose names ask for nothing.
@@ -128,24 +128,24 @@ pub enum What {
 
 /// What happens before a look at the folders, counted from 1.
 #[derive(Clone, Copy)]
-pub struct Act(pub usize, pub What);
+pub struct StageAct(pub usize, pub StageChange);
 
 /// Folders in memory, and what happens to them.
 #[derive(Drop)]
-pub struct Stage {
+pub struct OffersStage {
     pub folders: MemoryFolders,
-    pub acts: &'static [Act],
+    pub acts: &'static [StageAct],
     pub looks: usize,
     /// What is laid before the next of which calls.
-    pub next: Option<(Call, Name, Held)>,
+    pub next: Option<(FoldersCall, OfferName, OfferHeld)>,
     pub is_stuck: bool,
     pub is_unread: bool,
     pub has_fifo: bool,
 }
 
-impl Stage {
-    pub fn new(alloc: Global, acts: &'static [Act]) -> Stage {
-        Stage {
+impl OffersStage {
+    pub fn new(alloc: Global, acts: &'static [StageAct]) -> OffersStage {
+        OffersStage {
             folders: MemoryFolders::new(alloc),
             acts,
             looks: 0,
@@ -174,21 +174,31 @@ impl Stage {
         Ok(())
     }
 
-    fn lay(&mut self, alloc: Global, name: Name, held: Held) -> Result<(), AllocError> {
+    fn lay(&mut self, alloc: Global, name: OfferName, held: OfferHeld) -> Result<(), AllocError> {
         let changed = i64::try_from(self.looks).unwrap_or(i64::MAX);
         self.folders
             .lay(alloc, text_of(name), bytes_of(held), changed)
     }
 
     /// The same within the next call that reads.
-    fn lay_within(&mut self, alloc: Global, name: Name, held: Held) -> Result<(), AllocError> {
+    fn lay_within(
+        &mut self,
+        alloc: Global,
+        name: OfferName,
+        held: OfferHeld,
+    ) -> Result<(), AllocError> {
         let changed = i64::try_from(self.looks).unwrap_or(i64::MAX);
         self.folders
             .lay_within_read(alloc, text_of(name), bytes_of(held), changed)
     }
 
     /// Lays a text of so many letters.
-    fn lay_letters(&mut self, alloc: Global, name: Name, count: usize) -> Result<(), AllocError> {
+    fn lay_letters(
+        &mut self,
+        alloc: Global,
+        name: OfferName,
+        count: usize,
+    ) -> Result<(), AllocError> {
         let mut text = Vec::new(alloc);
         for _ in 0..count {
             if text.push(b'a').is_err() {
@@ -199,7 +209,7 @@ impl Stage {
     }
 
     /// Lays what is laid before this call, or within it.
-    fn lay_before(&mut self, alloc: Global, call: Call) -> Result<(), AllocError> {
+    fn lay_before(&mut self, alloc: Global, call: FoldersCall) -> Result<(), AllocError> {
         let laid = self.next;
         let Some((next, name, held)) = laid else {
             return Ok(());
@@ -208,41 +218,41 @@ impl Stage {
             self.next = None;
             return self.lay(alloc, name, held);
         }
-        if next == Call::WithinRead && call == Call::Read {
+        if next == FoldersCall::WithinRead && call == FoldersCall::Read {
             self.next = None;
             return self.lay_within(alloc, name, held);
         }
         Ok(())
     }
 
-    fn act(&mut self, alloc: Global, what: What) -> Result<(), AllocError> {
+    fn act(&mut self, alloc: Global, what: StageChange) -> Result<(), AllocError> {
         match what {
-            What::Letters(name, count) => self.lay_letters(alloc, name, count),
-            What::Burst(last) => self.lay_all(alloc, last),
-            What::Strays(count) => self.lay_strays(alloc, count, ""),
-            What::Left(count) => self.lay_strays(alloc, count, ".part"),
-            What::Taken(name) => {
+            StageChange::Letters(name, count) => self.lay_letters(alloc, name, count),
+            StageChange::Burst(last) => self.lay_all(alloc, last),
+            StageChange::Strays(count) => self.lay_strays(alloc, count, ""),
+            StageChange::Left(count) => self.lay_strays(alloc, count, ".part"),
+            StageChange::Taken(name) => {
                 let _ = self.folders.remove(alloc, text_of(name));
                 Ok(())
             }
-            What::Laid(name, held) => self.lay(alloc, name, held),
-            What::LaidAt(call, name, held) => {
+            StageChange::Laid(name, held) => self.lay(alloc, name, held),
+            StageChange::LaidAt(call, name, held) => {
                 self.next = Some((call, name, held));
                 Ok(())
             }
-            What::Full(is_full) => {
+            StageChange::Full(is_full) => {
                 self.folders.set_full(is_full);
                 Ok(())
             }
-            What::Stuck(is_stuck) => {
+            StageChange::Stuck(is_stuck) => {
                 self.is_stuck = is_stuck;
                 Ok(())
             }
-            What::Unread(is_unread) => {
+            StageChange::Unread(is_unread) => {
                 self.is_unread = is_unread;
                 Ok(())
             }
-            What::Fifo(has_fifo) => {
+            StageChange::Fifo(has_fifo) => {
                 self.has_fifo = has_fifo;
                 Ok(())
             }
@@ -253,7 +263,7 @@ impl Stage {
     fn pass(&mut self, alloc: Global) -> Result<(), AllocError> {
         self.looks = self.looks.saturating_add(1);
         for act in self.acts {
-            let Act(look, what) = *act;
+            let StageAct(look, what) = *act;
             if look == self.looks {
                 self.act(alloc, what)?;
             }
@@ -265,7 +275,7 @@ impl Stage {
 /// The name of a fifo among the offers.
 const FIFO: &str = "a\nfifo";
 
-impl Folders for Stage {
+impl Folders for OffersStage {
     /// A look takes so long that the next comes a quarter of a second later.
     fn list(&mut self, alloc: Global, most: usize) -> Result<Listing, FolderFault> {
         self.pass(alloc)?;
@@ -297,7 +307,7 @@ impl Folders for Stage {
         stamp: Stamp,
         most: usize,
     ) -> Result<Option<Vec<u8>>, FolderFault> {
-        self.lay_before(alloc, Call::Read)?;
+        self.lay_before(alloc, FoldersCall::Read)?;
         self.folders.read(alloc, name, stamp, most)
     }
 
@@ -314,7 +324,7 @@ impl Folders for Stage {
         if self.is_stuck {
             return Err(FolderFault::NotAllowed);
         }
-        self.lay_before(alloc, Call::SetAside)?;
+        self.lay_before(alloc, FoldersCall::SetAside)?;
         self.folders.set_aside(alloc, leaving, beside)
     }
 

@@ -1,10 +1,10 @@
 //! Texts among the offers.
 
-use crate::plant::{RUN, Run, Saved, comes_to, terms_by};
-use crate::stage::Act;
-use crate::stage::Held::{FloodText, LastLine, Nothing};
-use crate::stage::Name::{Stop, Text12};
-use crate::stage::What::{Laid, Letters};
+use crate::plant::{PlantRun, RUN, SavedBefore, comes_to, terms_by};
+use crate::stage::OfferHeld::{FloodText, LastLine, Nothing};
+use crate::stage::OfferName::{Stop, Text12};
+use crate::stage::StageAct;
+use crate::stage::StageChange::{Laid, Letters};
 use code_table::CodeTable;
 use fixtures::CODES;
 use std::alloc::Global;
@@ -38,7 +38,7 @@ fn table_of(alloc: Global, texts: Texts) -> Option<CodeTable> {
 }
 
 /// Whether a run comes to what it has to.
-fn is_true(alloc: Global, texts: Texts, run: &Run) -> bool {
+fn is_true(alloc: Global, texts: Texts, run: &PlantRun) -> bool {
     match terms_by(table_of(alloc, texts)) {
         Some(terms) => comes_to(alloc, terms, run) == Some(true),
         None => false,
@@ -48,13 +48,13 @@ fn is_true(alloc: Global, texts: Texts, run: &Run) -> bool {
 /// A text is released as the tape that it becomes, and sent; where another stands by another table, it is lost. One that becomes no tape is
 /// refused with its line, one of a byte too many is not read, and layout 1 has no room for 4,097 frames. Where no text may be offered, its
 /// name asks for nothing.
-const RUNS: &[(Texts, Run)] = &[
+const RUNS: &[(Texts, PlantRun)] = &[
     (
         Texts::Own,
-        Run {
+        PlantRun {
             acts: &[
-                Act(1, Laid(Text12, FloodText)),
-                Act(20, Laid(Stop, Nothing)),
+                StageAct(1, Laid(Text12, FloodText)),
+                StageAct(20, Laid(Stop, Nothing)),
             ],
             folders: "wrote 12.tape 7\nwrote 12.galley 25\nsent 12.text\n",
             err: "12 released\n12 sent\n",
@@ -63,11 +63,11 @@ const RUNS: &[(Texts, Run)] = &[
     ),
     (
         Texts::Other,
-        Run {
-            saved: Saved::Vote,
+        PlantRun {
+            saved: SavedBefore::Vote,
             acts: &[
-                Act(1, Laid(Text12, FloodText)),
-                Act(20, Laid(Stop, Nothing)),
+                StageAct(1, Laid(Text12, FloodText)),
+                StageAct(20, Laid(Stop, Nothing)),
             ],
             folders: "\
 wrote 12.tape 7\nwrote 12.galley 25\nlost 12.text\nlost 12.text.txt: release 12 01020301030204\n",
@@ -77,8 +77,11 @@ wrote 12.tape 7\nwrote 12.galley 25\nlost 12.text\nlost 12.text.txt: release 12 
     ),
     (
         Texts::Own,
-        Run {
-            acts: &[Act(1, Laid(Text12, LastLine)), Act(9, Laid(Stop, Nothing))],
+        PlantRun {
+            acts: &[
+                StageAct(1, Laid(Text12, LastLine)),
+                StageAct(9, Laid(Stop, Nothing)),
+            ],
             folders: "refused 12.text\nrefused 12.text.txt: text: no code at line 2 column 3\n",
             err: "refused 12.text: text: no code at line 2 column 3\n",
             ..RUN
@@ -86,8 +89,11 @@ wrote 12.tape 7\nwrote 12.galley 25\nlost 12.text\nlost 12.text.txt: release 12 
     ),
     (
         Texts::Own,
-        Run {
-            acts: &[Act(1, Laid(Text12, Nothing)), Act(9, Laid(Stop, Nothing))],
+        PlantRun {
+            acts: &[
+                StageAct(1, Laid(Text12, Nothing)),
+                StageAct(9, Laid(Stop, Nothing)),
+            ],
             folders: "refused 12.text\nrefused 12.text.txt: text: empty\n",
             err: "refused 12.text: text: empty\n",
             ..RUN
@@ -95,10 +101,10 @@ wrote 12.tape 7\nwrote 12.galley 25\nlost 12.text\nlost 12.text.txt: release 12 
     ),
     (
         Texts::Own,
-        Run {
+        PlantRun {
             acts: &[
-                Act(1, Letters(Text12, 1_048_577)),
-                Act(9, Laid(Stop, Nothing)),
+                StageAct(1, Letters(Text12, 1_048_577)),
+                StageAct(9, Laid(Stop, Nothing)),
             ],
             folders: "refused 12.text\nrefused 12.text.txt: input too long\n",
             err: "refused 12.text: input too long\n",
@@ -107,9 +113,12 @@ wrote 12.tape 7\nwrote 12.galley 25\nlost 12.text\nlost 12.text.txt: release 12 
     ),
     (
         Texts::Own,
-        Run {
+        PlantRun {
             version: Version::One,
-            acts: &[Act(1, Letters(Text12, 4097)), Act(9, Laid(Stop, Nothing))],
+            acts: &[
+                StageAct(1, Letters(Text12, 4097)),
+                StageAct(9, Laid(Stop, Nothing)),
+            ],
             folders: "refused 12.text\nrefused 12.text.txt: wire-too-old\n",
             err: "refused 12.text: wire-too-old\n",
             ..RUN
@@ -117,8 +126,11 @@ wrote 12.tape 7\nwrote 12.galley 25\nlost 12.text\nlost 12.text.txt: release 12 
     ),
     (
         Texts::Off,
-        Run {
-            acts: &[Act(1, Laid(Text12, FloodText)), Act(9, Laid(Stop, Nothing))],
+        PlantRun {
+            acts: &[
+                StageAct(1, Laid(Text12, FloodText)),
+                StageAct(9, Laid(Stop, Nothing)),
+            ],
             folders: "refused 12.text\nrefused 12.text.txt: no number\n",
             err: "refused 12.text: no number\n",
             ..RUN

@@ -1,30 +1,30 @@
 //! What waits: a file that grows, a release while the disk is full, an offer while no majority is there.
 
-use crate::plant::{RUN, Run, is_true};
-use crate::stage::Act;
-use crate::stage::Held::{Flood, Ligature, Nothing, Start};
-use crate::stage::Name::{Seek12, Stop, Tape12};
-use crate::stage::What::{Fifo, Full, Laid, Stuck, Unread};
+use crate::plant::{PlantRun, RUN, is_true};
+use crate::stage::OfferHeld::{Flood, Ligature, Nothing, Start};
+use crate::stage::OfferName::{Seek12, Stop, Tape12};
+use crate::stage::StageAct;
+use crate::stage::StageChange::{Fifo, Full, Laid, Stuck, Unread};
 use command_ends::End;
 
 /// A file that grows is not taken before it stood still for half a second.
-const GROWING: &[Run] = &[
-    Run {
+const GROWING: &[PlantRun] = &[
+    PlantRun {
         acts: &[
-            Act(1, Laid(Tape12, Start(1))),
-            Act(2, Laid(Tape12, Start(2))),
-            Act(3, Laid(Tape12, Start(3))),
-            Act(4, Laid(Tape12, Flood)),
-            Act(5, Laid(Stop, Nothing)),
+            StageAct(1, Laid(Tape12, Start(1))),
+            StageAct(2, Laid(Tape12, Start(2))),
+            StageAct(3, Laid(Tape12, Start(3))),
+            StageAct(4, Laid(Tape12, Flood)),
+            StageAct(5, Laid(Stop, Nothing)),
         ],
         ..RUN
     },
-    Run {
+    PlantRun {
         acts: &[
-            Act(1, Laid(Tape12, Start(1))),
-            Act(2, Laid(Tape12, Start(2))),
-            Act(3, Laid(Tape12, Flood)),
-            Act(8, Laid(Stop, Nothing)),
+            StageAct(1, Laid(Tape12, Start(1))),
+            StageAct(2, Laid(Tape12, Start(2))),
+            StageAct(3, Laid(Tape12, Flood)),
+            StageAct(8, Laid(Stop, Nothing)),
         ],
         folders: "wrote 12.tape 7\nwrote 12.galley 25\nsent 12.tape\n",
         err: "12 released\n12 sent\n",
@@ -40,22 +40,22 @@ fn growing(rt: HostRuntime) {
 }
 
 /// A release that can't be written is written later, and the file that asked for it stays until then.
-const FULL_DISK: &[Run] = &[
-    Run {
+const FULL_DISK: &[PlantRun] = &[
+    PlantRun {
         acts: &[
-            Act(1, Full(true)),
-            Act(1, Laid(Tape12, Flood)),
-            Act(20, Laid(Stop, Nothing)),
+            StageAct(1, Full(true)),
+            StageAct(1, Laid(Tape12, Flood)),
+            StageAct(20, Laid(Stop, Nothing)),
         ],
         err: "folders: cannot write releases: the disk is full\n12 released\n",
         ..RUN
     },
-    Run {
+    PlantRun {
         acts: &[
-            Act(1, Full(true)),
-            Act(1, Laid(Tape12, Flood)),
-            Act(10, Full(false)),
-            Act(20, Laid(Stop, Nothing)),
+            StageAct(1, Full(true)),
+            StageAct(1, Laid(Tape12, Flood)),
+            StageAct(10, Full(false)),
+            StageAct(20, Laid(Stop, Nothing)),
         ],
         folders: "wrote 12.tape 7\nwrote 12.galley 25\nsent 12.tape\n",
         err: "folders: cannot write releases: the disk is full\n12 released\n12 sent\n",
@@ -71,12 +71,12 @@ fn full_disk(rt: HostRuntime) {
 }
 
 /// A file that can't be moved once its number is released is moved a second later.
-const MOVED_LATER: Run = Run {
+const MOVED_LATER: PlantRun = PlantRun {
     acts: &[
-        Act(1, Stuck(true)),
-        Act(1, Laid(Tape12, Flood)),
-        Act(8, Stuck(false)),
-        Act(20, Laid(Stop, Nothing)),
+        StageAct(1, Stuck(true)),
+        StageAct(1, Laid(Tape12, Flood)),
+        StageAct(8, Stuck(false)),
+        StageAct(20, Laid(Stop, Nothing)),
     ],
     folders: "wrote 12.tape 7\nwrote 12.galley 25\nsent 12.tape\n",
     err: "12 released\nfolders: cannot move 12.tape: it is not allowed\n12 sent\n",
@@ -89,16 +89,16 @@ fn moved_later(rt: HostRuntime) {
 }
 
 /// Offers that can't be listed are told once, and again when they could be meanwhile; and so is what is no plain file.
-const TOLD_ONCE: Run = Run {
+const TOLD_ONCE: PlantRun = PlantRun {
     acts: &[
-        Act(2, Unread(true)),
-        Act(5, Unread(false)),
-        Act(7, Unread(true)),
-        Act(9, Unread(false)),
-        Act(11, Fifo(true)),
-        Act(14, Fifo(false)),
-        Act(16, Fifo(true)),
-        Act(20, Laid(Stop, Nothing)),
+        StageAct(2, Unread(true)),
+        StageAct(5, Unread(false)),
+        StageAct(7, Unread(true)),
+        StageAct(9, Unread(false)),
+        StageAct(11, Fifo(true)),
+        StageAct(14, Fifo(false)),
+        StageAct(16, Fifo(true)),
+        StageAct(20, Laid(Stop, Nothing)),
     ],
     err: "\
 folders: cannot read offers: it is not allowed\nfolders: cannot read offers: it is not allowed\n\
@@ -112,13 +112,13 @@ fn told_once(rt: HostRuntime) {
 }
 
 /// A file that was written anew once it was taken up is no longer the one that was: it is taken up again, and loses the number.
-const WRITTEN_ANEW: Run = Run {
+const WRITTEN_ANEW: PlantRun = PlantRun {
     acts: &[
-        Act(1, Full(true)),
-        Act(1, Laid(Tape12, Flood)),
-        Act(7, Laid(Tape12, Ligature)),
-        Act(10, Full(false)),
-        Act(40, Laid(Stop, Nothing)),
+        StageAct(1, Full(true)),
+        StageAct(1, Laid(Tape12, Flood)),
+        StageAct(7, Laid(Tape12, Ligature)),
+        StageAct(10, Full(false)),
+        StageAct(40, Laid(Stop, Nothing)),
     ],
     folders: "wrote 12.tape 7\nwrote 12.galley 25\nlost 12.tape\nlost 12.tape.txt: release 12 01020301030204\n",
     err: "folders: cannot write releases: the disk is full\n12 released\n12 lost\n",
@@ -131,9 +131,9 @@ fn written_anew(rt: HostRuntime) {
 }
 
 /// Where nobody answers one ballot follows the other; the run goes on until the network fails.
-const ALONE: Run = Run {
+const ALONE: PlantRun = PlantRun {
     members: 3,
-    acts: &[Act(1, Laid(Seek12, Nothing))],
+    acts: &[StageAct(1, Laid(Seek12, Nothing))],
     quarters: 4,
     end: End::Socket,
     err: "12 began 1.1\n12 began 2.1\nsocket: receive failed\n",
@@ -146,9 +146,9 @@ fn alone(rt: HostRuntime) {
 }
 
 /// After 32 ballots a file is given up, and begun again after a pause.
-const GIVEN_UP: Run = Run {
+const GIVEN_UP: PlantRun = PlantRun {
     members: 3,
-    acts: &[Act(1, Laid(Seek12, Nothing))],
+    acts: &[StageAct(1, Laid(Seek12, Nothing))],
     quarters: 50,
     end: End::Socket,
     err: "\

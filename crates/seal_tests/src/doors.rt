@@ -15,7 +15,7 @@ const OTHER: u8 = 8;
 
 /// What a door told of a datagram: how long the packet is that it brought, or why it brought none.
 #[derive(Clone, Copy, PartialEq, Eq)]
-enum Told {
+enum DoorTold {
     Packet { length: usize },
     Part,
     Lost,
@@ -24,56 +24,56 @@ enum Told {
 
 /// A datagram that member 1 sealed under a key of this byte for member 2, which names these as its sender and its addressee, and comes
 /// from this port; and what the door tells of it.
-struct Case {
+struct DoorCase {
     key: u8,
     from: u8,
     to: u8,
     port: u16,
-    told: Told,
+    told: DoorTold,
 }
 
-const CASES: &[Case] = &[
-    Case {
+const CASES: &[DoorCase] = &[
+    DoorCase {
         key: OURS,
         from: 1,
         to: 2,
         port: 7001,
-        told: Told::Packet { length: 30 },
+        told: DoorTold::Packet { length: 30 },
     },
-    Case {
+    DoorCase {
         key: OTHER,
         from: 1,
         to: 2,
         port: 7001,
-        told: Told::Refused(Reason::OtherKey),
+        told: DoorTold::Refused(Reason::OtherKey),
     },
-    Case {
+    DoorCase {
         key: OURS,
         from: 1,
         to: 2,
         port: 7003,
-        told: Told::Refused(Reason::Elsewhere),
+        told: DoorTold::Refused(Reason::Elsewhere),
     },
-    Case {
+    DoorCase {
         key: OURS,
         from: 1,
         to: 2,
         port: 7009,
-        told: Told::Refused(Reason::Stranger),
+        told: DoorTold::Refused(Reason::Stranger),
     },
-    Case {
+    DoorCase {
         key: OURS,
         from: 3,
         to: 2,
         port: 7001,
-        told: Told::Refused(Reason::NoPart),
+        told: DoorTold::Refused(Reason::NoPart),
     },
-    Case {
+    DoorCase {
         key: OURS,
         from: 1,
         to: 3,
         port: 7001,
-        told: Told::Refused(Reason::NoPart),
+        told: DoorTold::Refused(Reason::NoPart),
     },
 ];
 
@@ -102,15 +102,15 @@ fn door(alloc: Global) -> Option<SealedDoor> {
 }
 
 /// What a door tells of bytes from this port.
-fn tell_of(door: &mut SealedDoor, alloc: Global, bytes: &[u8], port: u16) -> Told {
+fn tell_of(door: &mut SealedDoor, alloc: Global, bytes: &[u8], port: u16) -> DoorTold {
     let sender = SocketAddr::new(IpAddr::V4(Ipv4Addr::new(127, 0, 0, 1)), port);
     match door.admit(alloc, sender, bytes) {
-        Brought::Packet(datagram) => Told::Packet {
+        Brought::Packet(datagram) => DoorTold::Packet {
             length: datagram.bytes.len(),
         },
-        Brought::Part => Told::Part,
-        Brought::Lost => Told::Lost,
-        Brought::Refused(reason) => Told::Refused(reason),
+        Brought::Part => DoorTold::Part,
+        Brought::Lost => DoorTold::Lost,
+        Brought::Refused(reason) => DoorTold::Refused(reason),
     }
 }
 
@@ -138,7 +138,7 @@ fn datagram_of(alloc: Global, key: u8, packet: &[u8], index: u8) -> Option<Vec<u
 }
 
 /// Whether a new door tells of a case what it should.
-fn is_told(alloc: Global, case: &Case) -> Option<bool> {
+fn is_told(alloc: Global, case: &DoorCase) -> Option<bool> {
     let packet = packet_of(alloc, 30, case.from, case.to)?;
     let bytes = datagram_of(alloc, case.key, &packet, 0)?;
     let mut door = door(alloc)?;
@@ -166,13 +166,13 @@ fn in_two(alloc: Global, first: u8, second: u8) -> Option<bool> {
     let mut door = door(alloc)?;
     let before = tell_of(&mut door, alloc, &one, 7001);
     let after = tell_of(&mut door, alloc, &other, 7001);
-    Some(before == Told::Part && after == Told::Packet { length: 1500 })
+    Some(before == DoorTold::Part && after == DoorTold::Packet { length: 1500 })
 }
 
 /// Whether these bytes of member 1 are told as a datagram that is not sealed.
 fn is_unsealed(alloc: Global, bytes: &[u8]) -> Option<bool> {
     let mut door = door(alloc)?;
-    Some(tell_of(&mut door, alloc, bytes, 7001) == Told::Refused(Reason::NotSealed))
+    Some(tell_of(&mut door, alloc, bytes, 7001) == DoorTold::Refused(Reason::NotSealed))
 }
 
 #[test]

@@ -1,6 +1,6 @@
 //! Three stations over sockets of this machine.
 
-use crate::plant::{OFFER, Plant, RELEASE, Run};
+use crate::plant::{OFFER, RELEASE, ServePlant, ServeRun};
 use ballots::Member;
 use command_ends::End;
 use driver::NewerLayouts;
@@ -33,13 +33,13 @@ fn free_addresses(rt: &HostRuntime) -> Option<Vec<Address>> {
 }
 
 /// A station over a socket of this machine.
-type Post<'a> = Plant<MemoryRows, UdpWire<'a, HostRuntime>>;
+type Post<'a> = ServePlant<MemoryRows, UdpWire<'a, HostRuntime>>;
 
 fn post_of<'a>(rt: &'a HostRuntime, me: u8, addresses: &[Address]) -> Option<Post<'a>> {
     let alloc = rt.alloc();
     let own = addresses.get(usize::from(me).saturating_sub(1))?;
     let wire = UdpWire::bind(rt, rt, own, Vec::from_slice(alloc, addresses).ok()?).ok()?;
-    Plant::new(alloc, (me, 3), MemoryRows::new(alloc), wire)
+    ServePlant::new(alloc, (me, 3), MemoryRows::new(alloc), wire)
 }
 
 fn three_posts<'a>(rt: &'a HostRuntime) -> Option<Vec<Post<'a>>> {
@@ -82,7 +82,7 @@ fn all_come_to<'a>(posts: &mut [Post<'a>], out: &str) -> bool {
 }
 
 /// The offer of the story, and no turn.
-const OFFER_ALONE: Run = Run { turns: 0, ..OFFER };
+const OFFER_ALONE: ServeRun = ServeRun { turns: 0, ..OFFER };
 
 /// Whether the first takes the offer.
 fn offers<'a>(posts: &mut [Post<'a>]) -> bool {

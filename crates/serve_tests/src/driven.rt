@@ -1,6 +1,6 @@
 //! The works of a station that stays up, by a desk that counts what it is told.
 
-use crate::wires::{Manner, Scripted};
+use crate::wires::{Scripted, WireManner};
 use ballots::Number;
 use command_ends::Fault;
 use driver::{
@@ -140,7 +140,7 @@ fn counts(alloc: Global) -> Option<(usize, usize)> {
     let mut newer = NewerLayouts::new();
     let rows = rows_with(alloc, Version::Two, None)?;
     let mut station = station_over(alloc, 1, 1, rows)?;
-    let mut wire = Scripted::new(alloc, Manner::Passing);
+    let mut wire = Scripted::new(alloc, WireManner::Passing);
     let mut told = Vec::new(alloc);
     let mut driver = Driver::new(&mut station, &mut wire, Counting::new(2), &mut newer);
     driver.run(alloc, &mut told, false).ok()?;

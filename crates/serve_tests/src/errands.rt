@@ -5,7 +5,7 @@ ghost use Rattle.std.specs.Prelude.{IfSome};
 ghost use Rattle.catch_up.specs.Errands.{IsGoodErrand};
 
 use crate::driven::released_by;
-use crate::wires::{Manner, Scripted};
+use crate::wires::{Scripted, WireManner};
 use ballots::{Member, Number};
 use catch_up::Errand;
 use command_ends::Fault;
@@ -47,7 +47,7 @@ fn errand_at(turn: u32) -> Option<Errand>
 
 /// A desk that has them run, and whose thirty-first look ends the run. It keeps what came of them.
 #[derive(Drop)]
-struct Running {
+struct RunningDesk {
     turn: u32,
     recalled: usize,
     released: usize,
@@ -57,7 +57,7 @@ struct Running {
     looks: usize,
 }
 
-impl Sink for Running {
+impl Sink for RunningDesk {
     ghost lived = { λ _ _ _. Unit {0} };
 
     ghost front = { λ _ _ _. Unit {0} };
@@ -90,7 +90,7 @@ impl Sink for Running {
     } };
 }
 
-impl Desk for Running {
+impl Desk for RunningDesk {
     ghost is_still = { λ _ _. Unit {0} };
 
     ghost handed = { λ _ _ _. Unit {0} };
@@ -152,18 +152,18 @@ const COMING: &[&[u8]] = &[
 ];
 
 /// How many votes were told again, releases and refused searches there were, numbers of recalls and recalls that were too short.
-type Counts = (usize, usize, usize, usize, usize);
+type ErrandCounts = (usize, usize, usize, usize, usize);
 
 /// What came of the errands and of what came, and what was sent.
-fn run_all(alloc: Global) -> Option<(Counts, Vec<u8>)> {
+fn run_all(alloc: Global) -> Option<(ErrandCounts, Vec<u8>)> {
     let rows = rows_with_vote(alloc, Version::Two)?;
     let mut station = station_over(alloc, 1, 3, rows)?;
     let mut newer = NewerLayouts::new();
-    let mut wire = Scripted::new(alloc, Manner::Passing);
+    let mut wire = Scripted::new(alloc, WireManner::Passing);
     if !wire.bring_all(COMING) {
         return None;
     }
-    let desk = Running {
+    let desk = RunningDesk {
         turn: 0,
         recalled: 0,
         released: 0,
@@ -187,7 +187,7 @@ fn run_all(alloc: Global) -> Option<(Counts, Vec<u8>)> {
 }
 
 /// What came of it all, whether the first datagram went to member 3, and how many went to the station itself.
-fn outcome(alloc: Global) -> Option<(Counts, bool, usize)> {
+fn outcome(alloc: Global) -> Option<(ErrandCounts, bool, usize)> {
     let (counts, log) = run_all(alloc)?;
     let text = str::from_utf8(log.as_slice()).ok()?;
     let own = text.lines().filter(|line| line.starts_with("1 ")).count();

@@ -1,8 +1,8 @@
 //! Wires that fail, and a store that refuses.
 
-use crate::plant::{OFFER, RELEASE, Run, SEARCH, TURN};
-use crate::stories::{Story, bench_of, is_true, taken};
-use crate::wires::Manner;
+use crate::plant::{OFFER, RELEASE, SEARCH, ServeRun, TURN};
+use crate::stories::{ServeStory, bench_of, is_true, taken};
+use crate::wires::WireManner;
 use ballots::Number;
 use command_ends::End;
 use rows_saved::MemoryRows;
@@ -10,13 +10,13 @@ use station_fixtures::ballot;
 use std::alloc::Global;
 use tape_frames::Version;
 
-const DEAF: Story = Story {
+const DEAF: ServeStory = ServeStory {
     me: 1,
     members: 3,
     version: Version::One,
     promised: None,
-    manner: Manner::Deaf,
-    steps: &[Run {
+    manner: WireManner::Deaf,
+    steps: &[ServeRun {
         turns: 2,
         err: "socket: send failed to 2\nsocket: send failed to 3\n",
         sent: 2,
@@ -24,9 +24,9 @@ const DEAF: Story = Story {
     }],
 };
 
-const TORN: Story = Story {
-    manner: Manner::Torn,
-    steps: &[Run {
+const TORN: ServeStory = ServeStory {
+    manner: WireManner::Torn,
+    steps: &[ServeRun {
         turns: 2,
         end: End::Socket,
         err: "socket: receive failed\n",
@@ -37,27 +37,27 @@ const TORN: Story = Story {
 };
 
 /// A station that has stopped takes no turn.
-const BALKY: Story = Story {
+const BALKY: ServeStory = ServeStory {
     members: 1,
-    manner: Manner::Whole,
+    manner: WireManner::Whole,
     steps: &[
-        Run {
+        ServeRun {
             armed: true,
             end: End::Store,
             err: "store: refused\n",
             ..OFFER
         },
-        Run {
+        ServeRun {
             end: End::Input,
             err: "refused stopped\n",
             ..TURN
         },
-        Run {
+        ServeRun {
             end: End::Input,
             err: "refused stopped\n",
             ..OFFER
         },
-        Run {
+        ServeRun {
             restarted: true,
             out: RELEASE,
             ..SEARCH
@@ -79,7 +79,7 @@ fn has_the_promise_alone(rows: &MemoryRows) -> Option<bool> {
 }
 
 /// Whether the steps of a story come to what they have to, and leave the promise alone.
-fn leaves_the_promise_alone(alloc: Global, story: &Story) -> bool {
+fn leaves_the_promise_alone(alloc: Global, story: &ServeStory) -> bool {
     let Some(mut bench) = bench_of(alloc, story) else {
         return false;
     };

@@ -1,7 +1,7 @@
 //! Datagrams that wait together share one save, and so does a deed that comes soon behind them.
 
 use crate::driven::Counting;
-use crate::wires::{Manner, Scripted};
+use crate::wires::{Scripted, WireManner};
 use ballots::Member;
 use command_ends::{End, end_with};
 use driver::{Driver, NewerLayouts};
@@ -107,7 +107,7 @@ fn rows_of(alloc: Global, tried: Try) -> Option<Grouped<Balky<MemoryRows>>> {
 }
 
 /// How a run ends, how many steps were handed out, and in how many groups.
-type Outcome = (End, usize, usize);
+type GroupsOutcome = (End, usize, usize);
 
 /// The run of a station on a wire, which is asked for something so many times.
 fn run_on(
@@ -115,7 +115,7 @@ fn run_on(
     station: &mut Station<Grouped<Balky<MemoryRows>>>,
     wire: &mut Keeping,
     asks: usize,
-) -> Option<Outcome> {
+) -> Option<GroupsOutcome> {
     let mut newer = NewerLayouts::new();
     let mut told = Vec::new(alloc);
     let mut driver = Driver::new(station, wire, Counting::new(asks), &mut newer);
@@ -126,10 +126,10 @@ fn run_on(
 }
 
 /// What comes of a run of member 2, to which both datagrams come; and what came and was sent.
-fn outcome(alloc: Global, tried: Try) -> Option<(Outcome, Vec<u8>)> {
+fn outcome(alloc: Global, tried: Try) -> Option<(GroupsOutcome, Vec<u8>)> {
     let mut station = station_over(alloc, 2, 2, rows_of(alloc, tried)?)?;
     let mut wire = Keeping {
-        script: Scripted::new(alloc, Manner::Whole),
+        script: Scripted::new(alloc, WireManner::Whole),
         still: tried.still,
     };
     if !wire.script.bring_all(COMING) {
@@ -140,7 +140,7 @@ fn outcome(alloc: Global, tried: Try) -> Option<(Outcome, Vec<u8>)> {
 }
 
 /// Whether it comes to this, and this came and was sent.
-fn comes_to(alloc: Global, tried: Try, expected: Outcome, log: &str) -> bool {
+fn comes_to(alloc: Global, tried: Try, expected: GroupsOutcome, log: &str) -> bool {
     match outcome(alloc, tried) {
         Some((outcome, lines)) => outcome == expected && lines.as_slice() == log.as_bytes(),
         None => false,

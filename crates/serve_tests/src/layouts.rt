@@ -1,8 +1,8 @@
 //! Datagrams of layout 2 that come to a station whose rows are of layout 1, and the other way round.
 
-use crate::plant::{Run, TURN};
-use crate::stories::{Story, is_true};
-use crate::wires::Manner;
+use crate::plant::{ServeRun, TURN};
+use crate::stories::{ServeStory, is_true};
+use crate::wires::WireManner;
 use tape_frames::Version;
 
 /// From member 2, and from member 3, to member 1 of circuit 7 for number 12: Prepare at 1.2, and at 1.3, in version 2.
@@ -18,13 +18,13 @@ const LATER: &[u8] = b"544e0301000702010000000c0000000102";
 const CUT_OFF: &[u8] = b"544e0201000702010000000c00000001";
 
 /// Two come in the minute, and one line is told, of the first.
-const TOLD: Story = Story {
+const TOLD: ServeStory = ServeStory {
     me: 1,
     members: 3,
     version: Version::One,
     promised: None,
-    manner: Manner::Whole,
-    steps: &[Run {
+    manner: WireManner::Whole,
+    steps: &[ServeRun {
         coming: &[SECOND, THIRD, SECOND],
         turns: 3,
         err: "bad-version from member 2: its rows are of layout 2, these of layout 1\n",
@@ -33,14 +33,14 @@ const TOLD: Story = Story {
 };
 
 /// What is no packet of layout 2 is passed over without a word.
-const PASSED_OVER: Story = Story {
+const PASSED_OVER: ServeStory = ServeStory {
     steps: &[
-        Run {
+        ServeRun {
             coming: &[LATER, CUT_OFF],
             turns: 2,
             ..TURN
         },
-        Run {
+        ServeRun {
             coming: &[OLDER],
             sent: 1,
             ..TURN
@@ -50,9 +50,9 @@ const PASSED_OVER: Story = Story {
 };
 
 /// A station of layout 2 reads both.
-const READ: Story = Story {
+const READ: ServeStory = ServeStory {
     version: Version::Two,
-    steps: &[Run {
+    steps: &[ServeRun {
         coming: &[OLDER, THIRD],
         turns: 2,
         sent: 2,

@@ -1,19 +1,19 @@
 //! The longest packet: a promise that reports a tape of 16,384 frames, in version 2.
 
-use crate::plant::{OFFER, Run, TURN};
-use crate::stories::{Bench, Story, bench_of, taken};
-use crate::wires::Manner;
+use crate::plant::{OFFER, ServeRun, TURN};
+use crate::stories::{Bench, ServeStory, bench_of, taken};
+use crate::wires::WireManner;
 use std::alloc::{AllocError, Global};
 use tape_frames::Version;
 
 /// The story for number 12 in a circuit of two. As 1.2 was promised before, it is proposed at 2.1.
-const PROPOSED: Story = Story {
+const PROPOSED: ServeStory = ServeStory {
     me: 1,
     members: 2,
     version: Version::Two,
     promised: Some((1, 2)),
-    manner: Manner::Whole,
-    steps: &[Run { sent: 1, ..OFFER }],
+    manner: WireManner::Whole,
+    steps: &[ServeRun { sent: 1, ..OFFER }],
 };
 
 /// From member 2 to member 1 of circuit 7 for number 12: the promise of 2.1 that reports a vote at 1.2 for 16,384 frames,
@@ -59,7 +59,7 @@ fn log_of_a_vote(alloc: Global) -> Result<Vec<u8>, AllocError> {
 fn turns(bench: &mut Bench, digits: &[u8], sent: usize) -> bool {
     taken(bench, PROPOSED.steps) == PROPOSED.steps.len()
         && bench.machine.wire.bring_all(&[digits])
-        && taken(bench, &[Run { sent, ..TURN }]) == 1
+        && taken(bench, &[ServeRun { sent, ..TURN }]) == 1
 }
 
 /// Whether what the longest packet reports is sent, frame for frame.

@@ -2,7 +2,7 @@
 
 use command_ends::{End, end_with};
 use driver::{Machine, NewerLayouts};
-use fixtures::{Given, frames_of};
+use fixtures::{GivenEntry, frames_of};
 use rows_saved::Settles;
 use serve_command::{ServeTask, ServeTurn, serve_run, serve_turn};
 use station_fixtures::station_over;
@@ -16,7 +16,7 @@ pub const RELEASE: &str = "release 12 01020301030204\n0001 J 0 0 a b _4 a _4 b\n
 /// What happens to a station, then a run of it: the offer of this tape, a withdrawal, a search, and so many turns; how
 /// it has to end, what it has to print, and how many datagrams have then been sent.
 #[derive(Clone, Copy)]
-pub struct Run {
+pub struct ServeRun {
     /// Its next save is refused, after it was passed on.
     pub armed: bool,
     pub restarted: bool,
@@ -24,7 +24,7 @@ pub struct Run {
     pub at: u64,
     /// The datagrams that come, in hexadecimal digits.
     pub coming: &'static [&'static [u8]],
-    pub offer: Option<(u32, Given)>,
+    pub offer: Option<(u32, GivenEntry)>,
     pub withdraw: Option<u32>,
     pub seek: Option<u32>,
     pub turns: u32,
@@ -35,7 +35,7 @@ pub struct Run {
 }
 
 /// A turn in which nothing is printed.
-pub const TURN: Run = Run {
+pub const TURN: ServeRun = ServeRun {
     armed: false,
     restarted: false,
     at: 0,
@@ -51,25 +51,25 @@ pub const TURN: Run = Run {
 };
 
 /// The offer of the story for number 12, and a turn.
-pub const OFFER: Run = Run {
-    offer: Some((12, Given::Flood)),
+pub const OFFER: ServeRun = ServeRun {
+    offer: Some((12, GivenEntry::Flood)),
     ..TURN
 };
 
 /// The withdrawal of number 12, and a turn.
-pub const WITHDRAWAL: Run = Run {
+pub const WITHDRAWAL: ServeRun = ServeRun {
     withdraw: Some(12),
     ..TURN
 };
 
 /// A search of number 12, and a turn.
-pub const SEARCH: Run = Run {
+pub const SEARCH: ServeRun = ServeRun {
     seek: Some(12),
     ..TURN
 };
 
 /// What a station is to do in a run.
-pub fn task_of(alloc: Global, run: &Run) -> Result<ServeTask, TapeFault> {
+pub fn task_of(alloc: Global, run: &ServeRun) -> Result<ServeTask, TapeFault> {
     Ok(ServeTask {
         offer: offer_of(alloc, run)?,
         withdraw: run.withdraw,
@@ -79,7 +79,7 @@ pub fn task_of(alloc: Global, run: &Run) -> Result<ServeTask, TapeFault> {
 }
 
 /// What a run offers.
-fn offer_of(alloc: Global, run: &Run) -> Result<Option<(u32, Tape)>, TapeFault> {
+fn offer_of(alloc: Global, run: &ServeRun) -> Result<Option<(u32, Tape)>, TapeFault> {
     match run.offer {
         None => Ok(None),
         Some((number, given)) => Ok(Some((number, Tape::from_bytes(alloc, frames_of(given))?))),
@@ -88,14 +88,14 @@ fn offer_of(alloc: Global, run: &Run) -> Result<Option<(u32, Tape)>, TapeFault> 
 
 /// A station, its wire, and what it has printed.
 #[derive(Drop)]
-pub struct Plant<R: Settles, N: Wire + Drop> {
+pub struct ServePlant<R: Settles, N: Wire + Drop> {
     pub machine: Machine<R, N, Vec<u8>>,
     pub err: Vec<u8>,
 }
 
-impl<R: Settles, N: Wire + Drop> Plant<R, N> {
+impl<R: Settles, N: Wire + Drop> ServePlant<R, N> {
     /// The station of a seat, which is a member's number and how many members there are, before its first step.
-    pub fn new(alloc: Global, seat: (u8, u8), rows: R, wire: N) -> Option<Plant<R, N>> {
+    pub fn new(alloc: Global, seat: (u8, u8), rows: R, wire: N) -> Option<ServePlant<R, N>> {
         let station = station_over(alloc, seat.0, seat.1, rows)?;
         let machine = Machine {
             alloc,
@@ -104,11 +104,11 @@ impl<R: Settles, N: Wire + Drop> Plant<R, N> {
             outside: Vec::new(alloc),
         };
         let err = Vec::new(alloc);
-        Some(Plant { machine, err })
+        Some(ServePlant { machine, err })
     }
 
     /// How a run ends. What it prints stands in place of what was printed before.
-    fn end_of(&mut self, run: &Run) -> End {
+    fn end_of(&mut self, run: &ServeRun) -> End {
         self.machine.outside.clear();
         self.err.clear();
         let Ok(task) = task_of(self.machine.alloc, run) else {
@@ -124,7 +124,7 @@ impl<R: Settles, N: Wire + Drop> Plant<R, N> {
     }
 
     /// Whether a run ends and prints as it has to.
-    pub fn takes(&mut self, run: &Run) -> bool {
+    pub fn takes(&mut self, run: &ServeRun) -> bool {
         self.end_of(run) == run.end && self.has_printed(run.out, run.err)
     }
 

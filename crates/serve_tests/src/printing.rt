@@ -1,9 +1,9 @@
 //! What comes from the wire, and when a release is handed on.
 
-use crate::plant::{OFFER, RELEASE, Run, TURN, task_of};
-use crate::stories::{Story, is_true};
-use crate::wires::{Manner, Scripted};
-use crate::writers::{Held, Slow};
+use crate::plant::{OFFER, RELEASE, ServeRun, TURN, task_of};
+use crate::stories::{ServeStory, is_true};
+use crate::wires::{Scripted, WireManner};
+use crate::writers::{HeldWriter, SlowOutside};
 use command_ends::{End, end_with};
 use driver::Machine;
 use rows_saved::MemoryRows;
@@ -22,20 +22,20 @@ const ACCEPT: &[u8] = b"544e0103000701020000000c00000001010006010203010204";
 
 const ACCEPTED: &[u8] = b"544e0104000701020000000c00000001010006010203010204";
 
-const COMING: Story = Story {
+const COMING: ServeStory = ServeStory {
     me: 2,
     members: 2,
     version: Version::One,
     promised: None,
-    manner: Manner::Whole,
+    manner: WireManner::Whole,
     steps: &[
-        Run {
+        ServeRun {
             coming: &[NO_PACKET, b"", ACCEPT],
             turns: 3,
             sent: 1,
             ..TURN
         },
-        Run {
+        ServeRun {
             coming: &[ACCEPTED],
             out: "release 12 010203010204 faulty loose 2 at 5 line 1\n",
             sent: 1,
@@ -52,7 +52,7 @@ fn what_comes_from_the_wire(rt: HostRuntime) {
 /// Whether this run of a station ends as it has to over its writer, on a wire on which nothing comes.
 fn ends<W: Write + Drop>(
     machine: &mut Machine<MemoryRows, Scripted, W>,
-    run: &Run,
+    run: &ServeRun,
 ) -> Option<bool> {
     let task = task_of(machine.alloc, run).ok()?;
     let mut err = Vec::new(machine.alloc);
@@ -62,9 +62,9 @@ fn ends<W: Write + Drop>(
 }
 
 /// Whether this run of member 1 alone ends as it has to over a writer.
-fn ends_over<W: Write>(alloc: Global, run: &Run, writer: &mut W) -> Option<bool> {
+fn ends_over<W: Write>(alloc: Global, run: &ServeRun, writer: &mut W) -> Option<bool> {
     let station = station_over(alloc, 1, 1, MemoryRows::new(alloc))?;
-    let wire = Scripted::new(alloc, Manner::Whole);
+    let wire = Scripted::new(alloc, WireManner::Whole);
     let mut machine = Machine {
         alloc,
         station,
@@ -75,10 +75,10 @@ fn ends_over<W: Write>(alloc: Global, run: &Run, writer: &mut W) -> Option<bool>
 }
 
 /// The story, and no turn.
-const OFFER_ALONE: Run = Run { turns: 0, ..OFFER };
+const OFFER_ALONE: ServeRun = ServeRun { turns: 0, ..OFFER };
 
 /// The story, to a writer that is full.
-const CUT_SHORT: Run = Run {
+const CUT_SHORT: ServeRun = ServeRun {
     end: End::Input,
     err: "cannot write\n",
     ..OFFER
@@ -86,7 +86,7 @@ const CUT_SHORT: Run = Run {
 
 /// How many bytes a writer has handed on after the offer and no turn.
 fn handed_on(alloc: Global) -> usize {
-    let mut held = Held::new(alloc);
+    let mut held = HeldWriter::new(alloc);
     match ends_over(alloc, &OFFER_ALONE, &mut held) {
         Some(true) => held.seen,
         _ => 0,
@@ -95,7 +95,7 @@ fn handed_on(alloc: Global) -> usize {
 
 /// Whether a writer with this room gets that front of the release, and the run its fault.
 fn is_front(alloc: Global, room: usize) -> bool {
-    let mut full = Slow::new(alloc, room);
+    let mut full = SlowOutside::new(alloc, room);
     ends_over(alloc, &CUT_SHORT, &mut full) == Some(true)
         && full.taken.len() == room
         && RELEASE.as_bytes().starts_with(&full.taken)

@@ -1,39 +1,39 @@
 //! Offers and searches that are refused.
 
-use crate::plant::{OFFER, RELEASE, Run};
-use crate::stories::{Story, is_true};
-use crate::wires::Manner;
+use crate::plant::{OFFER, RELEASE, ServeRun};
+use crate::stories::{ServeStory, is_true};
+use crate::wires::WireManner;
 use command_ends::End;
-use fixtures::Given;
+use fixtures::GivenEntry;
 use tape_frames::Version;
 
 /// The offer of the story, refused.
-const REFUSED: Run = Run {
+const REFUSED: ServeRun = ServeRun {
     end: End::Input,
     ..OFFER
 };
 
 /// Of the number of an offer, of a search, and of a tape.
-const OFFERS_AND_SEARCHES: Story = Story {
+const OFFERS_AND_SEARCHES: ServeStory = ServeStory {
     me: 1,
     members: 1,
     version: Version::One,
     promised: None,
-    manner: Manner::Whole,
+    manner: WireManner::Whole,
     steps: &[
-        Run {
-            offer: Some((0, Given::Flood)),
+        ServeRun {
+            offer: Some((0, GivenEntry::Flood)),
             err: "refused bad-number\n",
             ..REFUSED
         },
-        Run {
+        ServeRun {
             offer: None,
             seek: Some(1_000_000),
             err: "refused bad-number\n",
             ..REFUSED
         },
-        Run {
-            offer: Some((12, Given::Unfinished)),
+        ServeRun {
+            offer: Some((12, GivenEntry::Unfinished)),
             err: "refused tape-faulty unfinished at 1 line 1\n",
             ..REFUSED
         },
@@ -41,8 +41,8 @@ const OFFERS_AND_SEARCHES: Story = Story {
 };
 
 /// The release of the offer stands, and the search after it ends the run.
-const RELEASED: Story = Story {
-    steps: &[Run {
+const RELEASED: ServeStory = ServeStory {
+    steps: &[ServeRun {
         seek: Some(12),
         out: RELEASE,
         err: "refused already-released\n",
@@ -51,11 +51,11 @@ const RELEASED: Story = Story {
     ..OFFERS_AND_SEARCHES
 };
 
-const OPEN: Story = Story {
+const OPEN: ServeStory = ServeStory {
     members: 3,
     steps: &[
-        Run { sent: 2, ..OFFER },
-        Run {
+        ServeRun { sent: 2, ..OFFER },
+        ServeRun {
             err: "refused already-open\n",
             sent: 2,
             ..REFUSED
@@ -64,17 +64,17 @@ const OPEN: Story = Story {
     ..OFFERS_AND_SEARCHES
 };
 
-const SPENT: Story = Story {
+const SPENT: ServeStory = ServeStory {
     members: 3,
     promised: Some((4_294_967_295, 2)),
-    steps: &[Run {
+    steps: &[ServeRun {
         err: "refused rounds-spent\n",
         ..REFUSED
     }],
     ..OFFERS_AND_SEARCHES
 };
 
-const STORIES: &[Story] = &[OFFERS_AND_SEARCHES, RELEASED, OPEN, SPENT];
+const STORIES: &[ServeStory] = &[OFFERS_AND_SEARCHES, RELEASED, OPEN, SPENT];
 
 #[test]
 fn offers_and_searches_that_are_refused(rt: HostRuntime) {

@@ -1,45 +1,45 @@
 //! What goes out on the wire: each datagram once, to its addressee, in order.
 
-use crate::plant::{OFFER, RELEASE, Run, TURN};
-use crate::stories::{Story, sends};
-use crate::wires::Manner;
+use crate::plant::{OFFER, RELEASE, ServeRun, TURN};
+use crate::stories::{ServeStory, sends};
+use crate::wires::WireManner;
 use tape_frames::Version;
 
 /// The story for number 12 in a circuit of three; what is sent is lost, until member 2 promises and votes.
 ///
 /// The proposal is due 250 + 40 milliseconds after it began, and not before. The promise of the first ballot comes too
 /// late. The clock jumps over the moment at which the second is due, but the promise comes first, and the tape is proposed.
-const LOST: Story = Story {
+const LOST: ServeStory = ServeStory {
     me: 1,
     members: 3,
     version: Version::One,
     promised: None,
-    manner: Manner::Whole,
+    manner: WireManner::Whole,
     steps: &[
-        Run { sent: 2, ..OFFER },
-        Run {
+        ServeRun { sent: 2, ..OFFER },
+        ServeRun {
             at: 289,
             sent: 2,
             ..TURN
         },
-        Run {
+        ServeRun {
             at: 290,
             sent: 4,
             ..TURN
         },
-        Run {
+        ServeRun {
             at: 300,
             coming: &[b"544e0102000702010000000c000000010100"],
             sent: 4,
             ..TURN
         },
-        Run {
+        ServeRun {
             at: 5000,
             coming: &[b"544e0102000702010000000c000000020100"],
             sent: 8,
             ..TURN
         },
-        Run {
+        ServeRun {
             at: 9000,
             coming: &[b"544e0104000702010000000c0000000201000701020301030204"],
             out: RELEASE,
@@ -64,18 +64,18 @@ const LOST_LOG: &str = "\
 
 /// What the wire does not take was asked of it all the same, and is told. A request that comes again is answered by the
 /// same vote.
-const DEAF: Story = Story {
+const DEAF: ServeStory = ServeStory {
     me: 2,
     members: 2,
-    manner: Manner::Deaf,
+    manner: WireManner::Deaf,
     steps: &[
-        Run {
+        ServeRun {
             coming: &[b"544e0101000701020000000c0000000101"],
             err: "socket: send failed to 1\n",
             sent: 1,
             ..TURN
         },
-        Run {
+        ServeRun {
             coming: &[ACCEPT, ACCEPT],
             turns: 2,
             err: "socket: send failed to 1\nsocket: send failed to 1\n",

@@ -5,7 +5,7 @@ use std::net::UdpSocket;
 use wire::{Address, Arrival, UdpWire, Wire};
 
 /// A station's socket.
-type Socket<'a> = UdpWire<'a, HostRuntime>;
+type StationSocket<'a> = UdpWire<'a, HostRuntime>;
 
 /// The address of a member at a port of this machine. Port 0 stands for any that is free.
 fn address_of(member: Member, port: u16) -> Address {
@@ -27,7 +27,7 @@ fn port_of(socket: &UdpSocket) -> Option<u16> {
 }
 
 /// The first member's socket at a free port, where the second listens at this one.
-fn station_with<'a>(rt: &'a HostRuntime, port: u16) -> Option<Socket<'a>> {
+fn station_with<'a>(rt: &'a HostRuntime, port: u16) -> Option<StationSocket<'a>> {
     let (first, second) = (Member::new(1)?, Member::new(2)?);
     let own = address_of(first, 0);
     let stations = vec![in rt.alloc(); own, address_of(second, port)].ok()?;
@@ -35,7 +35,7 @@ fn station_with<'a>(rt: &'a HostRuntime, port: u16) -> Option<Socket<'a>> {
 }
 
 /// Whether the station gets these bytes, or nothing, as it has to, from a socket that sends them to it.
-fn gets(station: &mut Socket<'_>, from: &UdpSocket, bytes: &[u8], is_taken: bool) -> bool {
+fn gets(station: &mut StationSocket<'_>, from: &UdpSocket, bytes: &[u8], is_taken: bool) -> bool {
     let Ok(port) = station.port() else {
         return false;
     };
@@ -48,7 +48,7 @@ fn gets(station: &mut Socket<'_>, from: &UdpSocket, bytes: &[u8], is_taken: bool
 }
 
 /// Whether so many strangers are told at a moment, the last of them at this port.
-fn tells(station: &mut Socket<'_>, now: u64, count: u64, port: u16) -> bool {
+fn tells(station: &mut StationSocket<'_>, now: u64, count: u64, port: u16) -> bool {
     match station.strangers(now) {
         Some(told) => told.count == count && told.last.port() == port,
         None => count == 0,
@@ -58,7 +58,7 @@ fn tells(station: &mut Socket<'_>, now: u64, count: u64, port: u16) -> bool {
 /// Whether the station takes what its friend sends, takes nothing of the stranger, which is at this port, and tells it
 /// once a second at most.
 fn keeps_out(
-    station: &mut Socket<'_>,
+    station: &mut StationSocket<'_>,
     friend: &UdpSocket,
     stranger: &UdpSocket,
     port: u16,
@@ -79,7 +79,7 @@ fn keeps_out(
 }
 
 /// Whether the station's datagram to its second member comes to its friend, and one to a third is not sent.
-fn sends_to(station: &mut Socket<'_>, friend: &UdpSocket) -> Option<bool> {
+fn sends_to(station: &mut StationSocket<'_>, friend: &UdpSocket) -> Option<bool> {
     let (second, third) = (Member::new(2)?, Member::new(3)?);
     let mut buffer = [0u8; 8];
     let sent = station.send(second, b"back") && !station.send(third, b"x");

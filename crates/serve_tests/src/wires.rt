@@ -9,7 +9,7 @@ use wire::{Arrival, Reason, Strangers, Wire};
 
 /// What a wire of the tests does.
 #[derive(Clone, Copy, PartialEq, Eq)]
-pub enum Manner {
+pub enum WireManner {
     /// It gives what comes, and takes what is sent.
     Whole,
     /// It takes nothing of what is sent.
@@ -26,7 +26,7 @@ pub enum Manner {
 #[derive(Drop)]
 pub struct Scripted {
     pub alloc: Global,
-    pub manner: Manner,
+    pub manner: WireManner,
     pub moment: u64,
     pub coming: VecDeque<Vec<u8>>,
     pub sent: usize,
@@ -35,7 +35,7 @@ pub struct Scripted {
 }
 
 impl Scripted {
-    pub fn new(alloc: Global, manner: Manner) -> Scripted {
+    pub fn new(alloc: Global, manner: WireManner) -> Scripted {
         Scripted {
             alloc,
             manner,
@@ -76,7 +76,7 @@ impl Scripted {
 
 impl Wire for Scripted {
     fn receive(&mut self) -> Arrival {
-        if self.manner == Manner::Torn {
+        if self.manner == WireManner::Torn {
             return Arrival::Failed;
         }
         match self.coming.pop_front() {
@@ -87,18 +87,18 @@ impl Wire for Scripted {
 
     fn send(&mut self, to: Member, bytes: &[u8]) -> bool {
         self.sent = self.sent.saturating_add(1);
-        self.note(to, bytes) && self.manner != Manner::Deaf
+        self.note(to, bytes) && self.manner != WireManner::Deaf
     }
 
     fn now(&mut self) -> u64 {
-        if self.manner == Manner::Passing {
+        if self.manner == WireManner::Passing {
             self.moment = self.moment.saturating_add(100);
         }
         self.moment
     }
 
     fn strangers(&mut self, _now: u64) -> Option<Strangers> {
-        if self.manner != Manner::Watched {
+        if self.manner != WireManner::Watched {
             return None;
         }
         Some(Strangers {

@@ -1,24 +1,24 @@
 //! Numbers that are withdrawn: the release has no galley, and a station at version 1 refuses.
 
-use crate::plant::{OFFER, RELEASE, Run, TURN, WITHDRAWAL};
-use crate::stories::{Story, is_true, sends};
-use crate::wires::Manner;
+use crate::plant::{OFFER, RELEASE, ServeRun, TURN, WITHDRAWAL};
+use crate::stories::{ServeStory, is_true, sends};
+use crate::wires::WireManner;
 use command_ends::End;
 use tape_frames::Version;
 
 /// A member alone at version 2: it releases what it withdraws, behind what it offers and before what it seeks.
-const ALONE: Story = Story {
+const ALONE: ServeStory = ServeStory {
     me: 1,
     members: 1,
     version: Version::Two,
     promised: None,
-    manner: Manner::Whole,
+    manner: WireManner::Whole,
     steps: &[
-        Run {
+        ServeRun {
             out: "release 12 void\n",
             ..WITHDRAWAL
         },
-        Run {
+        ServeRun {
             withdraw: Some(13),
             seek: Some(13),
             end: End::Input,
@@ -26,7 +26,7 @@ const ALONE: Story = Story {
             err: "refused already-released\n",
             ..TURN
         },
-        Run {
+        ServeRun {
             withdraw: Some(1_000_000),
             end: End::Input,
             err: "refused bad-number\n",
@@ -36,8 +36,8 @@ const ALONE: Story = Story {
 };
 
 /// The story is out, and its number is not withdrawn any more.
-const TOO_LATE: Story = Story {
-    steps: &[Run {
+const TOO_LATE: ServeStory = ServeStory {
+    steps: &[ServeRun {
         withdraw: Some(12),
         end: End::Input,
         out: RELEASE,
@@ -48,15 +48,15 @@ const TOO_LATE: Story = Story {
 };
 
 /// At version 1 a number is no more withdrawn than one that is none.
-const TOO_OLD: Story = Story {
+const TOO_OLD: ServeStory = ServeStory {
     version: Version::One,
     steps: &[
-        Run {
+        ServeRun {
             end: End::Input,
             err: "refused wire-too-old\n",
             ..WITHDRAWAL
         },
-        Run {
+        ServeRun {
             withdraw: Some(0),
             end: End::Input,
             err: "refused bad-number\n",
@@ -66,7 +66,7 @@ const TOO_OLD: Story = Story {
     ..ALONE
 };
 
-const STORIES: &[Story] = &[ALONE, TOO_LATE, TOO_OLD];
+const STORIES: &[ServeStory] = &[ALONE, TOO_LATE, TOO_OLD];
 
 #[test]
 fn withdrawals(rt: HostRuntime) {
@@ -76,19 +76,19 @@ fn withdrawals(rt: HostRuntime) {
 }
 
 /// Number 12 is withdrawn in a circuit of three. The promise comes in version 1, which a station at version 2 reads too.
-const AGREED: Story = Story {
+const AGREED: ServeStory = ServeStory {
     members: 3,
     steps: &[
-        Run {
+        ServeRun {
             sent: 2,
             ..WITHDRAWAL
         },
-        Run {
+        ServeRun {
             coming: &[b"544e0102000702010000000c000000010100"],
             sent: 6,
             ..TURN
         },
-        Run {
+        ServeRun {
             coming: &[b"544e0204000702010000000c00000001010000"],
             out: "release 12 void\n",
             sent: 6,
@@ -109,12 +109,12 @@ const AGREED_LOG: &str = "\
 ";
 
 /// A station at version 1 passes over a promise in version 2, and says so.
-const PASSED_OVER: Story = Story {
+const PASSED_OVER: ServeStory = ServeStory {
     members: 3,
     version: Version::One,
     steps: &[
-        Run { sent: 2, ..OFFER },
-        Run {
+        ServeRun { sent: 2, ..OFFER },
+        ServeRun {
             coming: &[b"544e0202000702010000000c000000010100"],
             sent: 2,
             err: "bad-version from member 2: its rows are of layout 2, these of layout 1\n",

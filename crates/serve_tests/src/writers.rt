@@ -6,21 +6,21 @@ use std::io::Write;
 
 /// A writer that hands on what it has at a flush, and not before.
 #[derive(Drop)]
-pub struct Held {
+pub struct HeldWriter {
     pub taken: Vec<u8>,
     pub seen: usize,
 }
 
-impl Held {
-    pub fn new(alloc: Global) -> Held {
-        Held {
+impl HeldWriter {
+    pub fn new(alloc: Global) -> HeldWriter {
+        HeldWriter {
             taken: Vec::new(alloc),
             seen: 0,
         }
     }
 }
 
-impl Write for Held {
+impl Write for HeldWriter {
     fn write(&mut self, buf: &[u8]) -> io::Result<usize> {
         self.taken.extend_from_slice(buf)?;
         Ok(buf.len())
@@ -34,21 +34,21 @@ impl Write for Held {
 
 /// A writer that takes one byte a call, and at most so many.
 #[derive(Drop)]
-pub struct Slow {
+pub struct SlowOutside {
     pub taken: Vec<u8>,
     pub room: usize,
 }
 
-impl Slow {
-    pub fn new(alloc: Global, room: usize) -> Slow {
-        Slow {
+impl SlowOutside {
+    pub fn new(alloc: Global, room: usize) -> SlowOutside {
+        SlowOutside {
             taken: Vec::new(alloc),
             room,
         }
     }
 }
 
-impl Write for Slow {
+impl Write for SlowOutside {
     fn write(&mut self, buf: &[u8]) -> io::Result<usize> {
         if self.room == 0 {
             return Ok(0);

@@ -7,6 +7,6 @@ mod stations;
 mod unread;
 
 pub use given::is_given;
-pub use notes::{Noted, is_note};
+pub use notes::{NotedBallot, is_note};
 pub use stations::{ballot, rows_with, rows_with_vote, setting, station_over};
-pub use unread::Unread;
+pub use unread::UnreadRows;

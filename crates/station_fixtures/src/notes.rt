@@ -5,7 +5,7 @@ use node_core::Note;
 
 /// A note, with the round and the owner of its ballot.
 #[derive(Clone, Copy, PartialEq, Eq)]
-pub enum Noted {
+pub enum NotedBallot {
     Began(u32, u8),
     Nothing(u32, u8),
     Proposed(u32, u8),
@@ -32,31 +32,31 @@ fn owner(ballot: Ballot) -> u8 {
 }
 
 /// A note as a row tells it.
-fn as_told(note: Note) -> Noted {
+fn as_told(note: Note) -> NotedBallot {
     match note {
-        Note::Began { ballot } => Noted::Began(ballot.round(), owner(ballot)),
-        Note::Nothing { ballot } => Noted::Nothing(ballot.round(), owner(ballot)),
-        Note::Proposed { ballot } => Noted::Proposed(ballot.round(), owner(ballot)),
-        Note::Idle => Noted::Idle,
-        Note::GaveUp { ballot } => Noted::GaveUp(ballot.round(), owner(ballot)),
-        Note::Promised { ballot } => Noted::Promised(ballot.round(), owner(ballot)),
-        Note::Silent => Noted::Silent,
-        Note::Nacked { promised } => Noted::Nacked(promised.round(), owner(promised)),
-        Note::VotedAgain { ballot } => Noted::VotedAgain(ballot.round(), owner(ballot)),
-        Note::Voted { ballot } => Noted::Voted(ballot.round(), owner(ballot)),
-        Note::Stale => Noted::Stale,
-        Note::Overtaken { ballot } => Noted::Overtaken(ballot.round(), owner(ballot)),
-        Note::Repeated => Noted::Repeated,
-        Note::Counted { ballot } => Noted::Counted(ballot.round(), owner(ballot)),
-        Note::Denied { promised } => Noted::Denied(promised.round(), owner(promised)),
-        Note::Settled => Noted::Settled,
-        Note::Heard { ballot } => Noted::Heard(ballot.round(), owner(ballot)),
-        Note::Recalled { ballot } => Noted::Recalled(ballot.round(), owner(ballot)),
-        Note::Blank => Noted::Blank,
+        Note::Began { ballot } => NotedBallot::Began(ballot.round(), owner(ballot)),
+        Note::Nothing { ballot } => NotedBallot::Nothing(ballot.round(), owner(ballot)),
+        Note::Proposed { ballot } => NotedBallot::Proposed(ballot.round(), owner(ballot)),
+        Note::Idle => NotedBallot::Idle,
+        Note::GaveUp { ballot } => NotedBallot::GaveUp(ballot.round(), owner(ballot)),
+        Note::Promised { ballot } => NotedBallot::Promised(ballot.round(), owner(ballot)),
+        Note::Silent => NotedBallot::Silent,
+        Note::Nacked { promised } => NotedBallot::Nacked(promised.round(), owner(promised)),
+        Note::VotedAgain { ballot } => NotedBallot::VotedAgain(ballot.round(), owner(ballot)),
+        Note::Voted { ballot } => NotedBallot::Voted(ballot.round(), owner(ballot)),
+        Note::Stale => NotedBallot::Stale,
+        Note::Overtaken { ballot } => NotedBallot::Overtaken(ballot.round(), owner(ballot)),
+        Note::Repeated => NotedBallot::Repeated,
+        Note::Counted { ballot } => NotedBallot::Counted(ballot.round(), owner(ballot)),
+        Note::Denied { promised } => NotedBallot::Denied(promised.round(), owner(promised)),
+        Note::Settled => NotedBallot::Settled,
+        Note::Heard { ballot } => NotedBallot::Heard(ballot.round(), owner(ballot)),
+        Note::Recalled { ballot } => NotedBallot::Recalled(ballot.round(), owner(ballot)),
+        Note::Blank => NotedBallot::Blank,
     }
 }
 
 /// Whether a note is this one.
-pub fn is_note(note: Note, told: Noted) -> bool {
+pub fn is_note(note: Note, told: NotedBallot) -> bool {
     as_told(note) == told
 }

@@ -9,16 +9,16 @@ use tape_frames::Version;
 /// Rows whose next reading can be made to be refused, for any reason.
 /// Clauses see the rows inside, why the next reading is refused, and how many they refused themselves.
 #[derive(Drop)]
-pub struct Unread<R: Rows> {
+pub struct UnreadRows<R: Rows> {
     rows: R,
     fault: Option<RowsFault>,
     refusals: u64,
 }
 
-impl<R: Rows> Unread<R> {
+impl<R: Rows> UnreadRows<R> {
     /// These rows, which are read.
-    pub fn new(rows: R) -> Unread<R> {
-        Unread {
+    pub fn new(rows: R) -> UnreadRows<R> {
+        UnreadRows {
             rows,
             fault: None,
             refusals: 0,
@@ -36,14 +36,14 @@ impl<R: Rows> Unread<R> {
     }
 }
 
-impl<R: Rows> Unread<Balky<R>> {
+impl<R: Rows> UnreadRows<Balky<R>> {
     /// The next save is refused, after it was passed on where `saved`.
     pub fn arm(&mut self, saved: bool) {
         self.rows.arm(saved);
     }
 }
 
-impl<R: Rows> Rows for Unread<R> {
+impl<R: Rows> Rows for UnreadRows<R> {
     ghost made = { λ s. R.made s.rows };
 
     ghost honest = { λ s. R.honest s.rows };

@@ -1,21 +1,21 @@
 //! Stories of one station: the rows that it starts from, what is done to it, and what it leaves saved.
 
 use crate::datagrams::{Message, bytes_of};
-use crate::turns::{Act, Ends, Handed, Open, Turn};
+use crate::turns::{Ends, Handed, Open, StationAct, StationTurn};
 use ballots::{Number, Row};
-use fixtures::{Given, WIDTHS, frames_of};
+use fixtures::{GivenEntry, WIDTHS, frames_of};
 use line_check::Setting;
 use rows_saved::{Balky, MemoryRows, Rows};
 use station::{Answer, BadMember, Datagram, Membership, Release, Station, StepRefusal};
 use station_fixtures::{
-    Noted, Unread, ballot, is_given, is_note, rows_with, setting, station_over,
+    NotedBallot, UnreadRows, ballot, is_given, is_note, rows_with, setting, station_over,
 };
 use std::alloc::Global;
 use tape_frames::{Tape, Version};
 
 /// What a station leaves saved of number 12.
 #[derive(Clone, Copy)]
-pub enum Left {
+pub enum LeftSaved {
     /// It is not asked.
     Unasked,
     /// A row.
@@ -26,49 +26,49 @@ pub enum Left {
 
 /// A station of circuit 7, the version of its rows, the ballot that it promised for number 12 before, and what is done to it.
 #[derive(Clone, Copy)]
-pub struct Story {
+pub struct StationStory {
     pub me: u8,
     pub members: u8,
     pub version: Version,
     pub promised: Option<(u32, u8)>,
-    pub turns: &'static [Turn],
-    pub left: Left,
+    pub turns: &'static [StationTurn],
+    pub left: LeftSaved,
 }
 
 /// A member of one with blank rows, at version 1.
-pub const ALONE: Story = Story {
+pub const ALONE: StationStory = StationStory {
     me: 1,
     members: 1,
     version: Version::One,
     promised: None,
     turns: &[],
-    left: Left::Unasked,
+    left: LeftSaved::Unasked,
 };
 
 /// Member 1 of three with blank rows.
-pub const FIRST: Story = Story {
+pub const FIRST: StationStory = StationStory {
     members: 3,
     ..ALONE
 };
 
 /// Member 2 of three with blank rows.
-pub const SECOND: Story = Story { me: 2, ..FIRST };
+pub const SECOND: StationStory = StationStory { me: 2, ..FIRST };
 
 /// Rows that a story changes beside the steps of its station.
 trait Changing: Rows {
     /// Whether a change of the rows alone is made.
-    fn change(&mut self, alloc: Global, act: Act) -> bool;
+    fn change(&mut self, alloc: Global, act: StationAct) -> bool;
 
     /// The row that is saved for a number.
     fn row(&self, number: Number) -> Option<&Row>;
 }
 
-impl Changing for Unread<Balky<MemoryRows>> {
-    fn change(&mut self, alloc: Global, act: Act) -> bool {
+impl Changing for UnreadRows<Balky<MemoryRows>> {
+    fn change(&mut self, alloc: Global, act: StationAct) -> bool {
         match act {
-            Act::Arm(saved) => self.arm(saved),
-            Act::Refuse(fault) => self.refuse(fault),
-            Act::Replace(version, promised) => match story_rows(alloc, version, promised) {
+            StationAct::Arm(saved) => self.arm(saved),
+            StationAct::Refuse(fault) => self.refuse(fault),
+            StationAct::Replace(version, promised) => match story_rows(alloc, version, promised) {
                 Some(others) => *self = others,
                 None => return false,
             },
@@ -87,9 +87,9 @@ fn story_rows(
     alloc: Global,
     version: Version,
     promised: Option<(u32, u8)>,
-) -> Option<Unread<Balky<MemoryRows>>> {
+) -> Option<UnreadRows<Balky<MemoryRows>>> {
     let rows = rows_with(alloc, version, promised)?;
-    Some(Unread::new(Balky::new(rows)))
+    Some(UnreadRows::new(Balky::new(rows)))
 }
 
 /// Whether the first of these datagrams is the one that is told.
@@ -111,13 +111,13 @@ fn is_handed(release: &Release, told: Handed) -> bool {
     release.number.get() == 12
         && match told {
             Handed::Nothing => false,
-            Handed::Flood => is_given(&release.entry, Given::Flood) && slugs.len() == 1,
-            Handed::Withdrawal => is_given(&release.entry, Given::Void) && slugs.is_empty(),
+            Handed::Flood => is_given(&release.entry, GivenEntry::Flood) && slugs.len() == 1,
+            Handed::Withdrawal => is_given(&release.entry, GivenEntry::Void) && slugs.is_empty(),
         }
 }
 
 /// Whether an answer is the one that is told.
-fn answers(answer: &Answer, turn: &Turn, note: Noted) -> bool {
+fn answers(answer: &Answer, turn: &StationTurn, note: NotedBallot) -> bool {
     let same_release = match &answer.release {
         Some(release) => is_handed(release, turn.releases),
         None => matches!(turn.releases, Handed::Nothing),
@@ -129,7 +129,7 @@ fn answers(answer: &Answer, turn: &Turn, note: Noted) -> bool {
 }
 
 /// Whether a step ended as it is told.
-fn is_told(step: Result<Answer, StepRefusal>, turn: &Turn) -> bool {
+fn is_told(step: Result<Answer, StepRefusal>, turn: &StationTurn) -> bool {
     match (step, turn.ends) {
         (Ok(answer), Ends::Done(note)) => answers(&answer, turn, note),
         (Err(reason), Ends::Refused(refusal)) => reason == refusal,
@@ -150,29 +150,29 @@ fn is_upgraded(upgrade: Result<(), StepRefusal>, ends: Ends) -> bool {
 fn step<R: Rows>(
     alloc: Global,
     station: &mut Station<R>,
-    act: Act,
+    act: StationAct,
 ) -> Option<Result<Answer, StepRefusal>> {
     Some(match act {
-        Act::Offer(number, given) => {
+        StationAct::Offer(number, given) => {
             let tape = Tape::from_bytes(alloc, frames_of(given)).ok()?;
             station.offer(number, &tape, 0)
         }
-        Act::Withdraw(number) => station.withdraw(number, 0),
-        Act::Seek => station.seek(12, 0),
-        Act::Due(now) => station.due(now),
-        Act::Receive(bytes) => station.receive(bytes_of(bytes), 0),
+        StationAct::Withdraw(number) => station.withdraw(number, 0),
+        StationAct::Seek => station.seek(12, 0),
+        StationAct::Due(now) => station.due(now),
+        StationAct::Receive(bytes) => station.receive(bytes_of(bytes), 0),
         _ => return None,
     })
 }
 
 /// Whether a step, a restart or an upgrade ends as it is told.
-fn goes<R: Rows>(alloc: Global, station: &mut Station<R>, turn: &Turn) -> bool {
+fn goes<R: Rows>(alloc: Global, station: &mut Station<R>, turn: &StationTurn) -> bool {
     match turn.act {
-        Act::Restart => {
+        StationAct::Restart => {
             station.restart();
             true
         }
-        Act::Upgrade => is_upgraded(station.upgrade(), turn.ends),
+        StationAct::Upgrade => is_upgraded(station.upgrade(), turn.ends),
         act => match step(alloc, station, act) {
             Some(end) => is_told(end, turn),
             None => false,
@@ -181,9 +181,9 @@ fn goes<R: Rows>(alloc: Global, station: &mut Station<R>, turn: &Turn) -> bool {
 }
 
 /// Whether what is done ends as it is told.
-fn acts<R: Changing>(alloc: Global, station: &mut Station<R>, turn: &Turn) -> bool {
+fn acts<R: Changing>(alloc: Global, station: &mut Station<R>, turn: &StationTurn) -> bool {
     match turn.act {
-        Act::Arm(_) | Act::Refuse(_) | Act::Replace(..) => {
+        StationAct::Arm(_) | StationAct::Refuse(_) | StationAct::Replace(..) => {
             station.rows_mut().change(alloc, turn.act)
         }
         _ => goes(alloc, station, turn),
@@ -205,7 +205,7 @@ fn takes<R: Changing>(
     alloc: Global,
     station: &mut Station<R>,
     number: Number,
-    turn: &Turn,
+    turn: &StationTurn,
 ) -> bool {
     acts(alloc, station, turn)
         && station.stopped() == turn.stopped
@@ -218,7 +218,7 @@ fn taken<R: Changing>(
     alloc: Global,
     station: &mut Station<R>,
     number: Number,
-    turns: &[Turn],
+    turns: &[StationTurn],
 ) -> usize {
     for (place, turn) in turns.iter().enumerate() {
         if !takes(alloc, station, number, turn) {
@@ -235,11 +235,11 @@ fn is_promise(row: &Row, round: u32, owner: u8) -> bool {
 }
 
 /// Whether a station leaves this saved.
-fn leaves<R: Changing>(station: Station<R>, number: Number, left: Left) -> bool {
+fn leaves<R: Changing>(station: Station<R>, number: Number, left: LeftSaved) -> bool {
     match left {
-        Left::Unasked => true,
-        Left::Row => station.rows().row(number).is_some(),
-        Left::Promise(round, owner) => {
+        LeftSaved::Unasked => true,
+        LeftSaved::Row => station.rows().row(number).is_some(),
+        LeftSaved::Promise(round, owner) => {
             let rows = station.into_rows();
             match rows.row(number) {
                 Some(row) => is_promise(row, round, owner),
@@ -251,7 +251,7 @@ fn leaves<R: Changing>(station: Station<R>, number: Number, left: Left) -> bool 
 
 /// How many turns of a story over these rows come to what they have to, up to the first that does not, and one more where the
 /// station then leaves saved what it has to.
-fn come<R: Changing>(alloc: Global, story: &Story, rows: R) -> Option<usize> {
+fn come<R: Changing>(alloc: Global, story: &StationStory, rows: R) -> Option<usize> {
     let number = Number::new(12)?;
     let mut station = station_over(alloc, story.me, story.members, rows)?;
     let count = taken(alloc, &mut station, number, story.turns);
@@ -264,13 +264,13 @@ fn come<R: Changing>(alloc: Global, story: &Story, rows: R) -> Option<usize> {
 }
 
 /// The same of a story over rows of its own.
-fn told(alloc: Global, story: &Story) -> Option<usize> {
+fn told(alloc: Global, story: &StationStory) -> Option<usize> {
     let rows = story_rows(alloc, story.version, story.promised)?;
     come(alloc, story, rows)
 }
 
 /// The place of the first turn of a story that does not come to what it has to; nothing where all do.
-pub fn fails_at(alloc: Global, story: &Story) -> Option<usize> {
+pub fn fails_at(alloc: Global, story: &StationStory) -> Option<usize> {
     match told(alloc, story) {
         Some(count) if count > story.turns.len() => None,
         Some(place) => Some(place),

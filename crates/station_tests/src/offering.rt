@@ -1,22 +1,22 @@
 //! What a station is offered at version 1 and at version 2.
 
-use crate::benches::{ALONE, FIRST, Story, fails_at};
-use crate::turns::Act::{Offer, Restart, Seek, Withdraw};
+use crate::benches::{ALONE, FIRST, StationStory, fails_at};
 use crate::turns::Ends::{Done, Refused};
-use crate::turns::{Handed, OFFER, Open, QUIET, RELEASED, TOO_OLD, Turn, WITHDRAWN};
-use fixtures::Given::{Flood, LongAndFaulty, Longest, LongestOne};
+use crate::turns::StationAct::{Offer, Restart, Seek, Withdraw};
+use crate::turns::{Handed, OFFER, Open, QUIET, RELEASED, StationTurn, TOO_OLD, WITHDRAWN};
+use fixtures::GivenEntry::{Flood, LongAndFaulty, Longest, LongestOne};
 use line_check::{Cause, SetFault};
 use station::StepRefusal;
-use station_fixtures::Noted::Proposed;
+use station_fixtures::NotedBallot::Proposed;
 use tape_frames::Version;
 
 /// Why an offer of the long and faulty tape is refused.
-const LONG: Turn = Turn {
+const LONG: StationTurn = StationTurn {
     act: Offer(12, LongAndFaulty),
     ..TOO_OLD
 };
 
-const FAULTY: Turn = Turn {
+const FAULTY: StationTurn = StationTurn {
     ends: Refused(StepRefusal::TapeFaulty(SetFault {
         at: 4097,
         line: 1,
@@ -26,38 +26,38 @@ const FAULTY: Turn = Turn {
 };
 
 /// What a station is offered at version 1 and at version 2.
-const OFFERS: &[Story] = &[
+const OFFERS: &[StationStory] = &[
     // Version 1 has no withdrawal and no longer tape: that is told behind the number and what is open, and before the
     // fault of the tape.
-    Story {
+    StationStory {
         turns: &[
             TOO_OLD,
             LONG,
-            Turn {
+            StationTurn {
                 act: Offer(12, Longest),
                 ..TOO_OLD
             },
-            Turn {
+            StationTurn {
                 act: Withdraw(0),
                 ends: Refused(StepRefusal::BadNumber),
                 ..QUIET
             },
-            Turn {
+            StationTurn {
                 act: Offer(1_000_000, LongAndFaulty),
                 ends: Refused(StepRefusal::BadNumber),
                 ..QUIET
             },
-            Turn {
+            StationTurn {
                 act: Offer(12, LongestOne),
                 ..OFFER
             },
-            Turn {
+            StationTurn {
                 act: Withdraw(12),
                 ends: Refused(StepRefusal::AlreadyOpen),
                 open: Open::At(1, 1),
                 ..QUIET
             },
-            Turn {
+            StationTurn {
                 act: Offer(12, LongAndFaulty),
                 ends: Refused(StepRefusal::AlreadyOpen),
                 open: Open::At(1, 1),
@@ -67,13 +67,13 @@ const OFFERS: &[Story] = &[
         ..FIRST
     },
     // It is told behind what was released.
-    Story {
+    StationStory {
         turns: &[
-            Turn {
+            StationTurn {
                 act: Offer(12, Flood),
                 ..RELEASED
             },
-            Turn {
+            StationTurn {
                 act: Withdraw(12),
                 ends: Refused(StepRefusal::AlreadyReleased),
                 releases: Handed::Nothing,
@@ -83,17 +83,17 @@ const OFFERS: &[Story] = &[
         ..ALONE
     },
     // And before the ballots that are left.
-    Story {
+    StationStory {
         promised: Some((4_294_967_295, 2)),
         turns: &[TOO_OLD],
         ..FIRST
     },
-    Story {
+    StationStory {
         version: Version::Two,
         promised: Some((4_294_967_295, 2)),
         turns: &[
             FAULTY,
-            Turn {
+            StationTurn {
                 act: Withdraw(12),
                 ends: Refused(StepRefusal::RoundsSpent),
                 ..QUIET
@@ -102,41 +102,41 @@ const OFFERS: &[Story] = &[
         ..FIRST
     },
     // Version 2 has both.
-    Story {
+    StationStory {
         version: Version::Two,
         turns: &[
             FAULTY,
-            Turn {
+            StationTurn {
                 act: Offer(12, Longest),
                 ..OFFER
             },
         ],
         ..FIRST
     },
-    Story {
+    StationStory {
         version: Version::Two,
-        turns: &[Turn {
+        turns: &[StationTurn {
             act: Withdraw(12),
             ..OFFER
         }],
         ..FIRST
     },
     // A member of one releases the withdrawal, once, and finds it again after a restart.
-    Story {
+    StationStory {
         version: Version::Two,
         turns: &[
             WITHDRAWN,
-            Turn {
+            StationTurn {
                 act: Offer(12, Flood),
                 ends: Refused(StepRefusal::AlreadyReleased),
                 releases: Handed::Nothing,
                 ..WITHDRAWN
             },
-            Turn {
+            StationTurn {
                 act: Restart,
                 ..QUIET
             },
-            Turn {
+            StationTurn {
                 act: Seek,
                 ends: Done(Proposed(2, 1)),
                 ..WITHDRAWN

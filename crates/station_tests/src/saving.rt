@@ -1,23 +1,23 @@
 //! What a station saved is found after a restart.
 
-use crate::benches::{ALONE, Left, Story, fails_at};
-use crate::turns::Act::{Arm, Due, Offer, Restart, Seek};
+use crate::benches::{ALONE, LeftSaved, StationStory, fails_at};
 use crate::turns::Ends::{Done, Refused};
-use crate::turns::{Handed, Open, QUIET, RELEASED, STOPPED, Turn};
-use fixtures::Given::Flood;
+use crate::turns::StationAct::{Arm, Due, Offer, Restart, Seek};
+use crate::turns::{Handed, Open, QUIET, RELEASED, STOPPED, StationTurn};
+use fixtures::GivenEntry::Flood;
 use station::StepRefusal;
-use station_fixtures::Noted::{Nothing, Proposed};
+use station_fixtures::NotedBallot::{Nothing, Proposed};
 
 /// A member of one: it releases what it is offered, once; it finds what was saved though the save was refused; and
 /// nothing where it was not saved.
-const SAVES: &[Story] = &[
-    Story {
+const SAVES: &[StationStory] = &[
+    StationStory {
         turns: &[
-            Turn {
+            StationTurn {
                 act: Offer(12, Flood),
                 ..RELEASED
             },
-            Turn {
+            StationTurn {
                 act: Offer(12, Flood),
                 ends: Refused(StepRefusal::AlreadyReleased),
                 releases: Handed::Nothing,
@@ -26,23 +26,23 @@ const SAVES: &[Story] = &[
         ],
         ..ALONE
     },
-    Story {
+    StationStory {
         turns: &[
-            Turn {
+            StationTurn {
                 act: Arm(true),
                 ..QUIET
             },
             STOPPED,
-            Turn {
+            StationTurn {
                 act: Seek,
                 ends: Refused(StepRefusal::Stopped),
                 ..STOPPED
             },
-            Turn {
+            StationTurn {
                 act: Restart,
                 ..QUIET
             },
-            Turn {
+            StationTurn {
                 act: Seek,
                 ends: Done(Proposed(2, 1)),
                 ..RELEASED
@@ -50,30 +50,30 @@ const SAVES: &[Story] = &[
         ],
         ..ALONE
     },
-    Story {
+    StationStory {
         turns: &[
-            Turn {
+            StationTurn {
                 act: Arm(false),
                 ..QUIET
             },
             STOPPED,
-            Turn {
+            StationTurn {
                 act: Due(0),
                 ends: Refused(StepRefusal::Stopped),
                 ..STOPPED
             },
-            Turn {
+            StationTurn {
                 act: Restart,
                 ..QUIET
             },
-            Turn {
+            StationTurn {
                 act: Seek,
                 ends: Done(Nothing(1, 1)),
                 open: Open::Unasked,
                 ..QUIET
             },
         ],
-        left: Left::Row,
+        left: LeftSaved::Row,
         ..ALONE
     },
 ];

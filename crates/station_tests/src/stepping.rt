@@ -1,53 +1,53 @@
 //! What is offered, comes or is due.
 
-use crate::benches::{FIRST, Left, SECOND, Story, fails_at};
+use crate::benches::{FIRST, LeftSaved, SECOND, StationStory, fails_at};
 use crate::datagrams::Message::{
     AtAnothersBallot, FromMemberFour, OfCircuitEight, Prepare, Promise, ToMemberThree,
 };
-use crate::turns::Act::{Due, Offer, Receive, Restart};
 use crate::turns::Ends::{Done, Refused};
-use crate::turns::{OFFER, Open, QUIET, Turn};
-use fixtures::Given::{Flood, Unfinished};
+use crate::turns::StationAct::{Due, Offer, Receive, Restart};
+use crate::turns::{OFFER, Open, QUIET, StationTurn};
+use fixtures::GivenEntry::{Flood, Unfinished};
 use line_check::{Cause, SetFault};
 use packets::PacketFault;
 use station::StepRefusal;
-use station_fixtures::Noted::{Began, Idle, Promised, Silent};
+use station_fixtures::NotedBallot::{Began, Idle, Promised, Silent};
 
-const STEPS: &[Story] = &[
+const STEPS: &[StationStory] = &[
     // Offers that are refused: no ballot is left above the saved promise; the number is none, or open; the tape ends
     // before its line does.
-    Story {
+    StationStory {
         promised: Some((4_294_967_295, 2)),
-        turns: &[Turn {
+        turns: &[StationTurn {
             act: Offer(12, Flood),
             ends: Refused(StepRefusal::RoundsSpent),
             ..QUIET
         }],
-        left: Left::Promise(4_294_967_295, 2),
+        left: LeftSaved::Promise(4_294_967_295, 2),
         ..FIRST
     },
-    Story {
+    StationStory {
         turns: &[
-            Turn {
+            StationTurn {
                 act: Offer(0, Flood),
                 ends: Refused(StepRefusal::BadNumber),
                 ..QUIET
             },
-            Turn {
+            StationTurn {
                 act: Offer(1_000_000, Flood),
                 ends: Refused(StepRefusal::BadNumber),
                 ..QUIET
             },
             OFFER,
-            Turn {
+            StationTurn {
                 ends: Refused(StepRefusal::AlreadyOpen),
                 ..OFFER
             },
         ],
         ..FIRST
     },
-    Story {
-        turns: &[Turn {
+    StationStory {
+        turns: &[StationTurn {
             act: Offer(12, Unfinished),
             ends: Refused(StepRefusal::TapeFaulty(SetFault {
                 at: 1,
@@ -60,24 +60,24 @@ const STEPS: &[Story] = &[
     },
     // Datagrams: of another circuit, for another member, from a stranger, at a ballot that is not the sender's; and one
     // that is promised, and then repeated.
-    Story {
+    StationStory {
         turns: &[
-            Turn {
+            StationTurn {
                 act: Receive(OfCircuitEight),
                 ends: Refused(StepRefusal::WrongCircuit),
                 ..QUIET
             },
-            Turn {
+            StationTurn {
                 act: Receive(ToMemberThree),
                 ends: Refused(StepRefusal::NotForMe),
                 ..QUIET
             },
-            Turn {
+            StationTurn {
                 act: Receive(FromMemberFour),
                 ends: Refused(StepRefusal::Stranger),
                 ..QUIET
             },
-            Turn {
+            StationTurn {
                 act: Receive(AtAnothersBallot),
                 ends: Refused(StepRefusal::BadDatagram(PacketFault::BadSender)),
                 ..QUIET
@@ -85,16 +85,16 @@ const STEPS: &[Story] = &[
         ],
         ..SECOND
     },
-    Story {
+    StationStory {
         turns: &[
-            Turn {
+            StationTurn {
                 act: Receive(Prepare),
                 ends: Done(Promised(1, 1)),
                 sent: 1,
                 datagram: Some((1, Promise)),
                 ..QUIET
             },
-            Turn {
+            StationTurn {
                 act: Receive(Prepare),
                 ends: Done(Silent),
                 ..QUIET
@@ -103,16 +103,16 @@ const STEPS: &[Story] = &[
         ..SECOND
     },
     // A ballot is begun anew when it is due, and above the saved promise after a restart.
-    Story {
+    StationStory {
         turns: &[
             OFFER,
-            Turn {
+            StationTurn {
                 act: Due(289),
                 ends: Done(Idle),
                 sent: 0,
                 ..OFFER
             },
-            Turn {
+            StationTurn {
                 act: Due(290),
                 ends: Done(Began(2, 1)),
                 open: Open::At(2, 1),
@@ -121,14 +121,14 @@ const STEPS: &[Story] = &[
         ],
         ..FIRST
     },
-    Story {
+    StationStory {
         turns: &[
             OFFER,
-            Turn {
+            StationTurn {
                 act: Restart,
                 ..QUIET
             },
-            Turn {
+            StationTurn {
                 ends: Done(Began(2, 1)),
                 open: Open::At(2, 1),
                 ..OFFER

@@ -1,16 +1,16 @@
 //! What is done to a station, and what has to come of it.
 
 use crate::datagrams::Message;
-use fixtures::Given;
+use fixtures::GivenEntry;
 use rows_saved::RowsFault;
 use station::StepRefusal;
-use station_fixtures::Noted;
+use station_fixtures::NotedBallot;
 use tape_frames::Version;
 
 /// What is done to a station, for number 12 and at moment 0 where nothing else is said.
 #[derive(Clone, Copy)]
-pub enum Act {
-    Offer(u32, Given),
+pub enum StationAct {
+    Offer(u32, GivenEntry),
     Withdraw(u32),
     Seek,
     Due(u64),
@@ -38,7 +38,7 @@ pub enum Handed {
 /// How it ends.
 #[derive(Clone, Copy)]
 pub enum Ends {
-    Done(Noted),
+    Done(NotedBallot),
     Refused(StepRefusal),
     /// It answers no note, and is done; what is no step is always done.
     Always,
@@ -56,8 +56,8 @@ pub enum Open {
 
 /// What is done to a station, and what has to come of it.
 #[derive(Clone, Copy)]
-pub struct Turn {
-    pub act: Act,
+pub struct StationTurn {
+    pub act: StationAct,
     pub ends: Ends,
     /// How many datagrams it sends.
     pub sent: usize,
@@ -72,9 +72,9 @@ pub struct Turn {
 }
 
 /// An offer of the flood story for number 12, which begins the first ballot of member 1 of three.
-pub const OFFER: Turn = Turn {
-    act: Act::Offer(12, Given::Flood),
-    ends: Ends::Done(Noted::Began(1, 1)),
+pub const OFFER: StationTurn = StationTurn {
+    act: StationAct::Offer(12, GivenEntry::Flood),
+    ends: Ends::Done(NotedBallot::Began(1, 1)),
     sent: 2,
     datagram: None,
     releases: Handed::Nothing,
@@ -84,7 +84,7 @@ pub const OFFER: Turn = Turn {
 };
 
 /// A step that sends nothing, after which no proposal is open.
-pub const QUIET: Turn = Turn {
+pub const QUIET: StationTurn = StationTurn {
     ends: Ends::Always,
     sent: 0,
     open: Open::Nothing,
@@ -92,8 +92,8 @@ pub const QUIET: Turn = Turn {
 };
 
 /// The flood story is released.
-pub const RELEASED: Turn = Turn {
-    ends: Ends::Done(Noted::Proposed(1, 1)),
+pub const RELEASED: StationTurn = StationTurn {
+    ends: Ends::Done(NotedBallot::Proposed(1, 1)),
     releases: Handed::Flood,
     released: true,
     open: Open::Unasked,
@@ -101,21 +101,21 @@ pub const RELEASED: Turn = Turn {
 };
 
 /// The number is withdrawn.
-pub const WITHDRAWN: Turn = Turn {
-    act: Act::Withdraw(12),
+pub const WITHDRAWN: StationTurn = StationTurn {
+    act: StationAct::Withdraw(12),
     releases: Handed::Withdrawal,
     ..RELEASED
 };
 
 /// The version of the rows does not have what is offered.
-pub const TOO_OLD: Turn = Turn {
-    act: Act::Withdraw(12),
+pub const TOO_OLD: StationTurn = StationTurn {
+    act: StationAct::Withdraw(12),
     ends: Ends::Refused(StepRefusal::WireTooOld),
     ..QUIET
 };
 
 /// The store refuses the save, and the station stops.
-pub const STOPPED: Turn = Turn {
+pub const STOPPED: StationTurn = StationTurn {
     ends: Ends::Refused(StepRefusal::Store(RowsFault::Store)),
     stopped: true,
     ..QUIET

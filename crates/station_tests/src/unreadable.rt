@@ -1,22 +1,22 @@
 //! Rows that are not read.
 
-use crate::benches::{Left, SECOND, Story, fails_at};
+use crate::benches::{LeftSaved, SECOND, StationStory, fails_at};
 use crate::datagrams::Message::{Prepare, Promise, ToMemberThree};
-use crate::turns::Act::{Due, Offer, Receive, Refuse, Restart, Seek};
 use crate::turns::Ends::{Always, Done, Refused};
-use crate::turns::{OFFER, Open, QUIET, STOPPED, Turn};
-use fixtures::Given::Flood;
+use crate::turns::StationAct::{Due, Offer, Receive, Refuse, Restart, Seek};
+use crate::turns::{OFFER, Open, QUIET, STOPPED, StationTurn};
+use fixtures::GivenEntry::Flood;
 use rows_saved::RowsFault;
 use station::StepRefusal;
-use station_fixtures::Noted::{Began, Idle, Promised};
+use station_fixtures::NotedBallot::{Began, Idle, Promised};
 
 /// The row could not be read for this reason, and the station stops.
-const DAMAGED: Turn = Turn {
+const DAMAGED: StationTurn = StationTurn {
     ends: Refused(StepRefusal::Store(RowsFault::Damaged { number: 12 })),
     ..STOPPED
 };
 
-const NO_MEMORY: Turn = Turn {
+const NO_MEMORY: StationTurn = StationTurn {
     ends: Refused(StepRefusal::Store(RowsFault::OutOfMemory)),
     ..STOPPED
 };
@@ -24,90 +24,90 @@ const NO_MEMORY: Turn = Turn {
 /// A member of three whose rows are not read: each reason comes to a refusal of its own, each kind of step meets one,
 /// and then nothing is done until the member starts again; its rows are as they were. What is refused or idle before
 /// the rows are asked stays so.
-const UNREAD: &[Story] = &[Story {
+const UNREAD: &[StationStory] = &[StationStory {
     turns: &[
-        Turn {
+        StationTurn {
             act: Refuse(RowsFault::Damaged { number: 12 }),
             ..QUIET
         },
-        Turn {
+        StationTurn {
             act: Offer(0, Flood),
             ends: Refused(StepRefusal::BadNumber),
             ..QUIET
         },
-        Turn {
+        StationTurn {
             act: Receive(ToMemberThree),
             ends: Refused(StepRefusal::NotForMe),
             ..QUIET
         },
-        Turn {
+        StationTurn {
             act: Due(0),
             ends: Done(Idle),
             ..QUIET
         },
         DAMAGED,
-        Turn {
+        StationTurn {
             act: Receive(Prepare),
             ends: Refused(StepRefusal::Stopped),
             ..STOPPED
         },
-        Turn {
+        StationTurn {
             act: Restart,
             ..QUIET
         },
-        Turn {
+        StationTurn {
             act: Refuse(RowsFault::Store),
             ..QUIET
         },
-        Turn {
+        StationTurn {
             act: Receive(Prepare),
             ..STOPPED
         },
-        Turn {
+        StationTurn {
             act: Restart,
             ..QUIET
         },
-        Turn {
+        StationTurn {
             act: Refuse(RowsFault::OutOfMemory),
             ..QUIET
         },
-        Turn {
+        StationTurn {
             act: Seek,
             ..NO_MEMORY
         },
-        Turn {
+        StationTurn {
             act: Restart,
             ..QUIET
         },
         // blank still: with a promise of its own, or a vote, this would be silent, denied or reported
-        Turn {
+        StationTurn {
             act: Receive(Prepare),
             ends: Done(Promised(1, 1)),
             sent: 1,
             datagram: Some((1, Promise)),
             ..QUIET
         },
-        Turn {
+        StationTurn {
             ends: Done(Began(2, 2)),
             open: Open::At(2, 2),
             ..OFFER
         },
-        Turn {
+        StationTurn {
             act: Refuse(RowsFault::Damaged { number: 12 }),
             ends: Always,
             open: Open::At(2, 2),
             ..QUIET
         },
-        Turn {
+        StationTurn {
             act: Due(330),
             ..DAMAGED
         },
-        Turn {
+        StationTurn {
             act: Restart,
             ..QUIET
         },
     ],
-    left: Left::Promise(2, 2),
+    left: LeftSaved::Promise(2, 2),
     ..SECOND
 }];
 

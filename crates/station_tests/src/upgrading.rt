@@ -1,83 +1,83 @@
 //! One station goes over to version 2 with its saved rows.
 
-use crate::benches::{ALONE, FIRST, Left, SECOND, Story, fails_at};
+use crate::benches::{ALONE, FIRST, LeftSaved, SECOND, StationStory, fails_at};
 use crate::datagrams::Message::{PrepareAgain, PrepareTwo, PromiseTwo};
-use crate::turns::Act::{
+use crate::turns::Ends::{Always, Done, Refused};
+use crate::turns::StationAct::{
     Arm, Due, Offer, Receive, Refuse, Replace, Restart, Seek, Upgrade, Withdraw,
 };
-use crate::turns::Ends::{Always, Done, Refused};
-use crate::turns::{OFFER, Open, QUIET, RELEASED, STOPPED, TOO_OLD, Turn, WITHDRAWN};
-use fixtures::Given::{Flood, Longest};
+use crate::turns::{OFFER, Open, QUIET, RELEASED, STOPPED, StationTurn, TOO_OLD, WITHDRAWN};
+use fixtures::GivenEntry::{Flood, Longest};
 use packets::PacketFault;
 use rows_saved::RowsFault;
 use station::StepRefusal;
-use station_fixtures::Noted::{Began, Idle, Promised, Proposed};
+use station_fixtures::NotedBallot::{Began, Idle, Promised, Proposed};
 use tape_frames::Version;
 
 /// The station goes over, and has taken nothing in then.
-const UPGRADED: Turn = Turn {
+const UPGRADED: StationTurn = StationTurn {
     act: Upgrade,
     ..QUIET
 };
 
 /// Its rows refuse to, and it stops.
-const BALKED: Turn = Turn {
+const BALKED: StationTurn = StationTurn {
     act: Upgrade,
     ..STOPPED
 };
 
-const UNSAVED: Turn = Turn {
+const UNSAVED: StationTurn = StationTurn {
     act: Arm(false),
     ..QUIET
 };
 
-const SAVED: Turn = Turn {
+const SAVED: StationTurn = StationTurn {
     act: Arm(true),
     ..QUIET
 };
 
-const RESTARTED: Turn = Turn {
+const RESTARTED: StationTurn = StationTurn {
     act: Restart,
     ..QUIET
 };
 
 /// What a station can say and read before and after it went over.
-const SPEAKS: &[Story] = &[
-    Story {
+const SPEAKS: &[StationStory] = &[
+    StationStory {
         turns: &[
             TOO_OLD,
             UPGRADED,
-            Turn {
+            StationTurn {
                 act: Withdraw(12),
                 ..OFFER
             },
         ],
-        left: Left::Promise(1, 1),
+        left: LeftSaved::Promise(1, 1),
         ..FIRST
     },
-    Story {
+    StationStory {
         turns: &[
-            Turn {
+            StationTurn {
                 act: Offer(12, Longest),
                 ..TOO_OLD
             },
             UPGRADED,
-            Turn {
+            StationTurn {
                 act: Offer(12, Longest),
                 ..OFFER
             },
         ],
         ..FIRST
     },
-    Story {
+    StationStory {
         turns: &[
-            Turn {
+            StationTurn {
                 act: Receive(PrepareTwo),
                 ends: Refused(StepRefusal::BadDatagram(PacketFault::BadVersion)),
                 ..QUIET
             },
             UPGRADED,
-            Turn {
+            StationTurn {
                 act: Receive(PrepareTwo),
                 ends: Done(Promised(1, 1)),
                 sent: 1,
@@ -85,48 +85,48 @@ const SPEAKS: &[Story] = &[
                 ..QUIET
             },
         ],
-        left: Left::Promise(1, 1),
+        left: LeftSaved::Promise(1, 1),
         ..SECOND
     },
 ];
 
 /// What a station forgets, and what it keeps.
-const KEEPS: &[Story] = &[
+const KEEPS: &[StationStory] = &[
     // It forgets what is open, and has its promise still: the next ballot is above that.
-    Story {
+    StationStory {
         turns: &[
             OFFER,
             UPGRADED,
-            Turn {
+            StationTurn {
                 act: Due(290),
                 ends: Done(Idle),
                 ..QUIET
             },
-            Turn {
+            StationTurn {
                 ends: Done(Began(2, 1)),
                 datagram: Some((2, PrepareAgain)),
                 open: Open::At(2, 1),
                 ..OFFER
             },
         ],
-        left: Left::Promise(2, 1),
+        left: LeftSaved::Promise(2, 1),
         ..FIRST
     },
-    Story {
+    StationStory {
         promised: Some((4, 2)),
         turns: &[UPGRADED],
-        left: Left::Promise(4, 2),
+        left: LeftSaved::Promise(4, 2),
         ..FIRST
     },
     // It forgets what it released, and has its vote still, to which a withdrawal gives way.
-    Story {
+    StationStory {
         turns: &[
-            Turn {
+            StationTurn {
                 act: Offer(12, Flood),
                 ..RELEASED
             },
             UPGRADED,
-            Turn {
+            StationTurn {
                 act: Withdraw(12),
                 ends: Done(Proposed(2, 1)),
                 ..RELEASED
@@ -135,12 +135,12 @@ const KEEPS: &[Story] = &[
         ..ALONE
     },
     // The same at version 2 already.
-    Story {
+    StationStory {
         version: Version::Two,
         turns: &[
             WITHDRAWN,
             UPGRADED,
-            Turn {
+            StationTurn {
                 act: Offer(12, Flood),
                 ends: Done(Proposed(2, 1)),
                 ..WITHDRAWN
@@ -151,13 +151,13 @@ const KEEPS: &[Story] = &[
 ];
 
 /// A station whose save was refused goes on.
-const GOES_ON: &[Story] = &[
-    Story {
+const GOES_ON: &[StationStory] = &[
+    StationStory {
         turns: &[
             SAVED,
             STOPPED,
             UPGRADED,
-            Turn {
+            StationTurn {
                 act: Seek,
                 ends: Done(Proposed(2, 1)),
                 ..RELEASED
@@ -165,38 +165,38 @@ const GOES_ON: &[Story] = &[
         ],
         ..ALONE
     },
-    Story {
+    StationStory {
         turns: &[UNSAVED, STOPPED, UPGRADED, WITHDRAWN],
         ..ALONE
     },
 ];
 
 /// Whether it went over, where its rows are armed: not as unsaved, and as saved it did. It is unarmed then.
-const BALKS: &[Story] = &[
-    Story {
+const BALKS: &[StationStory] = &[
+    StationStory {
         turns: &[UNSAVED, BALKED, RESTARTED, TOO_OLD, UPGRADED, WITHDRAWN],
         ..ALONE
     },
-    Story {
+    StationStory {
         turns: &[SAVED, BALKED, RESTARTED, WITHDRAWN],
         ..ALONE
     },
     // It answers nothing until a restart, or an upgrade that is done.
-    Story {
+    StationStory {
         turns: &[
             UNSAVED,
             BALKED,
-            Turn {
+            StationTurn {
                 act: Withdraw(12),
                 ends: Refused(StepRefusal::Stopped),
                 ..STOPPED
             },
-            Turn {
+            StationTurn {
                 act: Receive(PrepareTwo),
                 ends: Refused(StepRefusal::Stopped),
                 ..STOPPED
             },
-            Turn {
+            StationTurn {
                 act: Arm(true),
                 ends: Always,
                 ..STOPPED
@@ -208,18 +208,18 @@ const BALKS: &[Story] = &[
         ..ALONE
     },
     // At version 2 already it is refused as well.
-    Story {
+    StationStory {
         version: Version::Two,
         turns: &[
             WITHDRAWN,
-            Turn {
+            StationTurn {
                 act: Arm(true),
                 ends: Always,
                 ..WITHDRAWN
             },
             BALKED,
             UPGRADED,
-            Turn {
+            StationTurn {
                 act: Seek,
                 ends: Done(Proposed(2, 1)),
                 ..WITHDRAWN
@@ -228,68 +228,68 @@ const BALKS: &[Story] = &[
         ..ALONE
     },
     // A row stays as it was.
-    Story {
+    StationStory {
         promised: Some((4, 2)),
         turns: &[
             UNSAVED, BALKED, RESTARTED, SAVED, BALKED, RESTARTED, UPGRADED,
         ],
-        left: Left::Promise(4, 2),
+        left: LeftSaved::Promise(4, 2),
         ..FIRST
     },
 ];
 
 /// The rows could not be read to go over, for each reason; the station stops at the version before.
-const UNREAD: &[Story] = &[Story {
+const UNREAD: &[StationStory] = &[StationStory {
     promised: Some((4, 2)),
     turns: &[
-        Turn {
+        StationTurn {
             act: Refuse(RowsFault::Damaged { number: 12 }),
             ..QUIET
         },
-        Turn {
+        StationTurn {
             ends: Refused(StepRefusal::Store(RowsFault::Damaged { number: 12 })),
             ..BALKED
         },
         RESTARTED,
         TOO_OLD,
-        Turn {
+        StationTurn {
             act: Refuse(RowsFault::OutOfMemory),
             ..QUIET
         },
-        Turn {
+        StationTurn {
             ends: Refused(StepRefusal::Store(RowsFault::OutOfMemory)),
             ..BALKED
         },
         RESTARTED,
         TOO_OLD,
         UPGRADED,
-        Turn {
+        StationTurn {
             act: Withdraw(12),
             ends: Done(Began(5, 1)),
             open: Open::At(5, 1),
             ..OFFER
         },
     ],
-    left: Left::Promise(5, 1),
+    left: LeftSaved::Promise(5, 1),
     ..FIRST
 }];
 
 /// Other rows, at the version before, were put in the place of those that went over.
-const REPLACED: &[Story] = &[Story {
+const REPLACED: &[StationStory] = &[StationStory {
     turns: &[
         UPGRADED,
-        Turn {
+        StationTurn {
             act: Withdraw(12),
             ..OFFER
         },
-        Turn {
+        StationTurn {
             act: Replace(Version::One, None),
             ends: Always,
             ..OFFER
         },
         TOO_OLD,
         UPGRADED,
-        Turn {
+        StationTurn {
             act: Withdraw(12),
             ..OFFER
         },

@@ -1,25 +1,25 @@
 //! What a station reads and speaks at version 1 and at version 2.
 
-use crate::benches::{FIRST, SECOND, Story, fails_at};
+use crate::benches::{FIRST, SECOND, StationStory, fails_at};
 use crate::datagrams::Message::{AcceptTwo, Prepare, PrepareTwo, Promise, PromiseTwo};
-use crate::turns::Act::{Receive, Replace, Withdraw};
 use crate::turns::Ends::{Always, Done, Refused};
-use crate::turns::{OFFER, QUIET, TOO_OLD, Turn};
+use crate::turns::StationAct::{Receive, Replace, Withdraw};
+use crate::turns::{OFFER, QUIET, StationTurn, TOO_OLD};
 use packets::PacketFault;
 use station::StepRefusal;
-use station_fixtures::Noted::{Promised, Proposed, Silent};
+use station_fixtures::NotedBallot::{Promised, Proposed, Silent};
 use tape_frames::Version;
 
 /// What a station reads and speaks at version 1 and at version 2.
-const VERSIONS: &[Story] = &[
-    Story {
+const VERSIONS: &[StationStory] = &[
+    StationStory {
         turns: &[
-            Turn {
+            StationTurn {
                 act: Receive(PrepareTwo),
                 ends: Refused(StepRefusal::BadDatagram(PacketFault::BadVersion)),
                 ..QUIET
             },
-            Turn {
+            StationTurn {
                 act: Receive(Prepare),
                 ends: Done(Promised(1, 1)),
                 sent: 1,
@@ -30,17 +30,17 @@ const VERSIONS: &[Story] = &[
         ..SECOND
     },
     // At version 2 it reads both, and answers in its own.
-    Story {
+    StationStory {
         version: Version::Two,
         turns: &[
-            Turn {
+            StationTurn {
                 act: Receive(Prepare),
                 ends: Done(Promised(1, 1)),
                 sent: 1,
                 datagram: Some((1, PromiseTwo)),
                 ..QUIET
             },
-            Turn {
+            StationTurn {
                 act: Receive(PrepareTwo),
                 ends: Done(Silent),
                 ..QUIET
@@ -49,33 +49,33 @@ const VERSIONS: &[Story] = &[
         ..SECOND
     },
     // It speaks the version of its rows: what is open stays so at a higher version, and goes on in that.
-    Story {
+    StationStory {
         turns: &[
             OFFER,
-            Turn {
+            StationTurn {
                 act: Receive(PromiseTwo),
                 ends: Refused(StepRefusal::BadDatagram(PacketFault::BadVersion)),
                 sent: 0,
                 ..OFFER
             },
-            Turn {
+            StationTurn {
                 act: Replace(Version::Two, Some((1, 1))),
                 ends: Always,
                 ..OFFER
             },
-            Turn {
+            StationTurn {
                 act: Withdraw(12),
                 ends: Refused(StepRefusal::AlreadyOpen),
                 ..OFFER
             },
-            Turn {
+            StationTurn {
                 act: Receive(PromiseTwo),
                 ends: Done(Proposed(1, 1)),
                 sent: 4,
                 datagram: Some((2, AcceptTwo)),
                 ..OFFER
             },
-            Turn {
+            StationTurn {
                 act: Withdraw(13),
                 ..OFFER
             },
@@ -83,14 +83,14 @@ const VERSIONS: &[Story] = &[
         ..FIRST
     },
     // At a lower one it is forgotten.
-    Story {
+    StationStory {
         version: Version::Two,
         turns: &[
-            Turn {
+            StationTurn {
                 act: Withdraw(12),
                 ..OFFER
             },
-            Turn {
+            StationTurn {
                 act: Replace(Version::One, None),
                 ends: Always,
                 ..OFFER

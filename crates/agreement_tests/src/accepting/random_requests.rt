@@ -1,32 +1,32 @@
 //! Random requests to an acceptor, beside one that keeps no row: it looks through all that it was asked.
 
-use crate::accepting::runs::{Asked, Said, is_run};
+use crate::accepting::runs::{RunReply, RunRequest, is_run};
 use crate::draws::{drawn_at, drawn_entry};
-use crate::rows::{Agreed, At};
+use crate::rows::{AgreedOn, PlainBallot};
 use fixtures::Dice;
 use std::alloc::Global;
 
 /// Requests, and what has to be said to each.
-type Steps = Vec<(Asked, Said)>;
+type Steps = Vec<(RunRequest, RunReply)>;
 
 /// Whether the ballot is above the other, or there is no other.
-fn is_above(at: At, other: Option<At>) -> bool {
+fn is_above(at: PlainBallot, other: Option<PlainBallot>) -> bool {
     match other {
         None => true,
         Some(other) => other < at,
     }
 }
 
-fn at_of(asked: Asked) -> At {
+fn at_of(asked: RunRequest) -> PlainBallot {
     match asked {
-        Asked::Prepare(at) => at,
-        Asked::Accept(at, _) => at,
+        RunRequest::Prepare(at) => at,
+        RunRequest::Accept(at, _) => at,
     }
 }
 
 /// The greatest ballot of so many first requests.
-fn greatest(steps: &[(Asked, Said)], many: usize) -> Option<At> {
-    let mut greatest: Option<At> = None;
+fn greatest(steps: &[(RunRequest, RunReply)], many: usize) -> Option<PlainBallot> {
+    let mut greatest: Option<PlainBallot> = None;
     for (asked, _) in steps.iter().take(many) {
         let at = at_of(*asked);
         if is_above(at, greatest) {
@@ -37,10 +37,10 @@ fn greatest(steps: &[(Asked, Said)], many: usize) -> Option<At> {
 }
 
 /// The vote of greatest ballot, the first where equal. An accept is voted for where no request before it has a greater ballot.
-fn vote_of(steps: &[(Asked, Said)]) -> Option<(At, Agreed)> {
-    let mut vote: Option<(At, Agreed)> = None;
+fn vote_of(steps: &[(RunRequest, RunReply)]) -> Option<(PlainBallot, AgreedOn)> {
+    let mut vote: Option<(PlainBallot, AgreedOn)> = None;
     for (before, (asked, _)) in steps.iter().enumerate() {
-        if let Asked::Accept(at, agreed) = asked {
+        if let RunRequest::Accept(at, agreed) = asked {
             let is_voted_for = match greatest(steps, before) {
                 None => true,
                 Some(promised) => promised <= *at,
@@ -54,18 +54,18 @@ fn vote_of(steps: &[(Asked, Said)]) -> Option<(At, Agreed)> {
 }
 
 /// What has to be said to a request behind these.
-fn said(before: &[(Asked, Said)], asked: Asked) -> Said {
+fn said(before: &[(RunRequest, RunReply)], asked: RunRequest) -> RunReply {
     let vote = vote_of(before);
     match (asked, greatest(before, before.len())) {
-        (_, Some(promised)) if promised > at_of(asked) => Said::Nack(promised),
-        (Asked::Prepare(at), Some(promised)) if promised == at => Said::Silent,
-        (Asked::Prepare(_), _) => match vote {
-            None => Said::Promise,
-            Some((voted, agreed)) => Said::Report(voted, agreed),
+        (_, Some(promised)) if promised > at_of(asked) => RunReply::Nack(promised),
+        (RunRequest::Prepare(at), Some(promised)) if promised == at => RunReply::Silent,
+        (RunRequest::Prepare(_), _) => match vote {
+            None => RunReply::Promise,
+            Some((voted, agreed)) => RunReply::Report(voted, agreed),
         },
-        (Asked::Accept(at, _), _) => match vote {
-            Some((voted, _)) if voted == at => Said::Again,
-            _ => Said::Voted,
+        (RunRequest::Accept(at, _), _) => match vote {
+            Some((voted, _)) if voted == at => RunReply::Again,
+            _ => RunReply::Voted,
         },
     }
 }
@@ -76,8 +76,8 @@ fn drawn(alloc: Global, dice: &mut Dice) -> Option<Steps> {
     for _ in 0..1 + dice.throw(12) {
         let at = drawn_at(dice, 3);
         let asked = match dice.throw(2) {
-            0 => Asked::Prepare(at),
-            _ => Asked::Accept(at, drawn_entry(dice)),
+            0 => RunRequest::Prepare(at),
+            _ => RunRequest::Accept(at, drawn_entry(dice)),
         };
         let answer = said(&steps, asked);
         steps.push((asked, answer)).ok()?;
@@ -86,7 +86,7 @@ fn drawn(alloc: Global, dice: &mut Dice) -> Option<Steps> {
 }
 
 /// Whether an acceptor answers the requests so, and has such a row after them.
-fn is_answered(alloc: Global, steps: &[(Asked, Said)]) -> bool {
+fn is_answered(alloc: Global, steps: &[(RunRequest, RunReply)]) -> bool {
     match greatest(steps, steps.len()) {
         None => false,
         Some(promised) => is_run(alloc, steps, promised, vote_of(steps)),

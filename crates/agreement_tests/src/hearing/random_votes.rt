@@ -3,17 +3,17 @@
 ghost use Rattle.std.specs.Prelude.{◌≤◌};
 
 use crate::draws::{drawn_at, drawn_entry, drawn_member};
-use crate::hearing::votes::{Step, taken};
-use crate::rows::{Agreed, At};
+use crate::hearing::votes::{HearingStep, taken};
+use crate::rows::{AgreedOn, PlainBallot};
 use fixtures::Dice;
 use std::alloc::Global;
 
 /// A member's vote.
-type Vote = (u8, At, Agreed);
+type MembersVote = (u8, PlainBallot, AgreedOn);
 
 /// The member's vote of greatest ballot, the first where equal.
-fn latest(votes: &[Vote], member: u8) -> Option<(At, Agreed)> {
-    let mut latest: Option<(At, Agreed)> = None;
+fn latest(votes: &[MembersVote], member: u8) -> Option<(PlainBallot, AgreedOn)> {
+    let mut latest: Option<(PlainBallot, AgreedOn)> = None;
     for (from, at, agreed) in votes {
         let is_later = match latest {
             None => true,
@@ -27,7 +27,7 @@ fn latest(votes: &[Vote], member: u8) -> Option<(At, Agreed)> {
 }
 
 /// The entry of the least member whose latest vote is at this ballot.
-fn least_at(votes: &[Vote], members: u8, at: At) -> Option<Agreed> {
+fn least_at(votes: &[MembersVote], members: u8, at: PlainBallot) -> Option<AgreedOn> {
     for member in 1..16 {
         match latest(votes, member) {
             Some((voted, agreed)) if voted == at && member <= members => return Some(agreed),
@@ -38,7 +38,7 @@ fn least_at(votes: &[Vote], members: u8, at: At) -> Option<Agreed> {
 }
 
 /// How many members have their latest vote at this ballot.
-fn count_at(votes: &[Vote], at: At) -> u32 {
+fn count_at(votes: &[MembersVote], at: PlainBallot) -> u32 {
     let mut count: u32 = 0;
     for member in 1..16 {
         match latest(votes, member) {
@@ -50,7 +50,7 @@ fn count_at(votes: &[Vote], at: At) -> u32 {
 }
 
 /// The ballot at which a majority of so many has its latest votes.
-fn ripe(votes: &[Vote], members: u8) -> Option<At> {
+fn ripe(votes: &[MembersVote], members: u8) -> Option<PlainBallot> {
     for (_, at, _) in votes {
         if count_at(votes, *at) > u32::from(members) / 2 {
             return Some(*at);
@@ -60,7 +60,7 @@ fn ripe(votes: &[Vote], members: u8) -> Option<At> {
 }
 
 /// A vote in a circuit of so many.
-fn drawn_vote(dice: &mut Dice, members: u8) -> Vote
+fn drawn_vote(dice: &mut Dice, members: u8) -> MembersVote
     requires { 1 ≤ members }
 {
     let (from, voted) = (drawn_member(dice, members), drawn_at(dice, 2));
@@ -71,8 +71,8 @@ fn drawn_vote(dice: &mut Dice, members: u8) -> Vote
 fn take_vote(
     dice: &mut Dice,
     members: u8,
-    votes: &mut Vec<Vote>,
-    steps: &mut Vec<Step>,
+    votes: &mut Vec<MembersVote>,
+    steps: &mut Vec<HearingStep>,
 ) -> Option<()>
     requires { 1 ≤ members }
 {
@@ -80,20 +80,22 @@ fn take_vote(
     let other = drawn_at(dice, 2);
     votes.push((from, voted, agreed)).ok()?;
     let chosen = ripe(votes, members);
-    steps.push(Step::Hear(from, voted, agreed, chosen)).ok()?;
+    steps
+        .push(HearingStep::Hear(from, voted, agreed, chosen))
+        .ok()?;
     let own = least_at(votes, members, voted);
-    steps.push(Step::Entry(voted, own)).ok()?;
+    steps.push(HearingStep::Entry(voted, own)).ok()?;
     let stands = least_at(votes, members, other);
-    steps.push(Step::Entry(other, stands)).ok()
+    steps.push(HearingStep::Entry(other, stands)).ok()
 }
 
 /// Up to thirty of them.
-fn drawn(alloc: Global, dice: &mut Dice, members: u8) -> Option<Vec<Step>>
+fn drawn(alloc: Global, dice: &mut Dice, members: u8) -> Option<Vec<HearingStep>>
     requires { 1 ≤ members }
 {
     let mut votes = Vec::new(alloc);
     let mut steps = Vec::new(alloc);
-    steps.push(Step::In(members)).ok()?;
+    steps.push(HearingStep::In(members)).ok()?;
     for _ in 0..dice.throw(31) {
         take_vote(dice, members, &mut votes, &mut steps)?;
     }

@@ -2,27 +2,30 @@
 
 ghost use Rattle.std.specs.Prelude.{◌≡◌, ◌≤◌, IfSome};
 
-use crate::rows::Agreed::{Flood, Ligature, Longest, Packed, Void};
-use crate::rows::{Agreed, At, ballot, is_entry, lent, member_of, parts};
+use crate::rows::AgreedOn::{Flood, Ligature, Longest, Packed, Void};
+use crate::rows::{AgreedOn, PlainBallot, ballot, is_entry, lent, member_of, parts};
 use ballots::{Ballot, Member};
 use learner::Heard;
 use std::alloc::Global;
 use tape_frames::EntryRef;
 
 #[derive(Clone, Copy)]
-pub enum Step {
+pub enum HearingStep {
     /// A member of a circuit of so many, which has heard nothing yet.
     In(u8),
     /// A member's vote, and the ballot at which a majority then votes.
-    Hear(u8, At, Agreed, Option<At>),
+    Hear(u8, PlainBallot, AgreedOn, Option<PlainBallot>),
     /// The entry that then stands at a ballot.
-    Entry(At, Option<Agreed>),
+    Entry(PlainBallot, Option<AgreedOn>),
     /// The entry that is given up at a ballot; nothing is heard after that.
-    Release(At, Option<Agreed>),
+    Release(PlainBallot, Option<AgreedOn>),
 }
 
 /// The member, the ballot and the entry of a vote, in a circuit of so many.
-fn vote_of(members: u8, vote: (u8, At, Agreed)) -> Option<(Member, Ballot, EntryRef<'static>)>
+fn vote_of(
+    members: u8,
+    vote: (u8, PlainBallot, AgreedOn),
+) -> Option<(Member, Ballot, EntryRef<'static>)>
     ensures { IfSome result (λ v. v.0 ≤ members) }
 {
     Some((member_of(members, vote.0)?, ballot(vote.1)?, lent(vote.2)?))
@@ -31,8 +34,8 @@ fn vote_of(members: u8, vote: (u8, At, Agreed)) -> Option<(Member, Ballot, Entry
 /// A vote that is heard, and the ballot at which a majority then votes.
 #[derive(Clone, Copy)]
 struct HeardVote {
-    vote: (u8, At, Agreed),
-    ripe: Option<At>,
+    vote: (u8, PlainBallot, AgreedOn),
+    ripe: Option<PlainBallot>,
 }
 
 /// Whether the vote is answered so.
@@ -63,7 +66,7 @@ fn answers(heard: &mut Heard, members: u8, times: u32, one: HeardVote) -> bool
 }
 
 /// Whether this entry stands at the ballot.
-fn stands(heard: &Heard, voted: At, agreed: Option<Agreed>) -> bool {
+fn stands(heard: &Heard, voted: PlainBallot, agreed: Option<AgreedOn>) -> bool {
     let Some(ballot) = ballot(voted) else {
         return false;
     };
@@ -75,7 +78,7 @@ fn stands(heard: &Heard, voted: At, agreed: Option<Agreed>) -> bool {
 }
 
 /// Whether this entry is given up at the ballot, and nothing is heard then.
-fn gives_up(heard: &mut Heard, voted: At, agreed: Option<Agreed>) -> bool
+fn gives_up(heard: &mut Heard, voted: PlainBallot, agreed: Option<AgreedOn>) -> bool
     ensures { heard.new.members ≡ heard.old.members }
 {
     let Some(ballot) = ballot(voted) else {
@@ -90,21 +93,21 @@ fn gives_up(heard: &mut Heard, voted: At, agreed: Option<Agreed>) -> bool
 }
 
 /// Whether a step comes to what it has to, where each vote is heard so many times.
-fn takes(heard: &mut Heard, members: u8, times: u32, step: Step) -> bool
+fn takes(heard: &mut Heard, members: u8, times: u32, step: HearingStep) -> bool
     requires { heard.old.members ≡ members }
     ensures { heard.new.members ≡ members }
 {
     match step {
-        Step::Hear(member, voted, agreed, ripe) => {
+        HearingStep::Hear(member, voted, agreed, ripe) => {
             let one = HeardVote {
                 vote: (member, voted, agreed),
                 ripe,
             };
             answers(heard, members, times, one)
         }
-        Step::Entry(voted, agreed) => stands(heard, voted, agreed),
-        Step::Release(voted, agreed) => gives_up(heard, voted, agreed),
-        Step::In(_) => false,
+        HearingStep::Entry(voted, agreed) => stands(heard, voted, agreed),
+        HearingStep::Release(voted, agreed) => gives_up(heard, voted, agreed),
+        HearingStep::In(_) => false,
     }
 }
 
@@ -120,11 +123,11 @@ fn heard_in(alloc: Global, many: u8) -> Option<Heard>
 
 /// How many steps come to what they have to, up to the first that doesn't, where each vote is heard so many times. What
 /// stands before the first circuit is in one of a single member.
-pub fn taken(alloc: Global, times: u32, steps: &[Step]) -> usize {
+pub fn taken(alloc: Global, times: u32, steps: &[HearingStep]) -> usize {
     let mut members = 1;
     let mut heard = Heard::new(alloc, members);
     for (place, step) in steps.iter().enumerate() {
-        if let Step::In(many) = *step {
+        if let HearingStep::In(many) = *step {
             let Some(fresh) = heard_in(alloc, many) else {
                 return place;
             };
@@ -138,82 +141,82 @@ pub fn taken(alloc: Global, times: u32, steps: &[Step]) -> usize {
 }
 
 /// Stories of votes, one behind another, each in a circuit of its own.
-const STEPS: &[Step] = &[
+const STEPS: &[HearingStep] = &[
     // a majority at one ballot
-    Step::In(5),
-    Step::Hear(1, (1, 1), Flood, None),
-    Step::Hear(2, (1, 1), Flood, None),
-    Step::Hear(2, (1, 1), Flood, None),
-    Step::Hear(3, (1, 3), Flood, None),
-    Step::Hear(1, (1, 3), Flood, None),
-    Step::Hear(4, (1, 3), Flood, Some((1, 3))),
-    Step::Hear(1, (1, 1), Flood, Some((1, 3))),
+    HearingStep::In(5),
+    HearingStep::Hear(1, (1, 1), Flood, None),
+    HearingStep::Hear(2, (1, 1), Flood, None),
+    HearingStep::Hear(2, (1, 1), Flood, None),
+    HearingStep::Hear(3, (1, 3), Flood, None),
+    HearingStep::Hear(1, (1, 3), Flood, None),
+    HearingStep::Hear(4, (1, 3), Flood, Some((1, 3))),
+    HearingStep::Hear(1, (1, 1), Flood, Some((1, 3))),
     // the least member's tape
-    Step::In(5),
-    Step::Entry((1, 1), None),
-    Step::Hear(3, (1, 1), Ligature, None),
-    Step::Hear(2, (1, 1), Flood, None),
-    Step::Hear(2, (1, 1), Ligature, None),
-    Step::Entry((1, 1), Some(Flood)),
-    Step::Hear(2, (2, 1), Flood, None),
-    Step::Entry((1, 1), Some(Ligature)),
-    Step::Entry((2, 1), Some(Flood)),
+    HearingStep::In(5),
+    HearingStep::Entry((1, 1), None),
+    HearingStep::Hear(3, (1, 1), Ligature, None),
+    HearingStep::Hear(2, (1, 1), Flood, None),
+    HearingStep::Hear(2, (1, 1), Ligature, None),
+    HearingStep::Entry((1, 1), Some(Flood)),
+    HearingStep::Hear(2, (2, 1), Flood, None),
+    HearingStep::Entry((1, 1), Some(Ligature)),
+    HearingStep::Entry((2, 1), Some(Flood)),
     // the first is told again and again; the third never votes, and hears of the two that do
-    Step::In(3),
-    Step::Hear(1, (1, 1), Flood, None),
-    Step::Hear(1, (1, 1), Flood, None),
-    Step::Hear(1, (1, 1), Flood, None),
-    Step::Hear(2, (1, 1), Flood, Some((1, 1))),
-    Step::Entry((1, 1), Some(Flood)),
+    HearingStep::In(3),
+    HearingStep::Hear(1, (1, 1), Flood, None),
+    HearingStep::Hear(1, (1, 1), Flood, None),
+    HearingStep::Hear(1, (1, 1), Flood, None),
+    HearingStep::Hear(2, (1, 1), Flood, Some((1, 1))),
+    HearingStep::Entry((1, 1), Some(Flood)),
     // what was voted for is proposed again: the second voted for the flood story at 1.1, and again at the third's ballot
-    Step::In(3),
-    Step::Hear(2, (1, 1), Flood, None),
-    Step::Hear(3, (1, 3), Flood, None),
-    Step::Hear(2, (1, 3), Flood, Some((1, 3))),
-    Step::Entry((1, 1), None),
-    Step::Entry((1, 3), Some(Flood)),
+    HearingStep::In(3),
+    HearingStep::Hear(2, (1, 1), Flood, None),
+    HearingStep::Hear(3, (1, 3), Flood, None),
+    HearingStep::Hear(2, (1, 3), Flood, Some((1, 3))),
+    HearingStep::Entry((1, 1), None),
+    HearingStep::Entry((1, 3), Some(Flood)),
     // the longest tape
-    Step::In(3),
-    Step::Hear(1, (1, 1), Longest, None),
-    Step::Hear(3, (1, 1), Longest, Some((1, 1))),
-    Step::Entry((1, 1), Some(Longest)),
+    HearingStep::In(3),
+    HearingStep::Hear(1, (1, 1), Longest, None),
+    HearingStep::Hear(3, (1, 1), Longest, Some((1, 1))),
+    HearingStep::Entry((1, 1), Some(Longest)),
     // a packed tape
-    Step::In(3),
-    Step::Hear(1, (1, 1), Packed, None),
-    Step::Entry((1, 1), Some(Flood)),
-    Step::Hear(3, (1, 1), Flood, Some((1, 1))),
-    Step::Entry((1, 1), Some(Packed)),
+    HearingStep::In(3),
+    HearingStep::Hear(1, (1, 1), Packed, None),
+    HearingStep::Entry((1, 1), Some(Flood)),
+    HearingStep::Hear(3, (1, 1), Flood, Some((1, 1))),
+    HearingStep::Entry((1, 1), Some(Packed)),
     // a withdrawal
-    Step::In(3),
-    Step::Hear(3, (1, 1), Void, None),
-    Step::Entry((1, 1), Some(Void)),
-    Step::Hear(2, (1, 3), Flood, None),
-    Step::Hear(1, (1, 1), Void, Some((1, 1))),
-    Step::Entry((1, 1), Some(Void)),
-    Step::Entry((1, 3), Some(Flood)),
-    Step::Hear(3, (1, 3), Flood, Some((1, 3))),
-    Step::Entry((1, 1), Some(Void)),
+    HearingStep::In(3),
+    HearingStep::Hear(3, (1, 1), Void, None),
+    HearingStep::Entry((1, 1), Some(Void)),
+    HearingStep::Hear(2, (1, 3), Flood, None),
+    HearingStep::Hear(1, (1, 1), Void, Some((1, 1))),
+    HearingStep::Entry((1, 1), Some(Void)),
+    HearingStep::Entry((1, 3), Some(Flood)),
+    HearingStep::Hear(3, (1, 3), Flood, Some((1, 3))),
+    HearingStep::Entry((1, 1), Some(Void)),
     // what is given up is forgotten: it is the least member's, and a number is heard of anew after it
-    Step::In(3),
-    Step::Release((1, 1), None),
-    Step::Hear(3, (1, 1), Ligature, None),
-    Step::Hear(2, (1, 1), Flood, Some((1, 1))),
-    Step::Release((1, 1), Some(Flood)),
-    Step::Entry((1, 1), None),
-    Step::Release((1, 1), None),
-    Step::Hear(3, (1, 1), Void, None),
-    Step::Hear(1, (1, 2), Ligature, None),
-    Step::Release((1, 2), Some(Ligature)),
-    Step::Hear(2, (1, 1), Void, None),
-    Step::Hear(1, (1, 1), Void, Some((1, 1))),
-    Step::Release((1, 1), Some(Void)),
+    HearingStep::In(3),
+    HearingStep::Release((1, 1), None),
+    HearingStep::Hear(3, (1, 1), Ligature, None),
+    HearingStep::Hear(2, (1, 1), Flood, Some((1, 1))),
+    HearingStep::Release((1, 1), Some(Flood)),
+    HearingStep::Entry((1, 1), None),
+    HearingStep::Release((1, 1), None),
+    HearingStep::Hear(3, (1, 1), Void, None),
+    HearingStep::Hear(1, (1, 2), Ligature, None),
+    HearingStep::Release((1, 2), Some(Ligature)),
+    HearingStep::Hear(2, (1, 1), Void, None),
+    HearingStep::Hear(1, (1, 1), Void, Some((1, 1))),
+    HearingStep::Release((1, 1), Some(Void)),
     // half is no majority
-    Step::In(2),
-    Step::Hear(1, (1, 1), Flood, None),
-    Step::Hear(2, (1, 1), Flood, Some((1, 1))),
+    HearingStep::In(2),
+    HearingStep::Hear(1, (1, 1), Flood, None),
+    HearingStep::Hear(2, (1, 1), Flood, Some((1, 1))),
     // one member alone
-    Step::In(1),
-    Step::Hear(1, (1, 1), Flood, Some((1, 1))),
+    HearingStep::In(1),
+    HearingStep::Hear(1, (1, 1), Flood, Some((1, 1))),
 ];
 
 /// How many of the steps come to what they have to, where each vote is heard so many times, and how many there are.

@@ -3,8 +3,10 @@
 ghost use Rattle.std.specs.Bool.{OnTrue};
 ghost use Rattle.std.specs.Prelude.{◌≡◌, ◌≤◌, IfSome};
 
-use crate::rows::Agreed::{Flood, Ligature, Longest, OneFrame, Packed, Void};
-use crate::rows::{Agreed, At, Voted, ballot, is_entry, lent_vote, member_of, owned, parts};
+use crate::rows::AgreedOn::{Flood, Ligature, Longest, OneFrame, Packed, Void};
+use crate::rows::{
+    AgreedOn, PlainBallot, Voted, ballot, is_entry, lent_vote, member_of, owned, parts,
+};
 use ballots::{Ballot, Member, VoteRef};
 use packets::Seat;
 use proposer::{BeginRefusal, Beginning, Counted, DueAnswer, Proposal};
@@ -13,45 +15,45 @@ use tape_frames::Entry;
 
 /// What happens to a proposal, and what it has to answer.
 #[derive(Clone, Copy)]
-pub enum Step {
+pub enum ProposalStep {
     /// A proposal is begun in place of the one before.
-    Start(Start),
+    Start(ProposalStart),
     /// Its ballot.
-    IsAt(At),
+    IsAt(PlainBallot),
     /// Whether it gathers promises at a ballot.
-    Gathers(At, bool),
+    Gathers(PlainBallot, bool),
     /// Its due moment.
     DueMoment(u64),
     /// A member's promise at a ballot, with a vote that it reports, and what becomes of it.
-    Promise(u8, At, Option<Voted>, Counted),
+    Promise(u8, PlainBallot, Option<Voted>, Counted),
     /// An acceptor's Nack of a ballot, with what it has promised, and whether it is kept.
-    Nack(At, At, bool),
+    Nack(PlainBallot, PlainBallot, bool),
     /// The entry to propose.
-    Picks(Option<Agreed>),
+    Picks(Option<AgreedOn>),
     /// It is proposed at this moment.
     Proposed(u64),
     /// At this moment, with this saved promise, it waits.
-    Waits(At, u64),
+    Waits(PlainBallot, u64),
     /// It gives up.
-    GivesUp(At, u64),
+    GivesUp(PlainBallot, u64),
     /// It begins this ballot.
-    Begins(At, u64, At),
+    Begins(PlainBallot, u64, PlainBallot),
     /// It begins anew at each due moment, up to this round.
     BeginsUpTo(u32),
 }
 
 /// A proposal of a member in a circuit of so many, begun at a moment.
 #[derive(Clone, Copy)]
-pub struct Start {
+pub struct ProposalStart {
     pub me: u8,
     pub members: u8,
-    pub seen: Option<At>,
-    pub own: Option<Agreed>,
+    pub seen: Option<PlainBallot>,
+    pub own: Option<AgreedOn>,
     pub begun_at: u64,
 }
 
 /// A proposal of member 1 of five, with no entry of its own.
-pub const FIRST: Start = Start {
+pub const FIRST: ProposalStart = ProposalStart {
     me: 1,
     members: 5,
     seen: None,
@@ -60,7 +62,7 @@ pub const FIRST: Start = Start {
 };
 
 /// Where there is a ballot, the ballot of the row.
-fn seen_ballot(seen: Option<At>) -> Option<Option<Ballot>> {
+fn seen_ballot(seen: Option<PlainBallot>) -> Option<Option<Ballot>> {
     match seen {
         None => Some(None),
         Some(seen) => Some(Some(ballot(seen)?)),
@@ -79,7 +81,7 @@ fn report_of(report: Option<Voted>) -> Option<Option<VoteRef<'static>>> {
 fn promises(
     proposal: &mut Proposal,
     from: Member,
-    promise: (At, Option<Voted>),
+    promise: (PlainBallot, Option<Voted>),
     kind: Counted,
 ) -> bool
     requires { from ≤ proposal.old.members }
@@ -95,7 +97,7 @@ fn promises(
 }
 
 /// Whether the Nack of a ballot is kept, or isn't, as told.
-fn keeps(proposal: &mut Proposal, denied: At, promised: At, kept: bool) -> bool
+fn keeps(proposal: &mut Proposal, denied: PlainBallot, promised: PlainBallot, kept: bool) -> bool
     ensures { proposal.new.members ≡ proposal.old.members }
 {
     match (ballot(denied), ballot(promised)) {
@@ -105,7 +107,7 @@ fn keeps(proposal: &mut Proposal, denied: At, promised: At, kept: bool) -> bool
 }
 
 /// Whether it does this at a moment, with this saved promise.
-fn does(proposal: &mut Proposal, promised: At, now: u64, answer: DueAnswer) -> bool
+fn does(proposal: &mut Proposal, promised: PlainBallot, now: u64, answer: DueAnswer) -> bool
     ensures { proposal.new.members ≡ proposal.old.members }
 {
     let Some(promised) = ballot(promised) else {
@@ -118,7 +120,7 @@ fn does(proposal: &mut Proposal, promised: At, now: u64, answer: DueAnswer) -> b
 }
 
 /// Whether it begins this ballot at a moment.
-fn begins(proposal: &mut Proposal, promised: At, now: u64, begun: At) -> bool
+fn begins(proposal: &mut Proposal, promised: PlainBallot, now: u64, begun: PlainBallot) -> bool
     ensures { proposal.new.members ≡ proposal.old.members }
 {
     match ballot(begun) {
@@ -142,7 +144,7 @@ fn begins_up_to(proposal: &mut Proposal, last: u32) -> bool
 }
 
 /// Whether this is the entry to propose.
-fn picks(proposal: &Proposal, agreed: Option<Agreed>) -> bool {
+fn picks(proposal: &Proposal, agreed: Option<AgreedOn>) -> bool {
     match (proposal.pick(), agreed) {
         (None, None) => true,
         (Some(entry), Some(agreed)) => is_entry(&entry, agreed),
@@ -151,44 +153,44 @@ fn picks(proposal: &Proposal, agreed: Option<Agreed>) -> bool {
 }
 
 /// Whether it has to answer so, where nothing happens to it.
-fn is_so(proposal: &Proposal, step: Step) -> bool {
+fn is_so(proposal: &Proposal, step: ProposalStep) -> bool {
     match step {
-        Step::IsAt(own) => parts(proposal.ballot()) == own,
-        Step::Gathers(own, gathers) => match ballot(own) {
+        ProposalStep::IsAt(own) => parts(proposal.ballot()) == own,
+        ProposalStep::Gathers(own, gathers) => match ballot(own) {
             None => false,
             Some(ballot) => proposal.gathers_at(ballot) == gathers,
         },
-        Step::DueMoment(moment) => proposal.due_moment() == moment,
-        Step::Picks(agreed) => picks(proposal, agreed),
+        ProposalStep::DueMoment(moment) => proposal.due_moment() == moment,
+        ProposalStep::Picks(agreed) => picks(proposal, agreed),
         _ => false,
     }
 }
 
 /// Whether a step comes to what it has to.
-fn takes(proposal: &mut Proposal, members: u8, step: Step) -> bool
+fn takes(proposal: &mut Proposal, members: u8, step: ProposalStep) -> bool
     requires { proposal.old.members ≡ members }
     ensures { proposal.new.members ≡ members }
 {
     match step {
-        Step::Promise(from, promised, report, kind) => match member_of(members, from) {
+        ProposalStep::Promise(from, promised, report, kind) => match member_of(members, from) {
             Some(from) => promises(proposal, from, (promised, report), kind),
             None => false,
         },
-        Step::Nack(denied, promised, kept) => keeps(proposal, denied, promised, kept),
-        Step::Proposed(now) => {
+        ProposalStep::Nack(denied, promised, kept) => keeps(proposal, denied, promised, kept),
+        ProposalStep::Proposed(now) => {
             proposal.proposed(now);
             true
         }
-        Step::Waits(promised, now) => does(proposal, promised, now, DueAnswer::Wait),
-        Step::GivesUp(promised, now) => does(proposal, promised, now, DueAnswer::GaveUp),
-        Step::Begins(promised, now, begun) => begins(proposal, promised, now, begun),
-        Step::BeginsUpTo(round) => begins_up_to(proposal, round),
+        ProposalStep::Waits(promised, now) => does(proposal, promised, now, DueAnswer::Wait),
+        ProposalStep::GivesUp(promised, now) => does(proposal, promised, now, DueAnswer::GaveUp),
+        ProposalStep::Begins(promised, now, begun) => begins(proposal, promised, now, begun),
+        ProposalStep::BeginsUpTo(round) => begins_up_to(proposal, round),
         _ => is_so(proposal, step),
     }
 }
 
 /// Where there is an own entry, that entry.
-fn own_of(alloc: Global, own: Option<Agreed>) -> Option<Option<Entry>> {
+fn own_of(alloc: Global, own: Option<AgreedOn>) -> Option<Option<Entry>> {
     match own {
         None => Some(None),
         Some(agreed) => Some(Some(owned(alloc, agreed)?)),
@@ -196,7 +198,7 @@ fn own_of(alloc: Global, own: Option<Agreed>) -> Option<Option<Entry>> {
 }
 
 /// The proposal that is begun so.
-fn begun(alloc: Global, start: Start) -> Option<Proposal>
+fn begun(alloc: Global, start: ProposalStart) -> Option<Proposal>
     ensures { IfSome result (λ p. p.members ≡ start.members) }
 {
     let members = Member::new(start.members)?.get();
@@ -213,7 +215,7 @@ fn begun(alloc: Global, start: Start) -> Option<Proposal>
 }
 
 /// Whether a proposal is begun so, in place of the one before.
-fn starts(alloc: Global, proposal: &mut Proposal, start: Start) -> bool
+fn starts(alloc: Global, proposal: &mut Proposal, start: ProposalStart) -> bool
     ensures { OnTrue result (proposal.new.members ≡ start.members) }
 {
     match begun(alloc, start) {
@@ -227,12 +229,12 @@ fn starts(alloc: Global, proposal: &mut Proposal, start: Start) -> bool
 
 /// How many steps come to what they have to, up to the first that doesn't, where so many members are in the circuit of
 /// the proposal that stands before them.
-fn taken_by(alloc: Global, proposal: &mut Proposal, first: u8, steps: &[Step]) -> usize
+fn taken_by(alloc: Global, proposal: &mut Proposal, first: u8, steps: &[ProposalStep]) -> usize
     requires { proposal.old.members ≡ first }
 {
     let mut members = first;
     for (place, step) in steps.iter().enumerate() {
-        if let Step::Start(start) = *step {
+        if let ProposalStep::Start(start) = *step {
             if !starts(alloc, proposal, start) {
                 return place;
             }
@@ -245,7 +247,7 @@ fn taken_by(alloc: Global, proposal: &mut Proposal, first: u8, steps: &[Step]) -
 }
 
 /// The same of steps that begin with a start.
-pub fn taken(alloc: Global, steps: &[Step]) -> usize {
+pub fn taken(alloc: Global, steps: &[ProposalStep]) -> usize {
     match begun(alloc, FIRST) {
         Some(mut proposal) => taken_by(alloc, &mut proposal, FIRST.members, steps),
         None => 0,
@@ -253,145 +255,145 @@ pub fn taken(alloc: Global, steps: &[Step]) -> usize {
 }
 
 /// Stories of proposals, one behind another.
-const STEPS: &[Step] = &[
+const STEPS: &[ProposalStep] = &[
     // five members
-    Step::Start(Start {
+    ProposalStep::Start(ProposalStart {
         seen: Some((1, 3)),
         own: Some(OneFrame),
         ..FIRST
     }),
-    Step::IsAt((2, 1)),
-    Step::DueMoment(290),
-    Step::Promise(2, (2, 1), Some(((1, 2), Flood)), Counted::More),
-    Step::Promise(2, (2, 1), Some(((1, 2), Flood)), Counted::Repeated),
-    Step::Promise(3, (2, 1), Some(((1, 3), Ligature)), Counted::Quorum),
-    Step::Picks(Some(Ligature)),
-    Step::Promise(4, (1, 1), None, Counted::Stale),
-    Step::Nack((2, 1), (3, 2), true),
-    Step::Nack((1, 1), (9, 2), false),
-    Step::Waits((2, 1), 289),
-    Step::Begins((2, 1), 290, (4, 1)),
-    Step::DueMoment(580),
-    Step::Promise(2, (4, 1), None, Counted::More),
-    Step::Picks(Some(OneFrame)),
+    ProposalStep::IsAt((2, 1)),
+    ProposalStep::DueMoment(290),
+    ProposalStep::Promise(2, (2, 1), Some(((1, 2), Flood)), Counted::More),
+    ProposalStep::Promise(2, (2, 1), Some(((1, 2), Flood)), Counted::Repeated),
+    ProposalStep::Promise(3, (2, 1), Some(((1, 3), Ligature)), Counted::Quorum),
+    ProposalStep::Picks(Some(Ligature)),
+    ProposalStep::Promise(4, (1, 1), None, Counted::Stale),
+    ProposalStep::Nack((2, 1), (3, 2), true),
+    ProposalStep::Nack((1, 1), (9, 2), false),
+    ProposalStep::Waits((2, 1), 289),
+    ProposalStep::Begins((2, 1), 290, (4, 1)),
+    ProposalStep::DueMoment(580),
+    ProposalStep::Promise(2, (4, 1), None, Counted::More),
+    ProposalStep::Picks(Some(OneFrame)),
     // the last moment
-    Step::Start(Start {
+    ProposalStep::Start(ProposalStart {
         begun_at: 18_446_744_073_709_551_615,
         ..FIRST
     }),
-    Step::DueMoment(18_446_744_073_709_551_615),
-    Step::IsAt((1, 1)),
+    ProposalStep::DueMoment(18_446_744_073_709_551_615),
+    ProposalStep::IsAt((1, 1)),
     // the least member where equal
-    Step::Start(Start {
+    ProposalStep::Start(ProposalStart {
         me: 5,
         seen: Some((1, 1)),
         ..FIRST
     }),
-    Step::Picks(None),
-    Step::Promise(3, (2, 5), Some(((1, 1), Flood)), Counted::More),
-    Step::Promise(2, (2, 5), Some(((1, 1), Ligature)), Counted::Quorum),
-    Step::Picks(Some(Ligature)),
+    ProposalStep::Picks(None),
+    ProposalStep::Promise(3, (2, 5), Some(((1, 1), Flood)), Counted::More),
+    ProposalStep::Promise(2, (2, 5), Some(((1, 1), Ligature)), Counted::Quorum),
+    ProposalStep::Picks(Some(Ligature)),
     // it was proposed
-    Step::Start(Start {
+    ProposalStep::Start(ProposalStart {
         me: 2,
         members: 3,
         own: Some(Flood),
         begun_at: 7,
         ..FIRST
     }),
-    Step::Gathers((1, 2), true),
-    Step::DueMoment(337),
-    Step::Promise(3, (1, 2), None, Counted::Quorum),
-    Step::Proposed(100),
-    Step::Gathers((1, 2), false),
-    Step::DueMoment(430),
-    Step::Promise(1, (1, 2), None, Counted::Stale),
-    Step::Nack((1, 2), (5, 3), true),
+    ProposalStep::Gathers((1, 2), true),
+    ProposalStep::DueMoment(337),
+    ProposalStep::Promise(3, (1, 2), None, Counted::Quorum),
+    ProposalStep::Proposed(100),
+    ProposalStep::Gathers((1, 2), false),
+    ProposalStep::DueMoment(430),
+    ProposalStep::Promise(1, (1, 2), None, Counted::Stale),
+    ProposalStep::Nack((1, 2), (5, 3), true),
     // a vote was reported
-    Step::Start(Start {
+    ProposalStep::Start(ProposalStart {
         me: 3,
         members: 3,
         own: Some(Ligature),
         ..FIRST
     }),
-    Step::IsAt((1, 3)),
-    Step::DueMoment(370),
-    Step::Promise(2, (1, 3), Some(((1, 1), Flood)), Counted::Quorum),
-    Step::Picks(Some(Flood)),
+    ProposalStep::IsAt((1, 3)),
+    ProposalStep::DueMoment(370),
+    ProposalStep::Promise(2, (1, 3), Some(((1, 1), Flood)), Counted::Quorum),
+    ProposalStep::Picks(Some(Flood)),
     // none was reported
-    Step::Start(Start {
+    ProposalStep::Start(ProposalStart {
         me: 3,
         members: 3,
         own: Some(Ligature),
         ..FIRST
     }),
-    Step::Promise(2, (1, 3), None, Counted::Quorum),
-    Step::Picks(Some(Ligature)),
+    ProposalStep::Promise(2, (1, 3), None, Counted::Quorum),
+    ProposalStep::Picks(Some(Ligature)),
     // another's ballot was promised
-    Step::Start(Start {
+    ProposalStep::Start(ProposalStart {
         members: 3,
         own: Some(Ligature),
         ..FIRST
     }),
-    Step::IsAt((1, 1)),
-    Step::Nack((1, 1), (1, 3), true),
-    Step::Waits((1, 1), 289),
-    Step::Begins((1, 1), 290, (2, 1)),
+    ProposalStep::IsAt((1, 1)),
+    ProposalStep::Nack((1, 1), (1, 3), true),
+    ProposalStep::Waits((1, 1), 289),
+    ProposalStep::Begins((1, 1), 290, (2, 1)),
     // the longest tapes
-    Step::Start(Start {
+    ProposalStep::Start(ProposalStart {
         members: 3,
         own: Some(Longest),
         ..FIRST
     }),
-    Step::Picks(Some(Longest)),
-    Step::Promise(3, (1, 1), Some(((1, 1), Longest)), Counted::Quorum),
-    Step::Picks(Some(Longest)),
+    ProposalStep::Picks(Some(Longest)),
+    ProposalStep::Promise(3, (1, 1), Some(((1, 1), Longest)), Counted::Quorum),
+    ProposalStep::Picks(Some(Longest)),
     // a packed tape was reported
-    Step::Start(Start {
+    ProposalStep::Start(ProposalStart {
         me: 3,
         members: 3,
         own: Some(Ligature),
         ..FIRST
     }),
-    Step::Promise(2, (1, 3), Some(((1, 1), Packed)), Counted::Quorum),
-    Step::Picks(Some(Flood)),
+    ProposalStep::Promise(2, (1, 3), Some(((1, 1), Packed)), Counted::Quorum),
+    ProposalStep::Picks(Some(Flood)),
     // an own withdrawal
-    Step::Start(Start {
+    ProposalStep::Start(ProposalStart {
         members: 3,
         own: Some(Void),
         ..FIRST
     }),
-    Step::Promise(3, (1, 1), None, Counted::Quorum),
-    Step::Picks(Some(Void)),
-    Step::Begins((1, 1), 290, (2, 1)),
-    Step::Picks(Some(Void)),
+    ProposalStep::Promise(3, (1, 1), None, Counted::Quorum),
+    ProposalStep::Picks(Some(Void)),
+    ProposalStep::Begins((1, 1), 290, (2, 1)),
+    ProposalStep::Picks(Some(Void)),
     // a withdrawal was reported
-    Step::Start(Start {
+    ProposalStep::Start(ProposalStart {
         me: 3,
         members: 3,
         own: Some(Flood),
         ..FIRST
     }),
-    Step::Promise(2, (1, 3), Some(((1, 1), Void)), Counted::Quorum),
-    Step::Picks(Some(Void)),
+    ProposalStep::Promise(2, (1, 3), Some(((1, 1), Void)), Counted::Quorum),
+    ProposalStep::Picks(Some(Void)),
     // a tape was reported against an own withdrawal
-    Step::Start(Start {
+    ProposalStep::Start(ProposalStart {
         me: 3,
         members: 3,
         own: Some(Void),
         ..FIRST
     }),
-    Step::Promise(2, (1, 3), Some(((1, 1), Flood)), Counted::Quorum),
-    Step::Picks(Some(Flood)),
+    ProposalStep::Promise(2, (1, 3), Some(((1, 1), Flood)), Counted::Quorum),
+    ProposalStep::Picks(Some(Flood)),
     // the most ballots
-    Step::Start(Start {
+    ProposalStep::Start(ProposalStart {
         members: 2,
         ..FIRST
     }),
-    Step::BeginsUpTo(32),
-    Step::DueMoment(9_280),
-    Step::Waits((32, 1), 9_279),
-    Step::GivesUp((32, 1), 9_280),
+    ProposalStep::BeginsUpTo(32),
+    ProposalStep::DueMoment(9_280),
+    ProposalStep::Waits((32, 1), 9_279),
+    ProposalStep::GivesUp((32, 1), 9_280),
 ];
 
 #[test]
@@ -402,7 +404,7 @@ fn proposals(rt: HostRuntime) {
 }
 
 /// Whether member 1 of five begins no ballot above this one, since the rounds are spent.
-fn is_spent(alloc: Global, seen: At) -> bool {
+fn is_spent(alloc: Global, seen: PlainBallot) -> bool {
     let (Some(me), Some(seen)) = (Member::new(1), ballot(seen)) else {
         return false;
     };

@@ -1,9 +1,9 @@
 //! Random promises and Nacks, beside a proposer that keeps each of them and looks through them all.
 
 use crate::draws::{drawn_at, drawn_entry, drawn_member};
-use crate::proposing::proposals::{FIRST, Start, Step, taken};
-use crate::rows::Agreed::Flood;
-use crate::rows::{Agreed, At, Voted};
+use crate::proposing::proposals::{FIRST, ProposalStart, ProposalStep, taken};
+use crate::rows::AgreedOn::Flood;
+use crate::rows::{AgreedOn, PlainBallot, Voted};
 use fixtures::Dice;
 use proposer::Counted;
 use std::alloc::Global;
@@ -14,15 +14,15 @@ type Promise = (u8, Option<Voted>);
 /// What was heard since a ballot was begun: the promises that were counted, and the greatest Nack of all.
 #[derive(Drop)]
 struct Notes {
-    ballot: At,
+    ballot: PlainBallot,
     promises: Vec<Promise>,
-    denied: At,
+    denied: PlainBallot,
     now: u64,
 }
 
 /// The report of greatest ballot, that of the least member where equal.
-fn greatest(promises: &[Promise]) -> Option<Agreed> {
-    let mut greatest: Option<(At, u8, Agreed)> = None;
+fn greatest(promises: &[Promise]) -> Option<AgreedOn> {
+    let mut greatest: Option<(PlainBallot, u8, AgreedOn)> = None;
     for (member, report) in promises {
         if let Some((at, agreed)) = report {
             let is_greater = match greatest {
@@ -46,7 +46,7 @@ fn has_promised(promises: &[Promise], member: u8) -> bool {
 }
 
 /// Takes a promise in, and tells what becomes of it in a circuit of five.
-fn count(notes: &mut Notes, from: u8, at: At, report: Option<Voted>) -> Option<Counted> {
+fn count(notes: &mut Notes, from: u8, at: PlainBallot, report: Option<Voted>) -> Option<Counted> {
     if at != notes.ballot {
         return Some(Counted::Stale);
     }
@@ -62,7 +62,7 @@ fn count(notes: &mut Notes, from: u8, at: At, report: Option<Voted>) -> Option<C
 }
 
 /// Mostly the ballot in hand.
-fn drawn_ballot(dice: &mut Dice, notes: &Notes) -> At {
+fn drawn_ballot(dice: &mut Dice, notes: &Notes) -> PlainBallot {
     match dice.throw(4) {
         0 => drawn_at(dice, 5),
         _ => notes.ballot,
@@ -70,7 +70,7 @@ fn drawn_ballot(dice: &mut Dice, notes: &Notes) -> At {
 }
 
 /// A promise.
-fn drawn_promise(dice: &mut Dice, notes: &mut Notes) -> Option<Step> {
+fn drawn_promise(dice: &mut Dice, notes: &mut Notes) -> Option<ProposalStep> {
     let from = drawn_member(dice, 5);
     let ballot = drawn_ballot(dice, notes);
     let report = match dice.throw(3) {
@@ -78,23 +78,23 @@ fn drawn_promise(dice: &mut Dice, notes: &mut Notes) -> Option<Step> {
         _ => Some((drawn_at(dice, 5), drawn_entry(dice))),
     };
     let becomes = count(notes, from, ballot, report)?;
-    Some(Step::Promise(from, ballot, report, becomes))
+    Some(ProposalStep::Promise(from, ballot, report, becomes))
 }
 
 /// A Nack.
-fn drawn_nack(dice: &mut Dice, notes: &mut Notes) -> Step {
+fn drawn_nack(dice: &mut Dice, notes: &mut Notes) -> ProposalStep {
     let ballot = drawn_ballot(dice, notes);
     let promised = drawn_at(dice, 5);
     let is_kept = ballot == notes.ballot;
     if is_kept && notes.denied < promised {
         notes.denied = promised;
     }
-    Step::Nack(ballot, promised, is_kept)
+    ProposalStep::Nack(ballot, promised, is_kept)
 }
 
 /// A ballot that is begun anew, above the one in hand, which is the saved promise, and above the Nacks. The own
 /// promise counts, without a report.
-fn begin(notes: &mut Notes) -> Option<Step> {
+fn begin(notes: &mut Notes) -> Option<ProposalStep> {
     notes.now = notes.now.saturating_add(1000);
     let promised = notes.ballot;
     let seen = if promised < notes.denied {
@@ -105,11 +105,11 @@ fn begin(notes: &mut Notes) -> Option<Step> {
     notes.ballot = (seen.0.saturating_add(1), 2);
     notes.promises.clear();
     notes.promises.push((2, None)).ok()?;
-    Some(Step::Begins(promised, notes.now, notes.ballot))
+    Some(ProposalStep::Begins(promised, notes.now, notes.ballot))
 }
 
 /// One step, and the entry to propose after it.
-fn take_step(dice: &mut Dice, notes: &mut Notes, steps: &mut Vec<Step>) -> Option<()> {
+fn take_step(dice: &mut Dice, notes: &mut Notes, steps: &mut Vec<ProposalStep>) -> Option<()> {
     let step = match dice.throw(8) {
         0 => begin(notes)?,
         1 => drawn_nack(dice, notes),
@@ -117,7 +117,7 @@ fn take_step(dice: &mut Dice, notes: &mut Notes, steps: &mut Vec<Step>) -> Optio
     };
     steps.push(step).ok()?;
     let picks = greatest(&notes.promises).unwrap_or(Flood);
-    steps.push(Step::Picks(Some(picks))).ok()
+    steps.push(ProposalStep::Picks(Some(picks))).ok()
 }
 
 /// The notes of member 2, which began its first ballot.
@@ -133,17 +133,17 @@ fn noted(alloc: Global) -> Option<Notes> {
 }
 
 /// Its proposal, of the flood story.
-const OWN: Start = Start {
+const OWN: ProposalStart = ProposalStart {
     me: 2,
     own: Some(Flood),
     ..FIRST
 };
 
 /// Up to fifteen steps of it.
-fn drawn(alloc: Global, dice: &mut Dice) -> Option<Vec<Step>> {
+fn drawn(alloc: Global, dice: &mut Dice) -> Option<Vec<ProposalStep>> {
     let mut notes = noted(alloc)?;
     let mut steps = Vec::new(alloc);
-    steps.push(Step::Start(OWN)).ok()?;
+    steps.push(ProposalStep::Start(OWN)).ok()?;
     for _ in 0..dice.throw(16) {
         take_step(dice, &mut notes, &mut steps)?;
     }

@@ -3,28 +3,28 @@
 ghost use Rattle.std.specs.Prelude.{◌≡◌, IfSome};
 ghost use Rattle.node_core.specs.Calls.{MayCome};
 
-use crate::rows::{At, ballot, lent, lent_vote, member_of, owned};
-use crate::turning::steps::{Coming, Says, Step};
+use crate::rows::{PlainBallot, ballot, lent, lent_vote, member_of, owned};
+use crate::turning::steps::{Coming, CoreStep, PacketSays};
 use ballots::{Member, Number};
 use node_core::Event;
 use packets::{BodyRef, PacketRef, Route};
 use std::alloc::Global;
 
 /// What a packet says.
-fn body_of(says: Says) -> Option<BodyRef<'static>> {
+fn body_of(says: PacketSays) -> Option<BodyRef<'static>> {
     Some(match says {
-        Says::Prepare => BodyRef::Prepare,
-        Says::Promise(None) => BodyRef::Promise { report: None },
-        Says::Promise(Some(voted)) => BodyRef::Promise {
+        PacketSays::Prepare => BodyRef::Prepare,
+        PacketSays::Promise(None) => BodyRef::Promise { report: None },
+        PacketSays::Promise(Some(voted)) => BodyRef::Promise {
             report: Some(lent_vote(voted)?),
         },
-        Says::Accept(agreed) => BodyRef::Accept {
+        PacketSays::Accept(agreed) => BodyRef::Accept {
             entry: lent(agreed)?,
         },
-        Says::Accepted(agreed) => BodyRef::Accepted {
+        PacketSays::Accepted(agreed) => BodyRef::Accepted {
             entry: lent(agreed)?,
         },
-        Says::Nack(promised) => BodyRef::Nack {
+        PacketSays::Nack(promised) => BodyRef::Nack {
             promised: ballot(promised)?,
         },
     })
@@ -35,7 +35,7 @@ pub fn packet_of(
     from: Member,
     to: Member,
     number: Number,
-    said: (At, Says),
+    said: (PlainBallot, PacketSays),
 ) -> Option<PacketRef<'static>>
     ensures from { IfSome result (λ p. p.from ≡ from) }
     ensures to { IfSome result (λ p. p.to ≡ to) }
@@ -49,7 +49,7 @@ pub fn packet_of(
 }
 
 /// The event of a step, to this member of a circuit.
-pub fn event_of(alloc: Global, step: &Step, me: Member, members: u8) -> Option<Event<'static>>
+pub fn event_of(alloc: Global, step: &CoreStep, me: Member, members: u8) -> Option<Event<'static>>
     ensures { IfSome result (λ e. MayCome me members e) }
 {
     let number = Number::new(step.number)?;

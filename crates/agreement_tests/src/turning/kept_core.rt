@@ -1,9 +1,9 @@
 //! A core, the row that its turns have saved, and the steps that both go through.
 
-use crate::few::Few;
-use crate::rows::{At, Voted, ballot, owned, parts};
+use crate::few::UpToFour;
+use crate::rows::{PlainBallot, Voted, ballot, owned, parts};
 use crate::turning::events::event_of;
-use crate::turning::steps::{Did, Saved, Seat, Step, Word, early, renewal};
+use crate::turning::steps::{CoreStep, Did, NoteWord, SavedRow, SeatNumbers, early, renewal};
 use crate::turning::turns::{is_turn_of, words_of};
 use ballots::{Member, Number, Row, Vote};
 use node_core::{CoreRefusal, NodeCore, Turn};
@@ -30,7 +30,7 @@ pub fn kept_core_of(alloc: Global, me: u8, members: u8) -> Option<KeptCore> {
 }
 
 /// The row with this promise and this vote.
-fn promised(alloc: Global, at: At, voted: Option<Voted>) -> Option<Row> {
+fn promised(alloc: Global, at: PlainBallot, voted: Option<Voted>) -> Option<Row> {
     let vote = match voted {
         None => None,
         Some((at, agreed)) => Some(Vote::new(ballot(at)?, owned(alloc, agreed)?)),
@@ -39,11 +39,11 @@ fn promised(alloc: Global, at: At, voted: Option<Voted>) -> Option<Row> {
 }
 
 /// The row that is handed in, where it is not the one that was left.
-fn row_of(alloc: Global, saved: Saved) -> Option<Row> {
+fn row_of(alloc: Global, saved: SavedRow) -> Option<Row> {
     match saved {
-        Saved::Left => None,
-        Saved::Blank => Some(Row::blank()),
-        Saved::Promised(at, voted) => promised(alloc, at, voted),
+        SavedRow::Left => None,
+        SavedRow::Blank => Some(Row::blank()),
+        SavedRow::Promised(at, voted) => promised(alloc, at, voted),
     }
 }
 
@@ -55,7 +55,11 @@ fn save(row: &mut Row, after: Option<Row>) {
 }
 
 /// The turn of a step, or why there is none; its row is not the saved one yet.
-fn turn_of(alloc: Global, kept: &mut KeptCore, step: &Step) -> Option<Result<Turn, CoreRefusal>> {
+fn turn_of(
+    alloc: Global,
+    kept: &mut KeptCore,
+    step: &CoreStep,
+) -> Option<Result<Turn, CoreRefusal>> {
     save(&mut kept.row, row_of(alloc, step.saved));
     let event = event_of(alloc, step, kept.core.me(), kept.core.members())?;
     Some(kept.core.handle(event, &kept.row))
@@ -65,7 +69,7 @@ fn turn_of(alloc: Global, kept: &mut KeptCore, step: &Step) -> Option<Result<Tur
 pub fn answer(
     alloc: Global,
     kept: &mut KeptCore,
-    step: &Step,
+    step: &CoreStep,
 ) -> Option<Result<bool, CoreRefusal>> {
     match turn_of(alloc, kept, step)? {
         Err(refusal) => Some(Err(refusal)),
@@ -78,7 +82,11 @@ pub fn answer(
 }
 
 /// The note of a step's turn, whose row is then the saved one.
-pub fn noted(alloc: Global, kept: &mut KeptCore, step: &Step) -> Option<(Word, At)> {
+pub fn noted(
+    alloc: Global,
+    kept: &mut KeptCore,
+    step: &CoreStep,
+) -> Option<(NoteWord, PlainBallot)> {
     match turn_of(alloc, kept, step)? {
         Err(_) => None,
         Ok(turn) => {
@@ -90,7 +98,7 @@ pub fn noted(alloc: Global, kept: &mut KeptCore, step: &Step) -> Option<(Word, A
 }
 
 /// Whether the answer is that of the step.
-pub fn is_answer(answer: Option<Result<bool, CoreRefusal>>, step: &Step) -> bool {
+pub fn is_answer(answer: Option<Result<bool, CoreRefusal>>, step: &CoreStep) -> bool {
     match answer {
         None => false,
         Some(Ok(is_so)) => is_so,
@@ -107,7 +115,7 @@ fn next_due(core: &NodeCore, now: u64) -> Option<u32> {
 }
 
 /// Whether the least number that is due at each of these moments is this one.
-fn is_due(core: &NodeCore, due: Few<(u64, Option<u32>)>) -> bool {
+fn is_due(core: &NodeCore, due: UpToFour<(u64, Option<u32>)>) -> bool {
     for place in 0..due.len() {
         match due.get(place) {
             Some((now, number)) if next_due(core, now) == number => {}
@@ -118,7 +126,7 @@ fn is_due(core: &NodeCore, due: Few<(u64, Option<u32>)>) -> bool {
 }
 
 /// Whether the core is left as the step says.
-fn is_left(core: &NodeCore, step: &Step) -> bool {
+fn is_left(core: &NodeCore, step: &CoreStep) -> bool {
     let Some(number) = Number::new(step.number) else {
         return false;
     };
@@ -128,7 +136,7 @@ fn is_left(core: &NodeCore, step: &Step) -> bool {
 }
 
 /// Whether a step comes to what it has to.
-fn takes(alloc: Global, kept: &mut KeptCore, step: &Step) -> bool {
+fn takes(alloc: Global, kept: &mut KeptCore, step: &CoreStep) -> bool {
     if step.cleared {
         kept.core.clear();
     }
@@ -156,12 +164,12 @@ fn comes_to(alloc: Global, kept: &mut KeptCore, last: u32) -> bool {
 }
 
 /// Whether the core is in this seat of circuit 7.
-fn is_seated(core: &NodeCore, seat: Seat) -> bool {
+fn is_seated(core: &NodeCore, seat: SeatNumbers) -> bool {
     core.circuit() == 7 && core.me().get() == seat.0 && core.members() == seat.1
 }
 
 /// Whether a core that just started takes the place of the one before, where the step says so.
-fn starts(alloc: Global, kept: &mut KeptCore, seat: Option<Seat>) -> bool {
+fn starts(alloc: Global, kept: &mut KeptCore, seat: Option<SeatNumbers>) -> bool {
     let Some(seat) = seat else {
         return true;
     };
@@ -175,7 +183,7 @@ fn starts(alloc: Global, kept: &mut KeptCore, seat: Option<Seat>) -> bool {
 }
 
 /// How many of these steps come to what they have to, up to the first that does not.
-pub fn taken(alloc: Global, kept: &mut KeptCore, steps: &[Step]) -> usize {
+pub fn taken(alloc: Global, kept: &mut KeptCore, steps: &[CoreStep]) -> usize {
     for (place, step) in steps.iter().enumerate() {
         if !starts(alloc, kept, step.starts)
             || !comes_to(alloc, kept, step.rounds)

@@ -1,19 +1,19 @@
 //! Random requests to a core, which keeps a saved row, beside a run of an acceptor over all of them.
 
-use crate::rows::Agreed::{Flood, Ligature, Void};
-use crate::rows::{Agreed, At, ballot, owned, parts};
+use crate::rows::AgreedOn::{Flood, Ligature, Void};
+use crate::rows::{AgreedOn, PlainBallot, ballot, owned, parts};
 use crate::turning::kept_core::{KeptCore, kept_core_of, noted};
-use crate::turning::steps::{Coming, IDLE, NONE, Says, Step, Word};
+use crate::turning::steps::{Coming, CoreStep, IDLE, NONE, NoteWord, PacketSays};
 use acceptor::{Reply, Request, run};
 use ballots::{Row, Vote};
 use fixtures::Dice;
 use std::alloc::Global;
 
 /// A ballot, and the entry that is to be voted for, or none where a promise is asked for.
-type Asked = (At, Option<Agreed>);
+type BallotRequest = (PlainBallot, Option<AgreedOn>);
 
 /// A request of member 1 or 3, at one of three rounds.
-fn drawn(dice: &mut Dice) -> Asked {
+fn drawn(dice: &mut Dice) -> BallotRequest {
     let owner = if dice.throw(2) == 0 { 1 } else { 3 };
     let agreed = match dice.throw(6) {
         0 => Some(Flood),
@@ -24,7 +24,7 @@ fn drawn(dice: &mut Dice) -> Asked {
     ((1 + dice.throw(3), owner), agreed)
 }
 
-fn request(alloc: Global, asked: Asked) -> Option<Request> {
+fn request(alloc: Global, asked: BallotRequest) -> Option<Request> {
     let ballot = ballot(asked.0)?;
     Some(match asked.1 {
         None => Request::Prepare { ballot },
@@ -36,7 +36,7 @@ fn request(alloc: Global, asked: Asked) -> Option<Request> {
 }
 
 /// Up to fifteen requests, twice: as they come in packets, and as an acceptor takes them.
-fn drawn_list(alloc: Global, dice: &mut Dice) -> Option<(Vec<Asked>, Vec<Request>)> {
+fn drawn_list(alloc: Global, dice: &mut Dice) -> Option<(Vec<BallotRequest>, Vec<Request>)> {
     let mut list = Vec::new(alloc);
     let mut requests = Vec::new(alloc);
     for _ in 0..dice.throw(16) {
@@ -48,24 +48,24 @@ fn drawn_list(alloc: Global, dice: &mut Dice) -> Option<(Vec<Asked>, Vec<Request
 }
 
 /// The step at which the request comes to member 2.
-fn step_of(asked: Asked) -> Step {
+fn step_of(asked: BallotRequest) -> CoreStep {
     let mut step = IDLE;
     let says = match asked.1 {
-        None => Says::Prepare,
-        Some(agreed) => Says::Accept(agreed),
+        None => PacketSays::Prepare,
+        Some(agreed) => PacketSays::Accept(agreed),
     };
     step.coming = Coming::Packet(asked.0.1, asked.0, says);
     step
 }
 
 /// The note of the reply to a request at this ballot.
-fn words_for(reply: &Reply, at: At) -> (Word, At) {
+fn words_for(reply: &Reply, at: PlainBallot) -> (NoteWord, PlainBallot) {
     match reply {
-        Reply::Promise { .. } => (Word::Promised, at),
-        Reply::Silent => (Word::Silent, NONE),
-        Reply::Nack { promised } => (Word::Nacked, parts(*promised)),
-        Reply::Voted => (Word::Voted, at),
-        Reply::Again => (Word::VotedAgain, at),
+        Reply::Promise { .. } => (NoteWord::Promised, at),
+        Reply::Silent => (NoteWord::Silent, NONE),
+        Reply::Nack { promised } => (NoteWord::Nacked, parts(*promised)),
+        Reply::Voted => (NoteWord::Voted, at),
+        Reply::Again => (NoteWord::VotedAgain, at),
     }
 }
 
@@ -81,13 +81,18 @@ fn are_one_vote(vote: Option<&Vote>, other: Option<&Vote>) -> bool {
 
 /// What an acceptor has come to by its requests: its row, and its replies.
 #[derive(Clone, Copy)]
-struct Ran<'a> {
+struct AcceptorRun<'a> {
     row: &'a Row,
     replies: &'a [Reply],
 }
 
 /// Whether each turn is noted as the acceptor replies, and the row that is saved at last is the acceptor's.
-fn follows(alloc: Global, kept: &mut KeptCore, list: &[Asked], ran: Ran<'_>) -> bool {
+fn follows(
+    alloc: Global,
+    kept: &mut KeptCore,
+    list: &[BallotRequest],
+    ran: AcceptorRun<'_>,
+) -> bool {
     for (asked, reply) in list.iter().zip(ran.replies) {
         let note = noted(alloc, kept, &step_of(*asked));
         if note != Some(words_for(reply, asked.0)) {
@@ -98,7 +103,7 @@ fn follows(alloc: Global, kept: &mut KeptCore, list: &[Asked], ran: Ran<'_>) -> 
 }
 
 /// Whether the core of member 2 of three does.
-fn core_follows(alloc: Global, list: &[Asked], ran: Ran<'_>) -> bool {
+fn core_follows(alloc: Global, list: &[BallotRequest], ran: AcceptorRun<'_>) -> bool {
     match kept_core_of(alloc, 2, 3) {
         Some(mut kept) => follows(alloc, &mut kept, list, ran),
         None => false,
@@ -106,10 +111,10 @@ fn core_follows(alloc: Global, list: &[Asked], ran: Ran<'_>) -> bool {
 }
 
 /// Whether it does where an acceptor replies to the requests.
-fn is_acceptor(alloc: Global, list: &[Asked], requests: &[Request]) -> bool {
+fn is_acceptor(alloc: Global, list: &[BallotRequest], requests: &[Request]) -> bool {
     match run(alloc, requests) {
         Ok((row, replies)) => {
-            let ran = Ran {
+            let ran = AcceptorRun {
                 row: &row,
                 replies: replies.as_slice(),
             };

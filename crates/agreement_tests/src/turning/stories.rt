@@ -1,88 +1,88 @@
 //! The worked examples. Tapes: what was offered first is the flood story, what was offered against it the one with the ligature.
 
-use crate::few::Few;
-use crate::rows::Agreed::{Flood, Ligature, Longest, Packed, Void};
+use crate::few::UpToFour;
+use crate::rows::AgreedOn::{Flood, Ligature, Longest, Packed, Void};
 use crate::turning::steps::{
-    Coming, Did, IDLE, NONE, OFFER, OFFER_OF_THREE, PROMISE, SEEK, SEEK_OF_THREE, Saved, Says,
-    Step, VOTE, Word,
+    Coming, CoreStep, Did, IDLE, NONE, NoteWord, OFFER, OFFER_OF_THREE, PROMISE, PacketSays, SEEK,
+    SEEK_OF_THREE, SavedRow, VOTE,
 };
 use node_core::CoreRefusal;
 
 /// Alone, and how it asks the others.
-pub const ASKING: &[Step] = &[
+pub const ASKING: &[CoreStep] = &[
     // a member of one releases at once, and again after a restart
-    Step {
+    CoreStep {
         starts: Some((1, 1)),
-        did: Did::Note(Word::Proposed, (1, 1)),
-        out: Few::Nothing,
+        did: Did::Note(NoteWord::Proposed, (1, 1)),
+        out: UpToFour::Nothing,
         saves: Some(((1, 1), Some(((1, 1), Flood)))),
         releases: Some(Flood),
         open: None,
         released: true,
-        due: Few::One((u64::MAX, None)),
+        due: UpToFour::One((u64::MAX, None)),
         ..OFFER
     },
-    Step {
+    CoreStep {
         coming: Coming::Offer(Flood),
         did: Did::Refuse(CoreRefusal::AlreadyReleased),
         released: true,
         ..IDLE
     },
-    Step {
+    CoreStep {
         cleared: true,
         ..IDLE
     },
-    Step {
+    CoreStep {
         coming: Coming::Seek,
-        did: Did::Note(Word::Proposed, (2, 1)),
+        did: Did::Note(NoteWord::Proposed, (2, 1)),
         saves: Some(((2, 1), Some(((2, 1), Flood)))),
         releases: Some(Flood),
         released: true,
         ..IDLE
     },
     // a member of one finds nothing
-    Step {
+    CoreStep {
         starts: Some((1, 1)),
-        did: Did::Note(Word::Nothing, (1, 1)),
-        out: Few::Nothing,
+        did: Did::Note(NoteWord::Nothing, (1, 1)),
+        out: UpToFour::Nothing,
         open: None,
-        due: Few::One((u64::MAX, None)),
+        due: UpToFour::One((u64::MAX, None)),
         ..SEEK
     },
     // the rounds are spent
-    Step {
+    CoreStep {
         starts: Some((1, 3)),
-        saved: Saved::Promised((4_294_967_295, 2), None),
+        saved: SavedRow::Promised((4_294_967_295, 2), None),
         coming: Coming::Offer(Flood),
         did: Did::Refuse(CoreRefusal::RoundsSpent),
         ..IDLE
     },
     // the others are asked
-    Step {
+    CoreStep {
         starts: Some((2, 3)),
-        did: Did::Note(Word::Began, (1, 2)),
-        out: Few::Two((1, Says::Prepare), (3, Says::Prepare)),
+        did: Did::Note(NoteWord::Began, (1, 2)),
+        out: UpToFour::Two((1, PacketSays::Prepare), (3, PacketSays::Prepare)),
         at: (1, 2),
         saves: Some(((1, 2), None)),
         open: Some((1, 2)),
         ..SEEK
     },
-    Step {
-        saved: Saved::Blank,
+    CoreStep {
+        saved: SavedRow::Blank,
         coming: Coming::Offer(Flood),
         did: Did::Refuse(CoreRefusal::AlreadyOpen),
         open: Some((1, 2)),
         ..IDLE
     },
     // a restart keeps the row
-    Step {
+    CoreStep {
         starts: Some((1, 3)),
         ..OFFER_OF_THREE
     },
-    Step {
+    CoreStep {
         cleared: true,
         coming: Coming::Offer(Ligature),
-        did: Did::Note(Word::Began, (2, 1)),
+        did: Did::Note(NoteWord::Began, (2, 1)),
         at: (2, 1),
         saves: Some(((2, 1), None)),
         open: Some((2, 1)),
@@ -91,131 +91,131 @@ pub const ASKING: &[Step] = &[
 ];
 
 /// How it gathers promises.
-pub const GATHERING: &[Step] = &[
+pub const GATHERING: &[CoreStep] = &[
     // a quorum lets it propose
-    Step {
+    CoreStep {
         starts: Some((1, 3)),
         ..OFFER_OF_THREE
     },
-    Step {
-        did: Did::Note(Word::Proposed, (1, 1)),
-        out: Few::Four(
-            (2, Says::Accept(Flood)),
-            (3, Says::Accept(Flood)),
-            (2, Says::Accepted(Flood)),
-            (3, Says::Accepted(Flood)),
+    CoreStep {
+        did: Did::Note(NoteWord::Proposed, (1, 1)),
+        out: UpToFour::Four(
+            (2, PacketSays::Accept(Flood)),
+            (3, PacketSays::Accept(Flood)),
+            (2, PacketSays::Accepted(Flood)),
+            (3, PacketSays::Accepted(Flood)),
         ),
         saves: Some(((1, 1), Some(((1, 1), Flood)))),
         ..PROMISE
     },
-    Step {
-        coming: Coming::Packet(3, (1, 1), Says::Promise(None)),
-        did: Did::Note(Word::Stale, NONE),
+    CoreStep {
+        coming: Coming::Packet(3, (1, 1), PacketSays::Promise(None)),
+        did: Did::Note(NoteWord::Stale, NONE),
         ..PROMISE
     },
-    Step {
-        coming: Coming::Packet(2, (1, 1), Says::Accepted(Flood)),
+    CoreStep {
+        coming: Coming::Packet(2, (1, 1), PacketSays::Accepted(Flood)),
         releases: Some(Flood),
         released: true,
         ..VOTE
     },
     // what was reported is proposed
-    Step {
+    CoreStep {
         starts: Some((3, 3)),
         coming: Coming::Offer(Ligature),
-        did: Did::Note(Word::Began, (1, 3)),
-        out: Few::Two((1, Says::Prepare), (2, Says::Prepare)),
+        did: Did::Note(NoteWord::Began, (1, 3)),
+        out: UpToFour::Two((1, PacketSays::Prepare), (2, PacketSays::Prepare)),
         at: (1, 3),
         saves: Some(((1, 3), None)),
         open: Some((1, 3)),
         ..OFFER
     },
-    Step {
-        coming: Coming::Packet(2, (1, 3), Says::Promise(Some(((1, 1), Flood)))),
-        did: Did::Note(Word::Proposed, (1, 3)),
-        out: Few::Four(
-            (1, Says::Accept(Flood)),
-            (2, Says::Accept(Flood)),
-            (1, Says::Accepted(Flood)),
-            (2, Says::Accepted(Flood)),
+    CoreStep {
+        coming: Coming::Packet(2, (1, 3), PacketSays::Promise(Some(((1, 1), Flood)))),
+        did: Did::Note(NoteWord::Proposed, (1, 3)),
+        out: UpToFour::Four(
+            (1, PacketSays::Accept(Flood)),
+            (2, PacketSays::Accept(Flood)),
+            (1, PacketSays::Accepted(Flood)),
+            (2, PacketSays::Accepted(Flood)),
         ),
         at: (1, 3),
         saves: Some(((1, 3), Some(((1, 3), Flood)))),
         open: Some((1, 3)),
         ..IDLE
     },
-    Step {
-        coming: Coming::Packet(2, (1, 3), Says::Accepted(Flood)),
-        did: Did::Note(Word::Heard, (1, 3)),
+    CoreStep {
+        coming: Coming::Packet(2, (1, 3), PacketSays::Accepted(Flood)),
+        did: Did::Note(NoteWord::Heard, (1, 3)),
         releases: Some(Flood),
         released: true,
         ..IDLE
     },
     // a quorum that reports nothing
-    Step {
+    CoreStep {
         starts: Some((1, 3)),
         ..SEEK_OF_THREE
     },
-    Step {
-        did: Did::Note(Word::Nothing, (1, 1)),
+    CoreStep {
+        did: Did::Note(NoteWord::Nothing, (1, 1)),
         open: None,
-        due: Few::One((u64::MAX, None)),
+        due: UpToFour::One((u64::MAX, None)),
         ..PROMISE
     },
-    Step {
-        coming: Coming::Packet(3, (1, 1), Says::Promise(None)),
-        did: Did::Note(Word::Stale, NONE),
+    CoreStep {
+        coming: Coming::Packet(3, (1, 1), PacketSays::Promise(None)),
+        did: Did::Note(NoteWord::Stale, NONE),
         open: None,
         ..PROMISE
     },
     // promises are counted once, and the greatest Nack is kept
-    Step {
+    CoreStep {
         starts: Some((1, 5)),
-        out: Few::Four(
-            (2, Says::Prepare),
-            (3, Says::Prepare),
-            (4, Says::Prepare),
-            (5, Says::Prepare),
+        out: UpToFour::Four(
+            (2, PacketSays::Prepare),
+            (3, PacketSays::Prepare),
+            (4, PacketSays::Prepare),
+            (5, PacketSays::Prepare),
         ),
         ..OFFER
     },
-    Step {
-        did: Did::Note(Word::Counted, (1, 1)),
+    CoreStep {
+        did: Did::Note(NoteWord::Counted, (1, 1)),
         ..PROMISE
     },
-    Step {
-        did: Did::Note(Word::Repeated, NONE),
+    CoreStep {
+        did: Did::Note(NoteWord::Repeated, NONE),
         ..PROMISE
     },
-    Step {
-        coming: Coming::Packet(3, (1, 1), Says::Nack((6, 2))),
-        did: Did::Note(Word::Denied, (6, 2)),
+    CoreStep {
+        coming: Coming::Packet(3, (1, 1), PacketSays::Nack((6, 2))),
+        did: Did::Note(NoteWord::Denied, (6, 2)),
         ..PROMISE
     },
-    Step {
-        coming: Coming::Packet(4, (1, 1), Says::Nack((1, 3))),
-        did: Did::Note(Word::Denied, (1, 3)),
+    CoreStep {
+        coming: Coming::Packet(4, (1, 1), PacketSays::Nack((1, 3))),
+        did: Did::Note(NoteWord::Denied, (1, 3)),
         ..PROMISE
     },
     // of a ballot that it hasn't begun
-    Step {
-        coming: Coming::Packet(5, (2, 1), Says::Nack((9, 2))),
-        did: Did::Note(Word::Stale, NONE),
+    CoreStep {
+        coming: Coming::Packet(5, (2, 1), PacketSays::Nack((9, 2))),
+        did: Did::Note(NoteWord::Stale, NONE),
         ..PROMISE
     },
-    Step {
-        coming: Coming::Packet(5, (2, 1), Says::Promise(None)),
-        did: Did::Note(Word::Stale, NONE),
+    CoreStep {
+        coming: Coming::Packet(5, (2, 1), PacketSays::Promise(None)),
+        did: Did::Note(NoteWord::Stale, NONE),
         ..PROMISE
     },
-    Step {
+    CoreStep {
         now: 290,
-        did: Did::Note(Word::Began, (7, 1)),
-        out: Few::Four(
-            (2, Says::Prepare),
-            (3, Says::Prepare),
-            (4, Says::Prepare),
-            (5, Says::Prepare),
+        did: Did::Note(NoteWord::Began, (7, 1)),
+        out: UpToFour::Four(
+            (2, PacketSays::Prepare),
+            (3, PacketSays::Prepare),
+            (4, PacketSays::Prepare),
+            (5, PacketSays::Prepare),
         ),
         at: (7, 1),
         saves: Some(((7, 1), None)),
@@ -225,177 +225,186 @@ pub const GATHERING: &[Step] = &[
 ];
 
 /// How it answers the others.
-pub const ANSWERING: &[Step] = &[
+pub const ANSWERING: &[CoreStep] = &[
     // nothing is in hand
-    Step {
+    CoreStep {
         starts: Some((1, 3)),
-        did: Did::Note(Word::Stale, NONE),
+        did: Did::Note(NoteWord::Stale, NONE),
         open: None,
         ..PROMISE
     },
-    Step {
-        coming: Coming::Packet(2, (1, 1), Says::Nack((1, 3))),
-        did: Did::Note(Word::Stale, NONE),
+    CoreStep {
+        coming: Coming::Packet(2, (1, 1), PacketSays::Nack((1, 3))),
+        did: Did::Note(NoteWord::Stale, NONE),
         ..IDLE
     },
     // an acceptor promises, votes and denies
-    Step {
+    CoreStep {
         starts: Some((2, 3)),
-        coming: Coming::Packet(1, (1, 1), Says::Prepare),
-        did: Did::Note(Word::Promised, (1, 1)),
-        out: Few::One((1, Says::Promise(None))),
+        coming: Coming::Packet(1, (1, 1), PacketSays::Prepare),
+        did: Did::Note(NoteWord::Promised, (1, 1)),
+        out: UpToFour::One((1, PacketSays::Promise(None))),
         saves: Some(((1, 1), None)),
         ..IDLE
     },
-    Step {
-        coming: Coming::Packet(1, (1, 1), Says::Prepare),
-        did: Did::Note(Word::Silent, NONE),
+    CoreStep {
+        coming: Coming::Packet(1, (1, 1), PacketSays::Prepare),
+        did: Did::Note(NoteWord::Silent, NONE),
         ..IDLE
     },
     // a promise is nothing to tell again
-    Step {
+    CoreStep {
         coming: Coming::Recall(3),
-        did: Did::Note(Word::Blank, NONE),
+        did: Did::Note(NoteWord::Blank, NONE),
         ..IDLE
     },
-    Step {
-        coming: Coming::Packet(1, (1, 1), Says::Accept(Flood)),
-        did: Did::Note(Word::Voted, (1, 1)),
-        out: Few::Two((1, Says::Accepted(Flood)), (3, Says::Accepted(Flood))),
+    CoreStep {
+        coming: Coming::Packet(1, (1, 1), PacketSays::Accept(Flood)),
+        did: Did::Note(NoteWord::Voted, (1, 1)),
+        out: UpToFour::Two(
+            (1, PacketSays::Accepted(Flood)),
+            (3, PacketSays::Accepted(Flood)),
+        ),
         saves: Some(((1, 1), Some(((1, 1), Flood)))),
         ..IDLE
     },
     // the first vote at a ballot stands
-    Step {
-        coming: Coming::Packet(1, (1, 1), Says::Accept(Ligature)),
-        did: Did::Note(Word::VotedAgain, (1, 1)),
-        out: Few::Two((1, Says::Accepted(Flood)), (3, Says::Accepted(Flood))),
+    CoreStep {
+        coming: Coming::Packet(1, (1, 1), PacketSays::Accept(Ligature)),
+        did: Did::Note(NoteWord::VotedAgain, (1, 1)),
+        out: UpToFour::Two(
+            (1, PacketSays::Accepted(Flood)),
+            (3, PacketSays::Accepted(Flood)),
+        ),
         ..IDLE
     },
-    Step {
-        coming: Coming::Packet(3, (1, 3), Says::Prepare),
-        did: Did::Note(Word::Promised, (1, 3)),
-        out: Few::One((3, Says::Promise(Some(((1, 1), Flood))))),
+    CoreStep {
+        coming: Coming::Packet(3, (1, 3), PacketSays::Prepare),
+        did: Did::Note(NoteWord::Promised, (1, 3)),
+        out: UpToFour::One((3, PacketSays::Promise(Some(((1, 1), Flood))))),
         at: (1, 3),
         saves: Some(((1, 3), Some(((1, 1), Flood)))),
         ..IDLE
     },
-    Step {
-        coming: Coming::Packet(1, (1, 1), Says::Prepare),
-        did: Did::Note(Word::Nacked, (1, 3)),
-        out: Few::One((1, Says::Nack((1, 3)))),
+    CoreStep {
+        coming: Coming::Packet(1, (1, 1), PacketSays::Prepare),
+        did: Did::Note(NoteWord::Nacked, (1, 3)),
+        out: UpToFour::One((1, PacketSays::Nack((1, 3)))),
         ..IDLE
     },
-    Step {
-        coming: Coming::Packet(1, (1, 1), Says::Accept(Flood)),
-        did: Did::Note(Word::Nacked, (1, 3)),
-        out: Few::One((1, Says::Nack((1, 3)))),
+    CoreStep {
+        coming: Coming::Packet(1, (1, 1), PacketSays::Accept(Flood)),
+        did: Did::Note(NoteWord::Nacked, (1, 3)),
+        out: UpToFour::One((1, PacketSays::Nack((1, 3)))),
         ..IDLE
     },
     // its vote at 1.1 is told again to another, and its row stays
-    Step {
+    CoreStep {
         coming: Coming::Recall(3),
-        did: Did::Note(Word::Recalled, (1, 1)),
-        out: Few::One((3, Says::Accepted(Flood))),
+        did: Did::Note(NoteWord::Recalled, (1, 1)),
+        out: UpToFour::One((3, PacketSays::Accepted(Flood))),
         ..IDLE
     },
     // with its own vote at 1.1, which it heard, a majority of three
-    Step {
+    CoreStep {
         releases: Some(Flood),
         released: true,
         ..VOTE
     },
     // of a released number it hears nothing again
-    Step {
+    CoreStep {
         coming: Coming::Recall(2),
-        did: Did::Note(Word::Recalled, (1, 1)),
+        did: Did::Note(NoteWord::Recalled, (1, 1)),
         released: true,
         ..IDLE
     },
     // it votes on after the release
-    Step {
-        coming: Coming::Packet(3, (1, 3), Says::Accept(Flood)),
-        did: Did::Note(Word::Voted, (1, 3)),
-        out: Few::Two((1, Says::Accepted(Flood)), (3, Says::Accepted(Flood))),
+    CoreStep {
+        coming: Coming::Packet(3, (1, 3), PacketSays::Accept(Flood)),
+        did: Did::Note(NoteWord::Voted, (1, 3)),
+        out: UpToFour::Two(
+            (1, PacketSays::Accepted(Flood)),
+            (3, PacketSays::Accepted(Flood)),
+        ),
         at: (1, 3),
         saves: Some(((1, 3), Some(((1, 3), Flood)))),
         released: true,
         ..IDLE
     },
     // one that started again with a vote releases as it hears that vote from itself
-    Step {
+    CoreStep {
         starts: Some((2, 3)),
-        saved: Saved::Promised((1, 1), Some(((1, 1), Flood))),
+        saved: SavedRow::Promised((1, 1), Some(((1, 1), Flood))),
         ..VOTE
     },
-    Step {
+    CoreStep {
         coming: Coming::Recall(2),
-        did: Did::Note(Word::Recalled, (1, 1)),
+        did: Did::Note(NoteWord::Recalled, (1, 1)),
         releases: Some(Flood),
         released: true,
         ..IDLE
     },
     // a passed ballot is overtaken
-    Step {
+    CoreStep {
         starts: Some((1, 3)),
         ..OFFER_OF_THREE
     },
-    Step {
-        coming: Coming::Packet(3, (1, 3), Says::Prepare),
-        did: Did::Note(Word::Promised, (1, 3)),
-        out: Few::One((3, Says::Promise(None))),
+    CoreStep {
+        coming: Coming::Packet(3, (1, 3), PacketSays::Prepare),
+        did: Did::Note(NoteWord::Promised, (1, 3)),
+        out: UpToFour::One((3, PacketSays::Promise(None))),
         at: (1, 3),
         saves: Some(((1, 3), None)),
         open: Some((1, 1)),
         ..IDLE
     },
-    Step {
-        did: Did::Note(Word::Overtaken, (1, 1)),
+    CoreStep {
+        did: Did::Note(NoteWord::Overtaken, (1, 1)),
         ..PROMISE
     },
 ];
 
 /// What is due, what is released, packed frames, and the longest tape.
-pub const ENDING: &[Step] = &[
+pub const ENDING: &[CoreStep] = &[
     // it begins anew and gives up
-    Step {
+    CoreStep {
         starts: Some((1, 2)),
         ..OFFER
     },
-    Step {
+    CoreStep {
         rounds: 32,
         now: 9279,
         open: Some((32, 1)),
-        due: Few::One((9279, None)),
+        due: UpToFour::One((9279, None)),
         ..IDLE
     },
-    Step {
+    CoreStep {
         now: 9280,
-        did: Did::Note(Word::GaveUp, (32, 1)),
-        due: Few::One((u64::MAX, None)),
+        did: Did::Note(NoteWord::GaveUp, (32, 1)),
+        due: UpToFour::One((u64::MAX, None)),
         ..IDLE
     },
     // the least that is due comes first
-    Step {
+    CoreStep {
         starts: Some((1, 2)),
-        saved: Saved::Blank,
+        saved: SavedRow::Blank,
         number: 30,
         ..SEEK
     },
-    Step {
-        saved: Saved::Blank,
+    CoreStep {
+        saved: SavedRow::Blank,
         number: 25,
         ..SEEK
     },
-    Step {
-        saved: Saved::Blank,
+    CoreStep {
+        saved: SavedRow::Blank,
         number: 41,
         ..SEEK
     },
-    Step {
-        saved: Saved::Blank,
+    CoreStep {
+        saved: SavedRow::Blank,
         now: 100,
-        due: Few::Four(
+        due: UpToFour::Four(
             (289, None),
             (290, Some(25)),
             (389, Some(25)),
@@ -403,70 +412,73 @@ pub const ENDING: &[Step] = &[
         ),
         ..SEEK
     },
-    Step {
-        saved: Saved::Promised((1, 1), None),
+    CoreStep {
+        saved: SavedRow::Promised((1, 1), None),
         coming: Coming::Due,
         number: 25,
         now: 290,
-        did: Did::Note(Word::Began, (2, 1)),
+        did: Did::Note(NoteWord::Began, (2, 1)),
         at: (2, 1),
         saves: Some(((2, 1), None)),
         open: Some((2, 1)),
-        due: Few::One((290, Some(30))),
+        due: UpToFour::One((290, Some(30))),
         ..OFFER
     },
     // a majority of votes releases
-    Step {
+    CoreStep {
         starts: Some((3, 3)),
         ..VOTE
     },
     VOTE,
-    Step {
-        coming: Coming::Packet(2, (1, 1), Says::Accepted(Flood)),
+    CoreStep {
+        coming: Coming::Packet(2, (1, 1), PacketSays::Accepted(Flood)),
         releases: Some(Flood),
         released: true,
         ..VOTE
     },
-    Step {
-        coming: Coming::Packet(2, (1, 1), Says::Accepted(Flood)),
-        did: Did::Note(Word::Settled, NONE),
+    CoreStep {
+        coming: Coming::Packet(2, (1, 1), PacketSays::Accepted(Flood)),
+        did: Did::Note(NoteWord::Settled, NONE),
         released: true,
         ..VOTE
     },
     // packed frames are voted for, heard and released
-    Step {
+    CoreStep {
         starts: Some((2, 3)),
-        coming: Coming::Packet(1, (1, 1), Says::Accept(Packed)),
-        did: Did::Note(Word::Voted, (1, 1)),
-        out: Few::Two((1, Says::Accepted(Flood)), (3, Says::Accepted(Flood))),
+        coming: Coming::Packet(1, (1, 1), PacketSays::Accept(Packed)),
+        did: Did::Note(NoteWord::Voted, (1, 1)),
+        out: UpToFour::Two(
+            (1, PacketSays::Accepted(Flood)),
+            (3, PacketSays::Accepted(Flood)),
+        ),
         saves: Some(((1, 1), Some(((1, 1), Flood)))),
         ..IDLE
     },
-    Step {
-        coming: Coming::Packet(3, (1, 1), Says::Accepted(Packed)),
+    CoreStep {
+        coming: Coming::Packet(3, (1, 1), PacketSays::Accepted(Packed)),
         releases: Some(Flood),
         released: true,
         ..VOTE
     },
     // a report of packed frames is proposed, and not the own tape
-    Step {
+    CoreStep {
         starts: Some((3, 3)),
         coming: Coming::Offer(Ligature),
-        did: Did::Note(Word::Began, (1, 3)),
-        out: Few::Two((1, Says::Prepare), (2, Says::Prepare)),
+        did: Did::Note(NoteWord::Began, (1, 3)),
+        out: UpToFour::Two((1, PacketSays::Prepare), (2, PacketSays::Prepare)),
         at: (1, 3),
         saves: Some(((1, 3), None)),
         open: Some((1, 3)),
         ..OFFER
     },
-    Step {
-        coming: Coming::Packet(2, (1, 3), Says::Promise(Some(((1, 1), Packed)))),
-        did: Did::Note(Word::Proposed, (1, 3)),
-        out: Few::Four(
-            (1, Says::Accept(Flood)),
-            (2, Says::Accept(Flood)),
-            (1, Says::Accepted(Flood)),
-            (2, Says::Accepted(Flood)),
+    CoreStep {
+        coming: Coming::Packet(2, (1, 3), PacketSays::Promise(Some(((1, 1), Packed)))),
+        did: Did::Note(NoteWord::Proposed, (1, 3)),
+        out: UpToFour::Four(
+            (1, PacketSays::Accept(Flood)),
+            (2, PacketSays::Accept(Flood)),
+            (1, PacketSays::Accepted(Flood)),
+            (2, PacketSays::Accepted(Flood)),
         ),
         at: (1, 3),
         saves: Some(((1, 3), Some(((1, 3), Flood)))),
@@ -474,62 +486,65 @@ pub const ENDING: &[Step] = &[
         ..IDLE
     },
     // the longest tape is proposed
-    Step {
+    CoreStep {
         starts: Some((1, 3)),
         coming: Coming::Offer(Longest),
         ..OFFER_OF_THREE
     },
-    Step {
-        did: Did::Note(Word::Proposed, (1, 1)),
-        out: Few::Four(
-            (2, Says::Accept(Longest)),
-            (3, Says::Accept(Longest)),
-            (2, Says::Accepted(Longest)),
-            (3, Says::Accepted(Longest)),
+    CoreStep {
+        did: Did::Note(NoteWord::Proposed, (1, 1)),
+        out: UpToFour::Four(
+            (2, PacketSays::Accept(Longest)),
+            (3, PacketSays::Accept(Longest)),
+            (2, PacketSays::Accepted(Longest)),
+            (3, PacketSays::Accepted(Longest)),
         ),
         saves: Some(((1, 1), Some(((1, 1), Longest)))),
         ..PROMISE
     },
-    Step {
-        coming: Coming::Packet(3, (1, 1), Says::Accepted(Longest)),
+    CoreStep {
+        coming: Coming::Packet(3, (1, 1), PacketSays::Accepted(Longest)),
         releases: Some(Longest),
         released: true,
         ..VOTE
     },
     // the longest tape is voted for, and reported
-    Step {
+    CoreStep {
         starts: Some((2, 3)),
-        coming: Coming::Packet(1, (1, 1), Says::Accept(Longest)),
-        did: Did::Note(Word::Voted, (1, 1)),
-        out: Few::Two((1, Says::Accepted(Longest)), (3, Says::Accepted(Longest))),
+        coming: Coming::Packet(1, (1, 1), PacketSays::Accept(Longest)),
+        did: Did::Note(NoteWord::Voted, (1, 1)),
+        out: UpToFour::Two(
+            (1, PacketSays::Accepted(Longest)),
+            (3, PacketSays::Accepted(Longest)),
+        ),
         saves: Some(((1, 1), Some(((1, 1), Longest)))),
         ..IDLE
     },
-    Step {
-        coming: Coming::Packet(3, (1, 3), Says::Prepare),
-        did: Did::Note(Word::Promised, (1, 3)),
-        out: Few::One((3, Says::Promise(Some(((1, 1), Longest))))),
+    CoreStep {
+        coming: Coming::Packet(3, (1, 3), PacketSays::Prepare),
+        did: Did::Note(NoteWord::Promised, (1, 3)),
+        out: UpToFour::One((3, PacketSays::Promise(Some(((1, 1), Longest))))),
         at: (1, 3),
         saves: Some(((1, 3), Some(((1, 1), Longest)))),
         ..IDLE
     },
     // its own report counts
-    Step {
-        did: Did::Note(Word::Began, (2, 2)),
-        out: Few::Two((1, Says::Prepare), (3, Says::Prepare)),
+    CoreStep {
+        did: Did::Note(NoteWord::Began, (2, 2)),
+        out: UpToFour::Two((1, PacketSays::Prepare), (3, PacketSays::Prepare)),
         at: (2, 2),
         saves: Some(((2, 2), Some(((1, 1), Longest)))),
         open: Some((2, 2)),
         ..SEEK
     },
-    Step {
-        coming: Coming::Packet(3, (2, 2), Says::Promise(Some(((1, 3), Longest)))),
-        did: Did::Note(Word::Proposed, (2, 2)),
-        out: Few::Four(
-            (1, Says::Accept(Longest)),
-            (3, Says::Accept(Longest)),
-            (1, Says::Accepted(Longest)),
-            (3, Says::Accepted(Longest)),
+    CoreStep {
+        coming: Coming::Packet(3, (2, 2), PacketSays::Promise(Some(((1, 3), Longest)))),
+        did: Did::Note(NoteWord::Proposed, (2, 2)),
+        out: UpToFour::Four(
+            (1, PacketSays::Accept(Longest)),
+            (3, PacketSays::Accept(Longest)),
+            (1, PacketSays::Accepted(Longest)),
+            (3, PacketSays::Accepted(Longest)),
         ),
         at: (2, 2),
         saves: Some(((2, 2), Some(((2, 2), Longest)))),
@@ -540,98 +555,101 @@ pub const ENDING: &[Step] = &[
 
 /// A number that the first of three withdraws, at each of the three: what goes out of one comes to the others. Then a
 /// withdrawal against a tape, either way.
-pub const WITHDRAWING: &[Step] = &[
+pub const WITHDRAWING: &[CoreStep] = &[
     // the first withdraws the number
-    Step {
+    CoreStep {
         starts: Some((1, 3)),
         coming: Coming::Offer(Void),
         ..OFFER_OF_THREE
     },
-    Step {
-        did: Did::Note(Word::Proposed, (1, 1)),
-        out: Few::Four(
-            (2, Says::Accept(Void)),
-            (3, Says::Accept(Void)),
-            (2, Says::Accepted(Void)),
-            (3, Says::Accepted(Void)),
+    CoreStep {
+        did: Did::Note(NoteWord::Proposed, (1, 1)),
+        out: UpToFour::Four(
+            (2, PacketSays::Accept(Void)),
+            (3, PacketSays::Accept(Void)),
+            (2, PacketSays::Accepted(Void)),
+            (3, PacketSays::Accepted(Void)),
         ),
         saves: Some(((1, 1), Some(((1, 1), Void)))),
         ..PROMISE
     },
-    Step {
-        coming: Coming::Packet(2, (1, 1), Says::Accepted(Void)),
+    CoreStep {
+        coming: Coming::Packet(2, (1, 1), PacketSays::Accepted(Void)),
         releases: Some(Void),
         released: true,
         ..VOTE
     },
-    Step {
+    CoreStep {
         coming: Coming::Offer(Flood),
         did: Did::Refuse(CoreRefusal::AlreadyReleased),
         released: true,
         ..IDLE
     },
     // the second promises and votes
-    Step {
+    CoreStep {
         starts: Some((2, 3)),
-        coming: Coming::Packet(1, (1, 1), Says::Prepare),
-        did: Did::Note(Word::Promised, (1, 1)),
-        out: Few::One((1, Says::Promise(None))),
+        coming: Coming::Packet(1, (1, 1), PacketSays::Prepare),
+        did: Did::Note(NoteWord::Promised, (1, 1)),
+        out: UpToFour::One((1, PacketSays::Promise(None))),
         saves: Some(((1, 1), None)),
         ..IDLE
     },
-    Step {
-        coming: Coming::Packet(1, (1, 1), Says::Accept(Void)),
-        did: Did::Note(Word::Voted, (1, 1)),
-        out: Few::Two((1, Says::Accepted(Void)), (3, Says::Accepted(Void))),
+    CoreStep {
+        coming: Coming::Packet(1, (1, 1), PacketSays::Accept(Void)),
+        did: Did::Note(NoteWord::Voted, (1, 1)),
+        out: UpToFour::Two(
+            (1, PacketSays::Accepted(Void)),
+            (3, PacketSays::Accepted(Void)),
+        ),
         saves: Some(((1, 1), Some(((1, 1), Void)))),
         ..IDLE
     },
-    Step {
-        coming: Coming::Packet(1, (1, 1), Says::Accepted(Void)),
+    CoreStep {
+        coming: Coming::Packet(1, (1, 1), PacketSays::Accepted(Void)),
         releases: Some(Void),
         released: true,
         ..VOTE
     },
     // it reports the withdrawal after the release
-    Step {
-        coming: Coming::Packet(3, (1, 3), Says::Prepare),
-        did: Did::Note(Word::Promised, (1, 3)),
-        out: Few::One((3, Says::Promise(Some(((1, 1), Void))))),
+    CoreStep {
+        coming: Coming::Packet(3, (1, 3), PacketSays::Prepare),
+        did: Did::Note(NoteWord::Promised, (1, 3)),
+        out: UpToFour::One((3, PacketSays::Promise(Some(((1, 1), Void))))),
         at: (1, 3),
         saves: Some(((1, 3), Some(((1, 1), Void)))),
         released: true,
         ..IDLE
     },
     // the third hears of two votes
-    Step {
+    CoreStep {
         starts: Some((3, 3)),
-        coming: Coming::Packet(1, (1, 1), Says::Accepted(Void)),
+        coming: Coming::Packet(1, (1, 1), PacketSays::Accepted(Void)),
         ..VOTE
     },
-    Step {
-        coming: Coming::Packet(2, (1, 1), Says::Accepted(Void)),
+    CoreStep {
+        coming: Coming::Packet(2, (1, 1), PacketSays::Accepted(Void)),
         releases: Some(Void),
         released: true,
         ..VOTE
     },
     // a withdrawal that was reported is proposed, and not the own tape
-    Step {
+    CoreStep {
         starts: Some((3, 3)),
-        did: Did::Note(Word::Began, (1, 3)),
-        out: Few::Two((1, Says::Prepare), (2, Says::Prepare)),
+        did: Did::Note(NoteWord::Began, (1, 3)),
+        out: UpToFour::Two((1, PacketSays::Prepare), (2, PacketSays::Prepare)),
         at: (1, 3),
         saves: Some(((1, 3), None)),
         open: Some((1, 3)),
         ..OFFER
     },
-    Step {
-        coming: Coming::Packet(2, (1, 3), Says::Promise(Some(((1, 1), Void)))),
-        did: Did::Note(Word::Proposed, (1, 3)),
-        out: Few::Four(
-            (1, Says::Accept(Void)),
-            (2, Says::Accept(Void)),
-            (1, Says::Accepted(Void)),
-            (2, Says::Accepted(Void)),
+    CoreStep {
+        coming: Coming::Packet(2, (1, 3), PacketSays::Promise(Some(((1, 1), Void)))),
+        did: Did::Note(NoteWord::Proposed, (1, 3)),
+        out: UpToFour::Four(
+            (1, PacketSays::Accept(Void)),
+            (2, PacketSays::Accept(Void)),
+            (1, PacketSays::Accepted(Void)),
+            (2, PacketSays::Accepted(Void)),
         ),
         at: (1, 3),
         saves: Some(((1, 3), Some(((1, 3), Void)))),
@@ -639,24 +657,24 @@ pub const WITHDRAWING: &[Step] = &[
         ..IDLE
     },
     // a tape that was reported is proposed, and not the own withdrawal
-    Step {
+    CoreStep {
         starts: Some((3, 3)),
         coming: Coming::Offer(Void),
-        did: Did::Note(Word::Began, (1, 3)),
-        out: Few::Two((1, Says::Prepare), (2, Says::Prepare)),
+        did: Did::Note(NoteWord::Began, (1, 3)),
+        out: UpToFour::Two((1, PacketSays::Prepare), (2, PacketSays::Prepare)),
         at: (1, 3),
         saves: Some(((1, 3), None)),
         open: Some((1, 3)),
         ..OFFER
     },
-    Step {
-        coming: Coming::Packet(2, (1, 3), Says::Promise(Some(((1, 1), Flood)))),
-        did: Did::Note(Word::Proposed, (1, 3)),
-        out: Few::Four(
-            (1, Says::Accept(Flood)),
-            (2, Says::Accept(Flood)),
-            (1, Says::Accepted(Flood)),
-            (2, Says::Accepted(Flood)),
+    CoreStep {
+        coming: Coming::Packet(2, (1, 3), PacketSays::Promise(Some(((1, 1), Flood)))),
+        did: Did::Note(NoteWord::Proposed, (1, 3)),
+        out: UpToFour::Four(
+            (1, PacketSays::Accept(Flood)),
+            (2, PacketSays::Accept(Flood)),
+            (1, PacketSays::Accepted(Flood)),
+            (2, PacketSays::Accepted(Flood)),
         ),
         at: (1, 3),
         saves: Some(((1, 3), Some(((1, 3), Flood)))),
@@ -664,18 +682,24 @@ pub const WITHDRAWING: &[Step] = &[
         ..IDLE
     },
     // the first vote at a ballot stands, be it for a withdrawal
-    Step {
+    CoreStep {
         starts: Some((2, 3)),
-        coming: Coming::Packet(1, (1, 1), Says::Accept(Void)),
-        did: Did::Note(Word::Voted, (1, 1)),
-        out: Few::Two((1, Says::Accepted(Void)), (3, Says::Accepted(Void))),
+        coming: Coming::Packet(1, (1, 1), PacketSays::Accept(Void)),
+        did: Did::Note(NoteWord::Voted, (1, 1)),
+        out: UpToFour::Two(
+            (1, PacketSays::Accepted(Void)),
+            (3, PacketSays::Accepted(Void)),
+        ),
         saves: Some(((1, 1), Some(((1, 1), Void)))),
         ..IDLE
     },
-    Step {
-        coming: Coming::Packet(1, (1, 1), Says::Accept(Flood)),
-        did: Did::Note(Word::VotedAgain, (1, 1)),
-        out: Few::Two((1, Says::Accepted(Void)), (3, Says::Accepted(Void))),
+    CoreStep {
+        coming: Coming::Packet(1, (1, 1), PacketSays::Accept(Flood)),
+        did: Did::Note(NoteWord::VotedAgain, (1, 1)),
+        out: UpToFour::Two(
+            (1, PacketSays::Accepted(Void)),
+            (3, PacketSays::Accepted(Void)),
+        ),
         ..IDLE
     },
 ];

@@ -1,14 +1,14 @@
 //! Turns of one core, by worked examples.
 
-use crate::few::Few;
+use crate::few::UpToFour;
 use crate::turning::kept_core::{KeptCore, answer, is_answer, kept_core_of, taken};
-use crate::turning::steps::{Did, IDLE, SEEK_OF_THREE, Step};
+use crate::turning::steps::{CoreStep, Did, IDLE, SEEK_OF_THREE};
 use crate::turning::stories::{ANSWERING, ASKING, ENDING, GATHERING, WITHDRAWING};
 use node_core::CoreRefusal;
 use std::alloc::Global;
 
 /// How many steps of these stories come to what they have to, up to the first that does not.
-fn told(alloc: Global, stories: &[Step]) -> usize {
+fn told(alloc: Global, stories: &[CoreStep]) -> usize {
     match kept_core_of(alloc, 1, 1) {
         None => 0,
         Some(mut kept) => taken(alloc, &mut kept, stories),
@@ -51,14 +51,14 @@ fn withdrawing(rt: HostRuntime) {
 }
 
 /// What comes after memory was refused: the core has failed until it is cleared.
-const FAILED: &[Step] = &[
-    Step {
+const FAILED: &[CoreStep] = &[
+    CoreStep {
         now: 290,
         did: Did::Refuse(CoreRefusal::Failed),
-        due: Few::One((u64::MAX, None)),
+        due: UpToFour::One((u64::MAX, None)),
         ..IDLE
     },
-    Step {
+    CoreStep {
         cleared: true,
         now: 290,
         ..IDLE
@@ -66,7 +66,12 @@ const FAILED: &[Step] = &[
 ];
 
 /// Whether a step comes to what it has to; or, where memory was refused to it, whether these do.
-fn takes_or_fails(alloc: Global, kept: &mut KeptCore, step: &Step, failed: &[Step]) -> bool {
+fn takes_or_fails(
+    alloc: Global,
+    kept: &mut KeptCore,
+    step: &CoreStep,
+    failed: &[CoreStep],
+) -> bool {
     match answer(alloc, kept, step) {
         Some(Err(CoreRefusal::OutOfMemory)) => taken(alloc, kept, failed) == failed.len(),
         answer => is_answer(answer, step),

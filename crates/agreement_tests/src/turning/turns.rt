@@ -1,8 +1,8 @@
 //! What the turns of the steps have to be.
 
-use crate::rows::{Agreed, At, Voted, is_entry, is_vote, parts};
+use crate::rows::{AgreedOn, PlainBallot, Voted, is_entry, is_vote, parts};
 use crate::turning::events::packet_of;
-use crate::turning::steps::{Did, NONE, Says, Step, Word};
+use crate::turning::steps::{CoreStep, Did, NONE, NoteWord, PacketSays};
 use ballots::{Member, Number, Row};
 use node_core::{Note, Outgoing, Turn};
 use packets::{PacketRef, encode};
@@ -10,27 +10,27 @@ use std::alloc::Global;
 use tape_frames::{Entry, Version};
 
 /// The note in the word of the rehearsals, and its ballot.
-pub fn words_of(note: Note) -> (Word, At) {
+pub fn words_of(note: Note) -> (NoteWord, PlainBallot) {
     match note {
-        Note::Began { ballot } => (Word::Began, parts(ballot)),
-        Note::Nothing { ballot } => (Word::Nothing, parts(ballot)),
-        Note::Proposed { ballot } => (Word::Proposed, parts(ballot)),
-        Note::Idle => (Word::Idle, NONE),
-        Note::GaveUp { ballot } => (Word::GaveUp, parts(ballot)),
-        Note::Promised { ballot } => (Word::Promised, parts(ballot)),
-        Note::Silent => (Word::Silent, NONE),
-        Note::Nacked { promised } => (Word::Nacked, parts(promised)),
-        Note::VotedAgain { ballot } => (Word::VotedAgain, parts(ballot)),
-        Note::Voted { ballot } => (Word::Voted, parts(ballot)),
-        Note::Stale => (Word::Stale, NONE),
-        Note::Overtaken { ballot } => (Word::Overtaken, parts(ballot)),
-        Note::Repeated => (Word::Repeated, NONE),
-        Note::Counted { ballot } => (Word::Counted, parts(ballot)),
-        Note::Denied { promised } => (Word::Denied, parts(promised)),
-        Note::Settled => (Word::Settled, NONE),
-        Note::Heard { ballot } => (Word::Heard, parts(ballot)),
-        Note::Recalled { ballot } => (Word::Recalled, parts(ballot)),
-        Note::Blank => (Word::Blank, NONE),
+        Note::Began { ballot } => (NoteWord::Began, parts(ballot)),
+        Note::Nothing { ballot } => (NoteWord::Nothing, parts(ballot)),
+        Note::Proposed { ballot } => (NoteWord::Proposed, parts(ballot)),
+        Note::Idle => (NoteWord::Idle, NONE),
+        Note::GaveUp { ballot } => (NoteWord::GaveUp, parts(ballot)),
+        Note::Promised { ballot } => (NoteWord::Promised, parts(ballot)),
+        Note::Silent => (NoteWord::Silent, NONE),
+        Note::Nacked { promised } => (NoteWord::Nacked, parts(promised)),
+        Note::VotedAgain { ballot } => (NoteWord::VotedAgain, parts(ballot)),
+        Note::Voted { ballot } => (NoteWord::Voted, parts(ballot)),
+        Note::Stale => (NoteWord::Stale, NONE),
+        Note::Overtaken { ballot } => (NoteWord::Overtaken, parts(ballot)),
+        Note::Repeated => (NoteWord::Repeated, NONE),
+        Note::Counted { ballot } => (NoteWord::Counted, parts(ballot)),
+        Note::Denied { promised } => (NoteWord::Denied, parts(promised)),
+        Note::Settled => (NoteWord::Settled, NONE),
+        Note::Heard { ballot } => (NoteWord::Heard, parts(ballot)),
+        Note::Recalled { ballot } => (NoteWord::Recalled, parts(ballot)),
+        Note::Blank => (NoteWord::Blank, NONE),
     }
 }
 
@@ -57,7 +57,7 @@ fn are_one(alloc: Global, packet: &PacketRef<'_>, other: &PacketRef<'_>) -> bool
 }
 
 /// The packet that has to go out of the step from this member.
-fn going(from: Member, step: &Step, to: u8, says: Says) -> Option<PacketRef<'static>> {
+fn going(from: Member, step: &CoreStep, to: u8, says: PacketSays) -> Option<PacketRef<'static>> {
     packet_of(
         from,
         Member::new(to)?,
@@ -75,7 +75,7 @@ fn goes(alloc: Global, packet: Option<PacketRef<'_>>, other: Option<PacketRef<'_
 }
 
 /// Whether the packets of the step go out from this member.
-fn go_out(alloc: Global, out: &Outgoing<'_>, from: Member, step: &Step) -> bool {
+fn go_out(alloc: Global, out: &Outgoing<'_>, from: Member, step: &CoreStep) -> bool {
     for place in 0..step.out.len() {
         let Some((to, says)) = step.out.get(place) else {
             return false;
@@ -88,7 +88,7 @@ fn go_out(alloc: Global, out: &Outgoing<'_>, from: Member, step: &Step) -> bool 
 }
 
 /// Whether a row is to be saved with this promise and this vote, or none is.
-fn is_saved(row: &Option<Row>, saves: Option<(At, Option<Voted>)>) -> bool {
+fn is_saved(row: &Option<Row>, saves: Option<(PlainBallot, Option<Voted>)>) -> bool {
     match (row, saves) {
         (None, None) => true,
         (Some(row), Some((promised, voted))) => {
@@ -99,7 +99,7 @@ fn is_saved(row: &Option<Row>, saves: Option<(At, Option<Voted>)>) -> bool {
 }
 
 /// Whether this entry is released, or none.
-fn is_released(release: &Option<Entry>, releases: Option<Agreed>) -> bool {
+fn is_released(release: &Option<Entry>, releases: Option<AgreedOn>) -> bool {
     match (release, releases) {
         (None, None) => true,
         (Some(entry), Some(agreed)) => is_entry(&entry.lend(), agreed),
@@ -108,7 +108,7 @@ fn is_released(release: &Option<Entry>, releases: Option<Agreed>) -> bool {
 }
 
 /// Whether the turn of a member, at the row before it, is that of the step.
-pub fn is_turn_of(alloc: Global, turn: &Turn, seat: (Member, &Row), step: &Step) -> bool {
+pub fn is_turn_of(alloc: Global, turn: &Turn, seat: (Member, &Row), step: &CoreStep) -> bool {
     is_noted(turn.note, step.did)
         && go_out(alloc, &turn.out(seat.1), seat.0, step)
         && is_saved(&turn.row, step.saves)

@@ -20,13 +20,13 @@ const NOT_RENAMED: &str = "[folders]\noffers = \"in\"\nreleases = \"out\"\nrenam
 
 /// What is said of folders beside their paths: whether texts may be offered, and whether files come only by being renamed.
 #[derive(Clone, Copy)]
-struct Said {
+struct FoldersSaid {
     text: bool,
     renamed: bool,
 }
 
 /// What is said where the keys are absent.
-const NOTHING_SAID: Said = Said {
+const NOTHING_SAID: FoldersSaid = FoldersSaid {
     text: true,
     renamed: false,
 };
@@ -53,7 +53,7 @@ fn example_with(alloc: Global, more: &str) -> Option<Config> {
 }
 
 /// Whether the example with this behind it has the folders `in` and `out` of which this is said, or none.
-fn has_folders(alloc: Global, more: &str, wanted: Option<Said>) -> bool {
+fn has_folders(alloc: Global, more: &str, wanted: Option<FoldersSaid>) -> bool {
     let Some(config) = example_with(alloc, more) else {
         return false;
     };
@@ -161,18 +161,18 @@ fn catching_up_can_be_off(rt: HostRuntime) {
 }
 
 /// What stands behind the example, and what it says of the folders.
-const FOLDERS_SAID: &[(&str, Said)] = &[
+const FOLDERS_SAID: &[(&str, FoldersSaid)] = &[
     (FOLDERS, NOTHING_SAID),
     (
         NO_TEXTS,
-        Said {
+        FoldersSaid {
             text: false,
             ..NOTHING_SAID
         },
     ),
     (
         RENAMED,
-        Said {
+        FoldersSaid {
             renamed: true,
             ..NOTHING_SAID
         },
@@ -191,7 +191,7 @@ fn the_example(rt: HostRuntime) {
 
 /// A part of the example in whose place something else stands.
 #[derive(Clone, Copy)]
-enum Part {
+enum ExamplePart {
     /// The whole text.
     Whole,
     /// The line of a key, with its end.
@@ -209,163 +209,179 @@ enum Part {
     Port,
 }
 
-impl Part {
+impl ExamplePart {
     /// The part as it stands in the example.
     fn text(self) -> &'static str {
         match self {
-            Part::Whole => CONFIG,
-            Part::Circuit => "circuit = 7\n",
-            Part::Member => "member = 1\ntable",
-            Part::Table => "table = \"codes.toml\"\n",
-            Part::Widths => "widths = \"widths.toml\"\n",
-            Part::Rows => "rows = \"station1.db\"\n",
-            Part::Stations => "[[station]]",
-            Part::Station => "[[station]]\nmember = 1\nip = \"127.0.0.1\"\nport = 7001\n",
-            Part::Port => "port = 7001",
+            ExamplePart::Whole => CONFIG,
+            ExamplePart::Circuit => "circuit = 7\n",
+            ExamplePart::Member => "member = 1\ntable",
+            ExamplePart::Table => "table = \"codes.toml\"\n",
+            ExamplePart::Widths => "widths = \"widths.toml\"\n",
+            ExamplePart::Rows => "rows = \"station1.db\"\n",
+            ExamplePart::Stations => "[[station]]",
+            ExamplePart::Station => "[[station]]\nmember = 1\nip = \"127.0.0.1\"\nport = 7001\n",
+            ExamplePart::Port => "port = 7001",
         }
     }
 }
 
 /// A part of the example, what stands there instead, and the fault.
-const FAULTS: &[(Part, &str, ConfigFault)] = &[
-    (Part::Whole, "circuit = [", ConfigFault::NotToml),
-    (Part::Circuit, "", ConfigFault::Missing(ConfigKey::Circuit)),
+const FAULTS: &[(ExamplePart, &str, ConfigFault)] = &[
+    (ExamplePart::Whole, "circuit = [", ConfigFault::NotToml),
     (
-        Part::Member,
+        ExamplePart::Circuit,
+        "",
+        ConfigFault::Missing(ConfigKey::Circuit),
+    ),
+    (
+        ExamplePart::Member,
         "table",
         ConfigFault::Missing(ConfigKey::Member),
     ),
-    (Part::Table, "", ConfigFault::Missing(ConfigKey::Table)),
-    (Part::Widths, "", ConfigFault::Missing(ConfigKey::Widths)),
-    (Part::Rows, "", ConfigFault::Missing(ConfigKey::Rows)),
-    (Part::Station, "", ConfigFault::Missing(ConfigKey::Station)),
     (
-        Part::Circuit,
+        ExamplePart::Table,
+        "",
+        ConfigFault::Missing(ConfigKey::Table),
+    ),
+    (
+        ExamplePart::Widths,
+        "",
+        ConfigFault::Missing(ConfigKey::Widths),
+    ),
+    (ExamplePart::Rows, "", ConfigFault::Missing(ConfigKey::Rows)),
+    (
+        ExamplePart::Station,
+        "",
+        ConfigFault::Missing(ConfigKey::Station),
+    ),
+    (
+        ExamplePart::Circuit,
         "circuit = \"7\"\n",
         ConfigFault::WrongType(ConfigKey::Circuit),
     ),
     (
-        Part::Member,
+        ExamplePart::Member,
         "member = 1.0\ntable",
         ConfigFault::WrongType(ConfigKey::Member),
     ),
     (
-        Part::Table,
+        ExamplePart::Table,
         "table = 1\n",
         ConfigFault::WrongType(ConfigKey::Table),
     ),
     (
-        Part::Widths,
+        ExamplePart::Widths,
         "widths = 1\n",
         ConfigFault::WrongType(ConfigKey::Widths),
     ),
     (
-        Part::Rows,
+        ExamplePart::Rows,
         "rows = 1\n",
         ConfigFault::WrongType(ConfigKey::Rows),
     ),
     (
-        Part::Stations,
+        ExamplePart::Stations,
         "[station]",
         ConfigFault::WrongType(ConfigKey::Station),
     ),
     (
-        Part::Circuit,
+        ExamplePart::Circuit,
         "folders = \"in\"\ncircuit = 7\n",
         ConfigFault::WrongType(ConfigKey::Folders),
     ),
     (
-        Part::Stations,
+        ExamplePart::Stations,
         "[[folders]]\noffers = \"in\"\nreleases = \"out\"\n[[station]]",
         ConfigFault::WrongType(ConfigKey::Folders),
     ),
     (
-        Part::Stations,
+        ExamplePart::Stations,
         "[folders]\nreleases = \"out\"\n[[station]]",
         ConfigFault::Missing(ConfigKey::Offers),
     ),
     (
-        Part::Stations,
+        ExamplePart::Stations,
         "[folders]\noffers = \"in\"\n[[station]]",
         ConfigFault::Missing(ConfigKey::Releases),
     ),
     (
-        Part::Stations,
+        ExamplePart::Stations,
         "[folders]\noffers = 1\n[[station]]",
         ConfigFault::WrongType(ConfigKey::Offers),
     ),
     (
-        Part::Stations,
+        ExamplePart::Stations,
         "[folders]\noffers = \"in\"\nreleases = [\"out\"]\n[[station]]",
         ConfigFault::WrongType(ConfigKey::Releases),
     ),
     (
-        Part::Stations,
+        ExamplePart::Stations,
         "[folders]\noffers = \"in\"\nreleases = \"out\"\ntext = \"no\"\n[[station]]",
         ConfigFault::WrongType(ConfigKey::Text),
     ),
     (
-        Part::Stations,
+        ExamplePart::Stations,
         "[folders]\noffers = \"in\"\nreleases = \"out\"\nrenamed = 1\n[[station]]",
         ConfigFault::WrongType(ConfigKey::Renamed),
     ),
     (
-        Part::Stations,
+        ExamplePart::Stations,
         "[folders]\noffers = \"in\"\nreleases = \"out\"\nrenamed = 1\ntext = 1\n[[station]]",
         ConfigFault::WrongType(ConfigKey::Text),
     ),
     (
-        Part::Circuit,
+        ExamplePart::Circuit,
         "catch_up = true\ncircuit = 7\n",
         ConfigFault::WrongType(ConfigKey::CatchUp),
     ),
     (
-        Part::Stations,
+        ExamplePart::Stations,
         "[catch_up]\noff = 1\n[[station]]",
         ConfigFault::WrongType(ConfigKey::Off),
     ),
     (
-        Part::Stations,
+        ExamplePart::Stations,
         "[folders]\noffers = \"in\"\nreleases = \"out\"\nstatus = 1\n[[station]]",
         ConfigFault::WrongType(ConfigKey::Status),
     ),
     (
-        Part::Circuit,
+        ExamplePart::Circuit,
         "wire = \"circuit.key\"\ncircuit = 7\n",
         ConfigFault::WrongType(ConfigKey::Wire),
     ),
     (
-        Part::Stations,
+        ExamplePart::Stations,
         "[wire]\n[[station]]",
         ConfigFault::Missing(ConfigKey::Key),
     ),
     (
-        Part::Stations,
+        ExamplePart::Stations,
         "[wire]\nkey = 1\n[[station]]",
         ConfigFault::WrongType(ConfigKey::Key),
     ),
     (
-        Part::Circuit,
+        ExamplePart::Circuit,
         "circuit = 65536\n",
         ConfigFault::OutOfRange(ConfigKey::Circuit),
     ),
     (
-        Part::Circuit,
+        ExamplePart::Circuit,
         "circuit = -1\n",
         ConfigFault::OutOfRange(ConfigKey::Circuit),
     ),
     (
-        Part::Member,
+        ExamplePart::Member,
         "member = 0\ntable",
         ConfigFault::OutOfRange(ConfigKey::Member),
     ),
     (
-        Part::Member,
+        ExamplePart::Member,
         "member = 16\ntable",
         ConfigFault::OutOfRange(ConfigKey::Member),
     ),
     (
-        Part::Member,
+        ExamplePart::Member,
         "member = 2\ntable",
         ConfigFault::OutOfRange(ConfigKey::Member),
     ),
@@ -446,59 +462,71 @@ fn is_none_with(alloc: Global, old: &str, new: &str, fault: &str) -> bool {
 }
 
 /// A part of the example, what stands there instead, and what is told.
-const TEXTS: &[(Part, &str, &str)] = &[
-    (Part::Circuit, "circuit\n", "config: not toml\n"),
-    (Part::Circuit, "", "config: missing circuit\n"),
-    (Part::Member, "table", "config: missing member\n"),
+const TEXTS: &[(ExamplePart, &str, &str)] = &[
+    (ExamplePart::Circuit, "circuit\n", "config: not toml\n"),
+    (ExamplePart::Circuit, "", "config: missing circuit\n"),
+    (ExamplePart::Member, "table", "config: missing member\n"),
     (
-        Part::Member,
+        ExamplePart::Member,
         "member = \"1\"\ntable",
         "config: wrong type member\n",
     ),
-    (Part::Table, "", "config: missing table\n"),
-    (Part::Widths, "", "config: missing widths\n"),
-    (Part::Widths, "widths = 3\n", "config: wrong type widths\n"),
-    (Part::Rows, "", "config: missing rows\n"),
+    (ExamplePart::Table, "", "config: missing table\n"),
+    (ExamplePart::Widths, "", "config: missing widths\n"),
     (
-        Part::Circuit,
+        ExamplePart::Widths,
+        "widths = 3\n",
+        "config: wrong type widths\n",
+    ),
+    (ExamplePart::Rows, "", "config: missing rows\n"),
+    (
+        ExamplePart::Circuit,
         "circuit = 65536\n",
         "config: out of range circuit\n",
     ),
     (
-        Part::Circuit,
+        ExamplePart::Circuit,
         "circuit = 7\nfolders = 1\n",
         "config: wrong type folders\n",
     ),
     (
-        Part::Stations,
+        ExamplePart::Stations,
         "[folders]\n[[station]]",
         "config: missing offers\n",
     ),
     (
-        Part::Stations,
+        ExamplePart::Stations,
         "[folders]\noffers = \"in\"\nreleases = 1\n[[station]]",
         "config: wrong type releases\n",
     ),
     (
-        Part::Stations,
+        ExamplePart::Stations,
         "[folders]\noffers = \"in\"\nreleases = \"out\"\nrenamed = \"yes\"\n[[station]]",
         "config: wrong type renamed\n",
     ),
-    (Part::Stations, "[station]", "config: wrong type station\n"),
-    (Part::Stations, "[[stations]]", "config: missing station\n"),
     (
-        Part::Station,
+        ExamplePart::Stations,
+        "[station]",
+        "config: wrong type station\n",
+    ),
+    (
+        ExamplePart::Stations,
+        "[[stations]]",
+        "config: missing station\n",
+    ),
+    (
+        ExamplePart::Station,
         "station = [0, 0, 0, 0, 0, 0, 0, 0, 0, 0, 0, 0, 0, 0, 0, 0]\n",
         "config: out of range station\n",
     ),
-    (Part::Port, "port = 0", "config: bad station 1\n"),
+    (ExamplePart::Port, "port = 0", "config: bad station 1\n"),
     (
-        Part::Port,
+        ExamplePart::Port,
         "port = 7001\n[[station]]\nmember = 2\nip = \"127.0.0.1\"\nport = 7001",
         "config: bad station 2\n",
     ),
     (
-        Part::Member,
+        ExamplePart::Member,
         "member = 2\ntable",
         "config: out of range member\n",
     ),

@@ -1,7 +1,7 @@
 //! What `answer` tells to whole inputs, and readers and writers that fail.
 
-use super::failing::{Input, Slow};
-use super::running::{Command, Ending, comes_to, fills};
+use super::failing::{Input, SlowWriter};
+use super::running::{CommandEnding, PrintedCommand, comes_to, fills};
 use command_ends::End;
 use std::alloc::Global;
 use tape_frames::Version;
@@ -57,18 +57,22 @@ refused not-a-request\n";
 
 /// Whether member 2 of circuit 7 answers this input by this text in this version.
 fn tells(alloc: Global, wire: Version, input: &[u8], text: &str) -> bool {
-    let wanted = Ending {
+    let wanted = CommandEnding {
         end: End::Done,
         out: text,
         err: "",
     };
-    comes_to(alloc, Command::Answer(wire, Input::whole(input)), &wanted)
+    comes_to(
+        alloc,
+        PrintedCommand::Answer(wire, Input::whole(input)),
+        &wanted,
+    )
 }
 
 /// Whether it ends so over what this reads, in version 1, with nothing answered but this fault told.
 fn ends(alloc: Global, input: Input<'_>, end: End, err: &str) -> bool {
-    let wanted = Ending { end, out: "", err };
-    comes_to(alloc, Command::Answer(Version::One, input), &wanted)
+    let wanted = CommandEnding { end, out: "", err };
+    comes_to(alloc, PrintedCommand::Answer(Version::One, input), &wanted)
 }
 
 /// Inputs, and what is told of them.
@@ -199,14 +203,14 @@ fn each_front_of_a_line(rt: HostRuntime) {
 /// Whether a writer with room for so many bytes gets that front of the text, and the command ends by this with this
 /// fault.
 fn is_front(alloc: Global, room: usize, end: End, err: &str) -> bool {
-    let wanted = Ending {
+    let wanted = CommandEnding {
         end,
         out: TOLD,
         err,
     };
     let input = Input::whole(FIVE.as_bytes());
-    let command = Command::Answer(Version::One, input);
-    fills(alloc, command, Slow::new(alloc, room), &wanted)
+    let command = PrintedCommand::Answer(Version::One, input);
+    fills(alloc, command, SlowWriter::new(alloc, room), &wanted)
 }
 
 #[test]

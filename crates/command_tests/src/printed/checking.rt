@@ -1,24 +1,24 @@
 //! The texts of galleys and faults, of the whole command.
 
 use super::failing::Input;
-use super::running::{Command, Ending, comes_to};
+use super::running::{CommandEnding, PrintedCommand, comes_to};
 use command_ends::End;
 use fixtures::{CODES, FLOOD, HARVEST, LIGATURE, OVERSET, WIDTHS};
 use std::alloc::Global;
 
 /// `check` of these files and this tape.
-fn check_of<'a>(files: (&'a str, &'a str), tape: &'a [u8], listing: bool) -> Command<'a> {
+fn check_of<'a>(files: (&'a str, &'a str), tape: &'a [u8], listing: bool) -> PrintedCommand<'a> {
     let inputs = (
         Input::whole(files.0.as_bytes()),
         Input::whole(files.1.as_bytes()),
         Input::whole(tape),
     );
-    Command::Check(inputs, listing)
+    PrintedCommand::Check(inputs, listing)
 }
 
 /// Whether this tape sets as this text.
 fn sets(alloc: Global, tape: &[u8], out: &str) -> bool {
-    let wanted = Ending {
+    let wanted = CommandEnding {
         end: End::Done,
         out,
         err: "",
@@ -28,7 +28,7 @@ fn sets(alloc: Global, tape: &[u8], out: &str) -> bool {
 
 /// Whether these files have this fault, and nothing is printed.
 fn fails(alloc: Global, files: (&str, &str), tape: &[u8], err: &str) -> bool {
-    let wanted = Ending {
+    let wanted = CommandEnding {
         end: End::Input,
         out: "",
         err,
@@ -153,19 +153,19 @@ fn faults_of_changed_widths(rt: HostRuntime) {
 }
 
 /// Whether `check` of this tape with a listing ends so.
-fn lists(alloc: Global, tape: &[u8], wanted: &Ending<'_>) -> bool {
+fn lists(alloc: Global, tape: &[u8], wanted: &CommandEnding<'_>) -> bool {
     comes_to(alloc, check_of((CODES, WIDTHS), tape, true), wanted)
 }
 
 /// The listing of a tape that sets, and of one that does not.
-const LISTED: Ending<'static> = Ending {
+const LISTED: CommandEnding<'static> = CommandEnding {
     end: End::Done,
     out: "o.o... 5\n.o.... 2\nooo... 7\n..o... 4\no..... 1\noo.o.. 11\n..o... 4\n\
 0001 C 10 11 B\n0002 R 22 0 A\n",
     err: "",
 };
 
-const UNFINISHED: Ending<'static> = Ending {
+const UNFINISHED: CommandEnding<'static> = CommandEnding {
     end: End::Input,
     out: "o..... 1\n",
     err: "fault: unfinished at 1 line 1\n",

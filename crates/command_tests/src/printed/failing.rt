@@ -6,7 +6,7 @@ use std::io::{ErrorKind, Read, Write};
 
 /// A writer that takes one byte a call, and at most so many.
 #[derive(Drop)]
-pub struct Slow {
+pub struct SlowWriter {
     pub taken: Vec<u8>,
     pub room: usize,
     /// Whether it tells a call that it has no room for that it was interrupted, and not that it took nothing.
@@ -15,9 +15,9 @@ pub struct Slow {
     pub flushes: bool,
 }
 
-impl Slow {
-    pub fn new(alloc: Global, room: usize) -> Slow {
-        Slow {
+impl SlowWriter {
+    pub fn new(alloc: Global, room: usize) -> SlowWriter {
+        SlowWriter {
             taken: Vec::new(alloc),
             room,
             interrupts: false,
@@ -26,21 +26,21 @@ impl Slow {
     }
 
     /// One that is interrupted where it has no room.
-    pub fn interrupted(alloc: Global, room: usize) -> Slow {
-        let mut out = Slow::new(alloc, room);
+    pub fn interrupted(alloc: Global, room: usize) -> SlowWriter {
+        let mut out = SlowWriter::new(alloc, room);
         out.interrupts = true;
         out
     }
 
     /// One that takes all and hands on nothing.
-    pub fn kept_back(alloc: Global) -> Slow {
-        let mut out = Slow::new(alloc, 1_000_000);
+    pub fn kept_back(alloc: Global) -> SlowWriter {
+        let mut out = SlowWriter::new(alloc, 1_000_000);
         out.flushes = false;
         out
     }
 }
 
-impl Write for Slow {
+impl Write for SlowWriter {
     fn write(&mut self, buf: &[u8]) -> io::Result<usize> {
         if self.room == 0 && self.interrupts {
             return Err(io::Error::from(ErrorKind::Interrupted));

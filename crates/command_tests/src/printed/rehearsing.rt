@@ -1,7 +1,7 @@
 //! Rehearsals: whole printed texts.
 
 use super::failing::Input;
-use super::running::{Command, Ending, comes_to};
+use super::running::{CommandEnding, PrintedCommand, comes_to};
 use command_ends::End;
 use fixtures::{CODES, WIDTHS};
 use std::alloc::Global;
@@ -11,19 +11,19 @@ pub fn ends_over<'a>(
     alloc: Global,
     widths: &'a str,
     script: Input<'a>,
-    wanted: &Ending<'_>,
+    wanted: &CommandEnding<'_>,
 ) -> bool {
     let inputs = (
         Input::whole(CODES.as_bytes()),
         Input::whole(widths.as_bytes()),
         script,
     );
-    comes_to(alloc, Command::Rehearse(inputs), wanted)
+    comes_to(alloc, PrintedCommand::Rehearse(inputs), wanted)
 }
 
 /// Whether this script prints this text and no fault.
 pub fn prints(alloc: Global, script: &str, out: &str) -> bool {
-    let wanted = Ending {
+    let wanted = CommandEnding {
         end: End::Done,
         out,
         err: "",
@@ -33,7 +33,7 @@ pub fn prints(alloc: Global, script: &str, out: &str) -> bool {
 
 /// Whether this script prints this text, and then this fault of an input.
 pub fn fails(alloc: Global, script: &str, out: &str, err: &str) -> bool {
-    let wanted = Ending {
+    let wanted = CommandEnding {
         end: End::Input,
         out,
         err,

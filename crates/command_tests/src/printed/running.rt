@@ -1,6 +1,6 @@
 //! `answer`, `check` and `rehearse` over the inputs and writers of the tests: here alone they are called.
 
-use super::failing::{Input, Slow};
+use super::failing::{Input, SlowWriter};
 use super::paths;
 use answer_command::{AcceptorSeat, AnswerOrder, answer};
 use ballots::Member;
@@ -15,7 +15,7 @@ pub type Inputs<'a> = (Input<'a>, Input<'a>, Input<'a>);
 
 /// A command, with its inputs.
 #[derive(Clone, Copy)]
-pub enum Command<'a> {
+pub enum PrintedCommand<'a> {
     /// `check`, with its listing or without.
     Check(Inputs<'a>, bool),
     Rehearse(Inputs<'a>),
@@ -25,7 +25,7 @@ pub enum Command<'a> {
 
 /// How a command has to end, what it has to print, and what it has to tell.
 #[derive(Clone, Copy)]
-pub struct Ending<'a> {
+pub struct CommandEnding<'a> {
     pub end: End,
     pub out: &'a str,
     pub err: &'a str,
@@ -34,7 +34,7 @@ pub struct Ending<'a> {
 fn end_of_check(
     alloc: Global,
     (inputs, listing): (Inputs<'_>, bool),
-    out: &mut Slow,
+    out: &mut SlowWriter,
     err: &mut Vec<u8>,
 ) -> End {
     let (table, widths, tape) = inputs;
@@ -48,7 +48,12 @@ fn end_of_check(
     check(alloc, order, out, err)
 }
 
-fn end_of_rehearse(alloc: Global, inputs: Inputs<'_>, out: &mut Slow, err: &mut Vec<u8>) -> End {
+fn end_of_rehearse(
+    alloc: Global,
+    inputs: Inputs<'_>,
+    out: &mut SlowWriter,
+    err: &mut Vec<u8>,
+) -> End {
     let (table, widths, script) = inputs;
     let order = RehearsalOrder {
         paths: &paths::OF_SCRIPT,
@@ -62,7 +67,7 @@ fn end_of_rehearse(alloc: Global, inputs: Inputs<'_>, out: &mut Slow, err: &mut 
 fn end_of_answer(
     alloc: Global,
     (wire, input): (Version, Input<'_>),
-    out: &mut Slow,
+    out: &mut SlowWriter,
     err: &mut Vec<u8>,
 ) -> Option<End> {
     let seat = AcceptorSeat {
@@ -74,16 +79,31 @@ fn end_of_answer(
 }
 
 /// How a command over this writer ends.
-fn end_of(alloc: Global, command: Command<'_>, out: &mut Slow, err: &mut Vec<u8>) -> Option<End> {
+fn end_of(
+    alloc: Global,
+    command: PrintedCommand<'_>,
+    out: &mut SlowWriter,
+    err: &mut Vec<u8>,
+) -> Option<End> {
     match command {
-        Command::Check(inputs, listing) => Some(end_of_check(alloc, (inputs, listing), out, err)),
-        Command::Rehearse(inputs) => Some(end_of_rehearse(alloc, inputs, out, err)),
-        Command::Answer(wire, input) => end_of_answer(alloc, (wire, input), out, err),
+        PrintedCommand::Check(inputs, listing) => Some(end_of_check(
+            alloc,
+            (inputs, listing),
+            out,
+            err,
+        )),
+        PrintedCommand::Rehearse(inputs) => Some(end_of_rehearse(alloc, inputs, out, err)),
+        PrintedCommand::Answer(wire, input) => end_of_answer(alloc, (wire, input), out, err),
     }
 }
 
 /// Whether a command over this writer ends so, with as much of its text written as the writer has room for.
-pub fn fills(alloc: Global, command: Command<'_>, mut out: Slow, wanted: &Ending<'_>) -> bool {
+pub fn fills(
+    alloc: Global,
+    command: PrintedCommand<'_>,
+    mut out: SlowWriter,
+    wanted: &CommandEnding<'_>,
+) -> bool {
     let many = out.room.min(wanted.out.len());
     let mut err = Vec::new(alloc);
     let end = end_of(alloc, command, &mut out, &mut err);
@@ -94,6 +114,6 @@ pub fn fills(alloc: Global, command: Command<'_>, mut out: Slow, wanted: &Ending
 }
 
 /// Whether a command over a writer that takes all ends so, and prints this text and no more.
-pub fn comes_to(alloc: Global, command: Command<'_>, wanted: &Ending<'_>) -> bool {
-    fills(alloc, command, Slow::new(alloc, usize::MAX), wanted)
+pub fn comes_to(alloc: Global, command: PrintedCommand<'_>, wanted: &CommandEnding<'_>) -> bool {
+    fills(alloc, command, SlowWriter::new(alloc, usize::MAX), wanted)
 }

@@ -2,24 +2,24 @@
 
 use super::failing::Input;
 use super::rehearsing::{ends_over, fails, prints};
-use super::running::Ending;
+use super::running::CommandEnding;
 use command_ends::End;
 use fixtures::WIDTHS;
 use std::alloc::Global;
 
 /// What a line of a script is refused for.
 #[derive(Clone, Copy)]
-enum What {
+enum LineRefusal {
     BadLine,
     BadTape,
     NoSuchMember,
     NoSuchDatagram,
 }
 
-use What::{BadLine, BadTape, NoSuchDatagram, NoSuchMember};
+use LineRefusal::{BadLine, BadTape, NoSuchDatagram, NoSuchMember};
 
 /// The words by which it is told.
-fn words_of(what: What) -> &'static str {
+fn words_of(what: LineRefusal) -> &'static str {
     match what {
         BadLine => "bad line",
         BadTape => "bad tape",
@@ -29,10 +29,10 @@ fn words_of(what: What) -> &'static str {
 }
 
 /// The number of a faulty line, from 1, and what it is refused for.
-type Faulty = (u32, What);
+type FaultyLine = (u32, LineRefusal);
 
 /// Whether this script prints this text and stops at this line.
-fn stops(alloc: Global, script: &str, out: &str, faulty: Faulty) -> bool {
+fn stops(alloc: Global, script: &str, out: &str, faulty: FaultyLine) -> bool {
     let (line, what) = (faulty.0, words_of(faulty.1));
     match format!(in alloc; "script line {line}: {what}\n") {
         Ok(fault) => fails(alloc, script, out, &fault),
@@ -76,7 +76,7 @@ offer 9 12 0g
 offer 9 12 010";
 
 /// Whether this line behind the circuit's is refused for this, and nothing is printed.
-fn is_refused(alloc: Global, line: &str, what: What) -> bool {
+fn is_refused(alloc: Global, line: &str, what: LineRefusal) -> bool {
     match format!(in alloc; "members 3\n{line}\n") {
         Ok(script) => stops(alloc, &script, "", (2, what)),
         Err(_) => false,
@@ -98,7 +98,7 @@ fn lines_that_ask_for_nothing(rt: HostRuntime) {
 }
 
 /// Faulty lines, none after a printed text.
-const FAULTY: &[(&str, Faulty)] = &[
+const FAULTY: &[(&str, FaultyLine)] = &[
     ("members 3\nmembers 3\n", (2, BadLine)),
     ("members 16\n", (1, BadLine)),
     ("members 0\n", (1, BadLine)),
@@ -138,7 +138,7 @@ fn faulty_lines(rt: HostRuntime) {
 }
 
 /// Scripts whose third line is faulty, behind one that printed this.
-const PRINTED: &[(&str, Faulty)] = &[
+const PRINTED: &[(&str, FaultyLine)] = &[
     ("members 1\ndue 1\ndeliver 1\ndue 1\n", (3, NoSuchDatagram)),
     // The version comes too late.
     ("members 1\ndue 1\nwire 2\ndue 1\n", (3, BadLine)),
@@ -211,7 +211,7 @@ fn long_tapes(rt: HostRuntime) {
 
 /// Whether a script of this reader, with these widths, ends so, with nothing printed and this fault.
 fn ends<'a>(alloc: Global, (widths, script): (&'a str, Input<'a>), end: End, err: &str) -> bool {
-    let wanted = Ending { end, out: "", err };
+    let wanted = CommandEnding { end, out: "", err };
     ends_over(alloc, widths, script, &wanted)
 }
 

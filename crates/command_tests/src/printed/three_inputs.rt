@@ -1,7 +1,7 @@
 //! The three inputs of `check` and of `rehearse`: which is read first, which can't be read, and which is too long.
 
 use super::failing::Input;
-use super::running::{Command, Ending, comes_to};
+use super::running::{CommandEnding, PrintedCommand, comes_to};
 use command_ends::End;
 use fixtures::{CODES, WIDTHS};
 use std::alloc::Global;
@@ -111,10 +111,10 @@ fn tells(alloc: Global, which: Which, sources: Sources, text: &str) -> bool {
         sources.2.reader(&last),
     );
     let command = match which {
-        Which::Check => Command::Check(inputs, false),
-        Which::Rehearse => Command::Rehearse(inputs),
+        Which::Check => PrintedCommand::Check(inputs, false),
+        Which::Rehearse => PrintedCommand::Rehearse(inputs),
     };
-    let wanted = Ending {
+    let wanted = CommandEnding {
         end: End::Input,
         out: "",
         err: text,

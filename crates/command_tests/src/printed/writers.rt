@@ -1,7 +1,7 @@
 //! Writers that stop, are interrupted or hand nothing on: the command ends by that, with a front written.
 
-use super::failing::{Input, Slow};
-use super::running::{Command, Ending, fills};
+use super::failing::{Input, SlowWriter};
+use super::running::{CommandEnding, PrintedCommand, fills};
 use command_ends::End;
 use fixtures::{CODES, HARVEST, WIDTHS};
 use std::alloc::Global;
@@ -10,7 +10,7 @@ use tape_frames::Version;
 
 /// Whether a writer that is interrupted behind so many bytes has this front of a text, and is not asked again.
 fn is_interrupted(alloc: Global, room: usize, front: &[u8]) -> bool {
-    let mut out = Slow::interrupted(alloc, room);
+    let mut out = SlowWriter::interrupted(alloc, room);
     put_all(&mut out, b"slugs").is_err() && out.taken.as_slice() == front
 }
 
@@ -49,54 +49,57 @@ const ANSWERED: &str = "544e0102000702010000000c000000010100\n\
 
 /// A command: whether `check` prints its listing, the script that is rehearsed.
 #[derive(Clone, Copy)]
-enum Work {
+enum WriterWork {
     Check(bool),
     Rehearse(&'static str),
     Answer,
 }
 
 /// A command with its inputs, which are those of the examples.
-fn command_of(work: Work) -> Command<'static> {
+fn command_of(work: WriterWork) -> PrintedCommand<'static> {
     let table = Input::whole(CODES.as_bytes());
     let widths = Input::whole(WIDTHS.as_bytes());
     match work {
-        Work::Check(listing) => Command::Check((table, widths, Input::whole(HARVEST)), listing),
-        Work::Rehearse(script) => {
-            Command::Rehearse((table, widths, Input::whole(script.as_bytes())))
+        WriterWork::Check(listing) => PrintedCommand::Check(
+            (table, widths, Input::whole(HARVEST)),
+            listing,
+        ),
+        WriterWork::Rehearse(script) => {
+            PrintedCommand::Rehearse((table, widths, Input::whole(script.as_bytes())))
         }
-        Work::Answer => Command::Answer(Version::One, Input::whole(ASKED.as_bytes())),
+        WriterWork::Answer => PrintedCommand::Answer(Version::One, Input::whole(ASKED.as_bytes())),
     }
 }
 
 /// The place of the first writer over which a command does not end as it has to: two with room for the whole text, of
 /// which the second hands nothing on, and those with less room, which take nothing more or are interrupted.
-fn first_wrong(alloc: Global, work: Work, text: &str) -> Option<usize> {
+fn first_wrong(alloc: Global, work: WriterWork, text: &str) -> Option<usize> {
     let (all, command) = (text.len(), command_of(work));
-    let done = Ending {
+    let done = CommandEnding {
         end: End::Done,
         out: text,
         err: "",
     };
-    let cannot_write = Ending {
+    let cannot_write = CommandEnding {
         end: End::Input,
         out: text,
         err: "cannot write\n",
     };
-    if !fills(alloc, command, Slow::new(alloc, all), &done)
-        || !fills(alloc, command, Slow::kept_back(alloc), &cannot_write)
+    if !fills(alloc, command, SlowWriter::new(alloc, all), &done)
+        || !fills(alloc, command, SlowWriter::kept_back(alloc), &cannot_write)
     {
         return Some(all);
     }
-    (0..all).find(|room| !fills(alloc, command, Slow::new(alloc, *room), &cannot_write))
+    (0..all).find(|room| !fills(alloc, command, SlowWriter::new(alloc, *room), &cannot_write))
 }
 
-const WORKS: &[(Work, &str)] = &[
-    (Work::Check(false), CHECKED),
-    (Work::Check(true), LISTED),
-    (Work::Rehearse(SEARCH), SEARCHED),
-    (Work::Rehearse(OFFER), RELEASED),
-    (Work::Rehearse(WITHDRAWAL), WITHDRAWN),
-    (Work::Answer, ANSWERED),
+const WORKS: &[(WriterWork, &str)] = &[
+    (WriterWork::Check(false), CHECKED),
+    (WriterWork::Check(true), LISTED),
+    (WriterWork::Rehearse(SEARCH), SEARCHED),
+    (WriterWork::Rehearse(OFFER), RELEASED),
+    (WriterWork::Rehearse(WITHDRAWAL), WITHDRAWN),
+    (WriterWork::Answer, ANSWERED),
 ];
 
 #[test]

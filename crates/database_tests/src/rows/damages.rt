@@ -7,10 +7,10 @@ use std::alloc::Global;
 const DAMAGED: RowsFault = RowsFault::Damaged { number: 12 };
 
 /// What is done to the tables, and the fault with which the rows are then refused.
-type Change = (&'static str, RowsFault);
+type Damage = (&'static str, RowsFault);
 
 /// Those of layout 1.
-const CHANGES: &[Change] = &[
+const CHANGES: &[Damage] = &[
     // The vote is above its promise.
     (
         "INSERT INTO acceptor_row VALUES (12, 1, 1, 2, 1, x'01')",
@@ -76,7 +76,7 @@ const CHANGES: &[Change] = &[
 ];
 
 /// Those of layout 2.
-const CHANGES_TWO: &[Change] = &[
+const CHANGES_TWO: &[Damage] = &[
     // A bit behind the last frame is set.
     (
         "INSERT INTO acceptor_entry VALUES (12, 1, 1, 1, 1, 1, x'05')",
@@ -158,7 +158,7 @@ const CHANGES_TWO: &[Change] = &[
 ];
 
 /// Whether the rows of a database are refused with this fault after this change of its tables.
-fn is_refused(alloc: Global, change: &Change, made: &Session, opened: &Session) -> bool {
+fn is_refused(alloc: Global, change: &Damage, made: &Session, opened: &Session) -> bool {
     let changed = Session {
         statements: change.0,
         refusal: Some(change.1),

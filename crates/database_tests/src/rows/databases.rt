@@ -1,16 +1,18 @@
 //! Rows in databases: made, saved, taken up again, and refused.
 
-use crate::rows::deeds::Deed;
+use crate::rows::deeds::RowsDeed;
 use crate::rows::identities::OTHER;
 use crate::rows::memory::TWO;
-use crate::rows::samples::{Choice, PROMISED, Sample, VOTED};
-use crate::rows::sessions::{Listing, MADE, MADE_TWO, Manner, OPENED, Session, first_amiss};
+use crate::rows::samples::{PROMISED, RowSample, VOTED, VoteChoice};
+use crate::rows::sessions::{
+    MADE, MADE_TWO, OPENED, OpenManner, Session, SessionListing, first_amiss,
+};
 use rows_saved::RowsFault;
 
 /// What the two rows of `TWO` are listed as.
-pub const BOTH: Listing = Listing::Rows(&[(3, PROMISED), (12, VOTED)]);
+pub const BOTH: SessionListing = SessionListing::Rows(&[(3, PROMISED), (12, VOTED)]);
 
-pub const READ: &[Deed] = &[Deed::Get(12, Some(VOTED))];
+pub const READ: &[RowsDeed] = &[RowsDeed::Get(12, Some(VOTED))];
 
 /// The rows are made, and two are saved.
 pub const SAVED: Session = Session {
@@ -21,7 +23,7 @@ pub const SAVED: Session = Session {
 
 /// The rows are taken up, whoever's they are, and the two are there.
 const AGAIN: Session = Session {
-    manner: Manner::Open(None),
+    manner: OpenManner::Open(None),
     deeds: READ,
     listing: BOTH,
     ..MADE
@@ -31,7 +33,7 @@ const AGAIN: Session = Session {
 const COPIED: &[Session] = &[
     SAVED,
     Session {
-        deeds: &[Deed::Copy(12, VOTED)],
+        deeds: &[RowsDeed::Copy(12, VOTED)],
         ..AGAIN
     },
 ];
@@ -45,7 +47,7 @@ const TAKEN_UP: &[Session] = &[
         ..OPENED
     },
     Session {
-        manner: Manner::Open(Some(OTHER)),
+        manner: OpenManner::Open(Some(OTHER)),
         refusal: Some(RowsFault::WrongStation),
         ..MADE
     },
@@ -81,7 +83,7 @@ const BESIDE_ANOTHER: &[Session] = &[
 
 /// A database without the tables.
 const EMPTY: &[Session] = &[Session {
-    manner: Manner::Open(None),
+    manner: OpenManner::Open(None),
     refusal: Some(RowsFault::Store),
     ..MADE
 }];
@@ -96,27 +98,27 @@ const BELOW_100: &str =
 const STOPPED: &[Session] = &[
     Session {
         statements: BELOW_100,
-        manner: Manner::Open(None),
+        manner: OpenManner::Open(None),
         deeds: &[
-            Deed::Put(12, PROMISED, None),
-            Deed::Put(100, PROMISED, Some(RowsFault::Store)),
-            Deed::Refused(12, RowsFault::Store),
-            Deed::Put(12, PROMISED, Some(RowsFault::Store)),
+            RowsDeed::Put(12, PROMISED, None),
+            RowsDeed::Put(100, PROMISED, Some(RowsFault::Store)),
+            RowsDeed::Refused(12, RowsFault::Store),
+            RowsDeed::Put(12, PROMISED, Some(RowsFault::Store)),
         ],
-        listing: Listing::Refused(RowsFault::Store),
+        listing: SessionListing::Refused(RowsFault::Store),
         ..MADE
     },
     Session {
-        manner: Manner::Open(None),
-        deeds: &[Deed::Get(12, Some(PROMISED))],
-        listing: Listing::Rows(&[(12, PROMISED)]),
+        manner: OpenManner::Open(None),
+        deeds: &[RowsDeed::Get(12, Some(PROMISED))],
+        listing: SessionListing::Rows(&[(12, PROMISED)]),
         ..MADE
     },
 ];
 
 /// A promise of 1.1 beside a vote at it for the frame 63.
-const LAST: Sample = Sample {
-    vote: Some(((1, 1), Choice::Last)),
+const LAST: RowSample = RowSample {
+    vote: Some(((1, 1), VoteChoice::Last)),
     ..PROMISED
 };
 
@@ -125,8 +127,8 @@ const STATED: &[Session] = &[
     MADE,
     Session {
         statements: "INSERT INTO acceptor_row VALUES (999999, 1, 1, 1, 1, x'3f')",
-        deeds: &[Deed::Get(999_999, Some(LAST))],
-        listing: Listing::Rows(&[(999_999, LAST)]),
+        deeds: &[RowsDeed::Get(999_999, Some(LAST))],
+        listing: SessionListing::Rows(&[(999_999, LAST)]),
         ..OPENED
     },
 ];
@@ -134,13 +136,13 @@ const STATED: &[Session] = &[
 /// The longest tape of layout 1 is saved, and is there again.
 const LONGEST: &[Session] = &[
     Session {
-        deeds: &[Deed::PutLong(12, 4096), Deed::GetLong(12, 4096)],
-        listing: Listing::Count(1),
+        deeds: &[RowsDeed::PutLong(12, 4096), RowsDeed::GetLong(12, 4096)],
+        listing: SessionListing::Count(1),
         ..MADE
     },
     Session {
-        deeds: &[Deed::GetLong(12, 4096)],
-        listing: Listing::Count(1),
+        deeds: &[RowsDeed::GetLong(12, 4096)],
+        listing: SessionListing::Count(1),
         ..OPENED
     },
 ];
@@ -150,8 +152,8 @@ const LONGEST_STATED: &[Session] = &[
     MADE,
     Session {
         frames: 4096,
-        deeds: &[Deed::GetLong(12, 4096)],
-        listing: Listing::Count(1),
+        deeds: &[RowsDeed::GetLong(12, 4096)],
+        listing: SessionListing::Count(1),
         ..OPENED
     },
 ];

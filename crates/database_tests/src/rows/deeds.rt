@@ -1,7 +1,7 @@
 //! What is done to saved rows of any kind, and what has to come of it.
 
 use crate::rows::samples::{
-    Sample, is_copied, is_long_copied, is_long_row, is_row, long_row, row_of,
+    RowSample, is_copied, is_long_copied, is_long_row, is_row, long_row, row_of,
 };
 use ballots::{Number, Row};
 use rows_saved::{Rows, RowsFault};
@@ -10,15 +10,15 @@ use tape_frames::Version;
 
 /// One call, with what it has to answer.
 #[derive(Clone, Copy)]
-pub enum Deed {
+pub enum RowsDeed {
     /// A row is saved under this number, or the save is refused so.
-    Put(u32, Sample, Option<RowsFault>),
+    Put(u32, RowSample, Option<RowsFault>),
     /// Such a row is saved under each number up to this.
-    PutEach(u32, Sample),
+    PutEach(u32, RowSample),
     /// A row is read under this number; the blank one with `None`.
-    Get(u32, Option<Sample>),
+    Get(u32, Option<RowSample>),
     /// The row under this number is read, and copied.
-    Copy(u32, Sample),
+    Copy(u32, RowSample),
     /// The reading of this number is refused so.
     Refused(u32, RowsFault),
     /// A row with a tape of this many frames is saved under this number.
@@ -34,7 +34,7 @@ fn refusal_of<R: Rows>(
     alloc: Global,
     rows: &mut R,
     number: u32,
-    sample: &Sample,
+    sample: &RowSample,
 ) -> Option<Option<RowsFault>> {
     let number = Number::new(number)?;
     let row = row_of(alloc, sample)?;
@@ -55,7 +55,7 @@ fn puts_long<R: Rows>(alloc: Global, rows: &mut R, number: u32, frames: usize) -
 }
 
 /// Whether such a row is saved under each number up to this.
-fn puts_each<R: Rows>(alloc: Global, rows: &mut R, last: u32, sample: &Sample) -> bool {
+fn puts_each<R: Rows>(alloc: Global, rows: &mut R, last: u32, sample: &RowSample) -> bool {
     for number in 1..=last {
         if refusal_of(alloc, rows, number, sample) != Some(None) {
             return false;
@@ -65,52 +65,52 @@ fn puts_each<R: Rows>(alloc: Global, rows: &mut R, last: u32, sample: &Sample) -
 }
 
 /// Whether the row that was read is the one of this deed.
-fn is_read(alloc: Global, row: &Row, deed: &Deed) -> bool {
+fn is_read(alloc: Global, row: &Row, deed: &RowsDeed) -> bool {
     match deed {
-        Deed::Get(_, sample) => is_row(row, sample.as_ref()),
-        Deed::Copy(_, sample) => is_row(row, Some(sample)) && is_copied(alloc, row, sample),
-        Deed::GetLong(_, frames) => is_long_row(row, *frames)
+        RowsDeed::Get(_, sample) => is_row(row, sample.as_ref()),
+        RowsDeed::Copy(_, sample) => is_row(row, Some(sample)) && is_copied(alloc, row, sample),
+        RowsDeed::GetLong(_, frames) => is_long_row(row, *frames)
             && is_long_copied(alloc, row, *frames),
         _ => false,
     }
 }
 
 /// Whether the reading of a number answers as this deed has to.
-fn reads<R: Rows>(alloc: Global, rows: &mut R, number: u32, deed: &Deed) -> bool {
+fn reads<R: Rows>(alloc: Global, rows: &mut R, number: u32, deed: &RowsDeed) -> bool {
     let Some(number) = Number::new(number) else {
         return false;
     };
     match rows.get(number) {
         Ok(row) => is_read(alloc, &row, deed),
-        Err(fault) => matches!(deed, Deed::Refused(_, wanted) if fault == *wanted),
+        Err(fault) => matches!(deed, RowsDeed::Refused(_, wanted) if fault == *wanted),
     }
 }
 
 /// Whether a deed answers as it has to.
-fn is_done<R: Rows>(alloc: Global, rows: &mut R, deed: &Deed) -> bool {
+fn is_done<R: Rows>(alloc: Global, rows: &mut R, deed: &RowsDeed) -> bool {
     match deed {
-        Deed::Put(number, sample, refusal) => {
+        RowsDeed::Put(number, sample, refusal) => {
             refusal_of(alloc, rows, *number, sample) == Some(*refusal)
         }
-        Deed::PutEach(last, sample) => puts_each(alloc, rows, *last, sample),
-        Deed::PutLong(number, frames) => puts_long(alloc, rows, *number, *frames) == Some(true),
-        Deed::Upgrade(refusal, version) => {
+        RowsDeed::PutEach(last, sample) => puts_each(alloc, rows, *last, sample),
+        RowsDeed::PutLong(number, frames) => puts_long(alloc, rows, *number, *frames) == Some(true),
+        RowsDeed::Upgrade(refusal, version) => {
             rows.upgrade().err() == *refusal && rows.version() == *version
         }
-        Deed::Get(number, _)
-        | Deed::Copy(number, _)
-        | Deed::Refused(number, _)
-        | Deed::GetLong(number, _) => reads(alloc, rows, *number, deed),
+        RowsDeed::Get(number, _)
+        | RowsDeed::Copy(number, _)
+        | RowsDeed::Refused(number, _)
+        | RowsDeed::GetLong(number, _) => reads(alloc, rows, *number, deed),
     }
 }
 
 /// Whether each deed answers as it has to.
-pub fn are_done<R: Rows>(alloc: Global, rows: &mut R, deeds: &[Deed]) -> bool {
+pub fn are_done<R: Rows>(alloc: Global, rows: &mut R, deeds: &[RowsDeed]) -> bool {
     done(alloc, rows, deeds) == deeds.len()
 }
 
 /// The place of the first deed that answers otherwise; how many there are where none does.
-pub fn done<R: Rows>(alloc: Global, rows: &mut R, deeds: &[Deed]) -> usize {
+pub fn done<R: Rows>(alloc: Global, rows: &mut R, deeds: &[RowsDeed]) -> usize {
     for (place, deed) in deeds.iter().enumerate() {
         if !is_done(alloc, rows, deed) {
             return place;

@@ -1,12 +1,14 @@
 //! Rows in databases of layout 2, which were made in it.
 
 use crate::rows::databases::{BOTH, READ};
-use crate::rows::deeds::Deed;
+use crate::rows::deeds::RowsDeed;
 use crate::rows::identities::OTHER;
 use crate::rows::memory::TWO;
 use crate::rows::samples::{PROMISED, VOTED, WITHDRAWN};
-use crate::rows::sessions::{Listing, MADE_TWO, Manner, OPENED_TWO, Session, first_amiss};
-use crate::tables::statements::{Found, IN_LAYOUT_TWO, VOTE_OF_12};
+use crate::rows::sessions::{
+    MADE_TWO, OPENED_TWO, OpenManner, Session, SessionListing, first_amiss,
+};
+use crate::tables::statements::{FindsRows, IN_LAYOUT_TWO, VOTE_OF_12};
 use rows_saved::RowsFault;
 use tape_frames::Version;
 
@@ -19,20 +21,20 @@ const TAKEN_UP: &[Session] = &[
     },
     Session {
         deeds: &[
-            Deed::Copy(12, VOTED),
-            Deed::Upgrade(None, Version::Two),
-            Deed::Get(4, None),
+            RowsDeed::Copy(12, VOTED),
+            RowsDeed::Upgrade(None, Version::Two),
+            RowsDeed::Get(4, None),
         ],
         listing: BOTH,
         ..OPENED_TWO
     },
     Session {
-        manner: Manner::Open(Some(OTHER)),
+        manner: OpenManner::Open(Some(OTHER)),
         refusal: Some(RowsFault::WrongStation),
         ..MADE_TWO
     },
     Session {
-        manner: Manner::Open(None),
+        manner: OpenManner::Open(None),
         deeds: READ,
         listing: BOTH,
         ..MADE_TWO
@@ -40,7 +42,7 @@ const TAKEN_UP: &[Session] = &[
 ];
 
 /// How two rows stand in the table: a frame has six bits, and a withdrawal none.
-const STANDING: &[Found] = &[
+const STANDING: &[FindsRows] = &[
     (
         "UPDATE acceptor_entry SET number = number WHERE number = 3 AND promised_round = 1 AND promised_owner = 1 \
 AND vote_round = 1 AND vote_owner = 1 AND length = 0 AND packed = x''",
@@ -54,18 +56,18 @@ AND vote_round = 1 AND vote_owner = 1 AND length = 0 AND packed = x''",
 const WITHDRAWAL: &[Session] = &[
     Session {
         deeds: &[
-            Deed::Put(3, PROMISED, None),
-            Deed::Put(12, VOTED, None),
-            Deed::Put(3, WITHDRAWN, None),
-            Deed::Copy(3, WITHDRAWN),
+            RowsDeed::Put(3, PROMISED, None),
+            RowsDeed::Put(12, VOTED, None),
+            RowsDeed::Put(3, WITHDRAWN, None),
+            RowsDeed::Copy(3, WITHDRAWN),
         ],
-        listing: Listing::Rows(&[(3, WITHDRAWN), (12, VOTED)]),
+        listing: SessionListing::Rows(&[(3, WITHDRAWN), (12, VOTED)]),
         ..MADE_TWO
     },
     Session {
         found: STANDING,
-        deeds: &[Deed::Get(3, Some(WITHDRAWN))],
-        listing: Listing::Rows(&[(3, WITHDRAWN), (12, VOTED)]),
+        deeds: &[RowsDeed::Get(3, Some(WITHDRAWN))],
+        listing: SessionListing::Rows(&[(3, WITHDRAWN), (12, VOTED)]),
         ..OPENED_TWO
     },
 ];
@@ -73,13 +75,13 @@ const WITHDRAWAL: &[Session] = &[
 /// The longest tape of all is saved, and is there again.
 const LONGEST: &[Session] = &[
     Session {
-        deeds: &[Deed::PutLong(12, 16_384), Deed::GetLong(12, 16_384)],
-        listing: Listing::Count(1),
+        deeds: &[RowsDeed::PutLong(12, 16_384), RowsDeed::GetLong(12, 16_384)],
+        listing: SessionListing::Count(1),
         ..MADE_TWO
     },
     Session {
-        deeds: &[Deed::GetLong(12, 16_384)],
-        listing: Listing::Count(1),
+        deeds: &[RowsDeed::GetLong(12, 16_384)],
+        listing: SessionListing::Count(1),
         ..OPENED_TWO
     },
 ];
@@ -89,8 +91,8 @@ const LONGEST_STATED: &[Session] = &[
     MADE_TWO,
     Session {
         frames: 16_384,
-        deeds: &[Deed::GetLong(12, 16_384)],
-        listing: Listing::Count(1),
+        deeds: &[RowsDeed::GetLong(12, 16_384)],
+        listing: SessionListing::Count(1),
         ..OPENED_TWO
     },
 ];

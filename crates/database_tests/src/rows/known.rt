@@ -1,10 +1,10 @@
 //! Which numbers have a saved row, and which of these rows have a vote.
 
 use crate::rows::databases::BOTH;
-use crate::rows::deeds::Deed;
+use crate::rows::deeds::RowsDeed;
 use crate::rows::memory::PUT_TWO;
-use crate::rows::samples::{PROMISED, Sample, VOTED};
-use crate::rows::sessions::{Listing, MADE, MADE_TWO, OPENED, Session, first_amiss};
+use crate::rows::samples::{PROMISED, RowSample, VOTED};
+use crate::rows::sessions::{MADE, MADE_TWO, OPENED, Session, SessionListing, first_amiss};
 use acceptor_store::SqliteRows;
 use ballots::Number;
 use gone_out::Known;
@@ -28,7 +28,7 @@ fn are_as_many(known: &Known, rows: usize, votes: usize) -> bool {
 }
 
 /// Whether just the numbers of these rows are known.
-fn are_those(known: &Known, wanted: &[(u32, Sample)]) -> bool {
+fn are_those(known: &Known, wanted: &[(u32, RowSample)]) -> bool {
     let mut votes: usize = 0;
     for (number, sample) in wanted {
         if !is_among(known, *number, sample.vote.is_some()) {
@@ -55,13 +55,13 @@ fn are_first(known: &Known, rows: u32, votes: u32) -> bool {
 pub fn is_known<S: Alter + Drop>(
     alloc: Global,
     rows: &mut SqliteRows<S>,
-    listing: &Listing,
+    listing: &SessionListing,
 ) -> bool {
     match (known_rows(alloc, rows), listing) {
-        (Ok(known), Listing::Rows(wanted)) => are_those(&known, wanted),
-        (Ok(known), Listing::First { rows, votes }) => are_first(&known, *rows, *votes),
-        (Ok(known), Listing::Count(count)) => known.rows.len() as usize == *count,
-        (Err(fault), Listing::Refused(wanted)) => fault == *wanted,
+        (Ok(known), SessionListing::Rows(wanted)) => are_those(&known, wanted),
+        (Ok(known), SessionListing::First { rows, votes }) => are_first(&known, *rows, *votes),
+        (Ok(known), SessionListing::Count(count)) => known.rows.len() as usize == *count,
+        (Err(fault), SessionListing::Refused(wanted)) => fault == *wanted,
         _ => false,
     }
 }
@@ -77,15 +77,18 @@ const FEW: &[Session] = &[
 ];
 
 const LAST: &[Session] = &[Session {
-    deeds: &[Deed::Put(999_999, PROMISED, None)],
-    listing: Listing::Rows(&[(999_999, PROMISED)]),
+    deeds: &[RowsDeed::Put(999_999, PROMISED, None)],
+    listing: SessionListing::Rows(&[(999_999, PROMISED)]),
     ..MADE_TWO
 }];
 
 /// Of 300 numbers the first 200 have a vote.
 const MANY: &[Session] = &[Session {
-    deeds: &[Deed::PutEach(300, PROMISED), Deed::PutEach(200, VOTED)],
-    listing: Listing::First {
+    deeds: &[
+        RowsDeed::PutEach(300, PROMISED),
+        RowsDeed::PutEach(200, VOTED),
+    ],
+    listing: SessionListing::First {
         rows: 300,
         votes: 200,
     },

@@ -1,18 +1,19 @@
 //! What `rows` and `upgrade` print, and where they stop.
 
 use crate::rows::databases::BOTH;
-use crate::rows::deeds::Deed;
+use crate::rows::deeds::RowsDeed;
 use crate::rows::memory::PUT_TWO;
 use crate::rows::samples::{PROMISED, VOTED, WITHDRAWN};
 use crate::rows::sessions::{
-    Command, Listing, MADE, Manner, OPENED, OPENED_TWO, Print, Session, first_amiss,
+    MADE, OPENED, OPENED_TWO, OpenManner, Print, Session, SessionCommand, SessionListing,
+    first_amiss,
 };
 use command_ends::End;
 use rows_saved::RowsFault;
 
 /// The listing of no rows, and of two.
 const NO_ROWS: Print = Print {
-    command: Command::Rows,
+    command: SessionCommand::Rows,
     room: 1000,
     text: "station 2 of 3 circuit 7\n",
     end: End::Done,
@@ -73,8 +74,8 @@ const DAMAGED: &[Session] = &[
         ..OPENED
     },
     Session {
-        deeds: &[Deed::Put(12, PROMISED, None)],
-        listing: Listing::Refused(RowsFault::Damaged { number: 12 }),
+        deeds: &[RowsDeed::Put(12, PROMISED, None)],
+        listing: SessionListing::Refused(RowsFault::Damaged { number: 12 }),
         prints: &[Print {
             text: "",
             end: End::Store,
@@ -95,12 +96,12 @@ CREATE TABLE acceptor_row (number INTEGER PRIMARY KEY, promised_round INTEGER, p
 const DAMAGED_LATER: &[Session] = &[Session {
     statements: DAMAGING_VOTES,
     deeds: &[
-        Deed::Put(3, PROMISED, None),
-        Deed::Put(12, VOTED, None),
-        Deed::Put(13, PROMISED, None),
-        Deed::Put(14, VOTED, None),
+        RowsDeed::Put(3, PROMISED, None),
+        RowsDeed::Put(12, VOTED, None),
+        RowsDeed::Put(13, PROMISED, None),
+        RowsDeed::Put(14, VOTED, None),
     ],
-    listing: Listing::Refused(RowsFault::Damaged { number: 12 }),
+    listing: SessionListing::Refused(RowsFault::Damaged { number: 12 }),
     prints: &[
         Print {
             text: "station 2 of 3 circuit 7\n3 1.1 - -\n",
@@ -123,9 +124,9 @@ CREATE TABLE acceptor_row (number INTEGER PRIMARY KEY CHECK (number < 100), prom
 /// A save is refused, and nothing is read after it.
 const REFUSED: &[Session] = &[Session {
     statements: REFUSING,
-    manner: Manner::Open(None),
-    deeds: &[Deed::Put(100, PROMISED, Some(RowsFault::Store))],
-    listing: Listing::Refused(RowsFault::Store),
+    manner: OpenManner::Open(None),
+    deeds: &[RowsDeed::Put(100, PROMISED, Some(RowsFault::Store))],
+    listing: SessionListing::Refused(RowsFault::Store),
     prints: &[Print {
         text: "",
         end: End::Store,
@@ -137,7 +138,7 @@ const REFUSED: &[Session] = &[Session {
 
 /// What `upgrade` prints, and a front of it.
 const OVER: Print = Print {
-    command: Command::Upgrade,
+    command: SessionCommand::Upgrade,
     text: "layout 2\n",
     ..NO_ROWS
 };
@@ -164,8 +165,8 @@ const OVER_ONCE: &[Session] = &[
         ..MADE
     },
     Session {
-        deeds: &[Deed::Put(13, WITHDRAWN, None)],
-        listing: Listing::Count(3),
+        deeds: &[RowsDeed::Put(13, WITHDRAWN, None)],
+        listing: SessionListing::Count(3),
         prints: &[THREE_ROWS, OVER, THREE_ROWS],
         ..OPENED_TWO
     },
@@ -201,7 +202,7 @@ const OVER_REFUSED: &[Session] = &[
             BALKED,
             BALKED,
             Print {
-                command: Command::Rows,
+                command: SessionCommand::Rows,
                 ..BALKED
             },
         ],

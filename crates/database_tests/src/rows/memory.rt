@@ -1,22 +1,25 @@
 //! Rows in memory, and rows whose next save is refused.
 
-use crate::rows::deeds::{Deed, are_done, done};
-use crate::rows::samples::{HIGHER, PROMISED, Sample, VOTED, WITHDRAWN, is_row};
+use crate::rows::deeds::{RowsDeed, are_done, done};
+use crate::rows::samples::{HIGHER, PROMISED, RowSample, VOTED, WITHDRAWN, is_row};
 use ballots::Number;
 use rows_saved::{Balky, MemoryRows, Rows, RowsFault};
 use std::alloc::Global;
 use tape_frames::Version;
 
 /// Two rows are saved.
-pub const PUT_TWO: &[Deed] = &[Deed::Put(12, VOTED, None), Deed::Put(3, PROMISED, None)];
+pub const PUT_TWO: &[RowsDeed] = &[
+    RowsDeed::Put(12, VOTED, None),
+    RowsDeed::Put(3, PROMISED, None),
+];
 
 /// Two rows are saved and read back, and none is there under 4.
-pub const TWO: &[Deed] = &[
-    Deed::Put(12, VOTED, None),
-    Deed::Put(3, PROMISED, None),
-    Deed::Get(12, Some(VOTED)),
-    Deed::Get(3, Some(PROMISED)),
-    Deed::Get(4, None),
+pub const TWO: &[RowsDeed] = &[
+    RowsDeed::Put(12, VOTED, None),
+    RowsDeed::Put(3, PROMISED, None),
+    RowsDeed::Get(12, Some(VOTED)),
+    RowsDeed::Get(3, Some(PROMISED)),
+    RowsDeed::Get(4, None),
 ];
 
 /// Whether rows in memory lend the row of 12 as that of a vote, and none of 4.
@@ -29,7 +32,7 @@ fn are_lent(rows: &MemoryRows) -> Option<bool> {
 fn gives_and_takes(alloc: Global, rows: &mut MemoryRows) -> Option<bool> {
     let twelve = Number::new(12)?;
     let row = rows.take(twelve);
-    let taken = is_row(&row, Some(&VOTED)) && are_done(alloc, rows, &[Deed::Get(12, None)]);
+    let taken = is_row(&row, Some(&VOTED)) && are_done(alloc, rows, &[RowsDeed::Get(12, None)]);
     if !row.fits(rows.version()) {
         return None;
     }
@@ -38,12 +41,12 @@ fn gives_and_takes(alloc: Global, rows: &mut MemoryRows) -> Option<bool> {
 }
 
 /// The longest tape of version 1 is saved, and read back before and after an upgrade.
-const LONG: &[Deed] = &[
-    Deed::PutLong(13, 4096),
-    Deed::GetLong(13, 4096),
-    Deed::Upgrade(None, Version::Two),
-    Deed::GetLong(13, 4096),
-    Deed::Get(12, Some(VOTED)),
+const LONG: &[RowsDeed] = &[
+    RowsDeed::PutLong(13, 4096),
+    RowsDeed::GetLong(13, 4096),
+    RowsDeed::Upgrade(None, Version::Two),
+    RowsDeed::GetLong(13, 4096),
+    RowsDeed::Get(12, Some(VOTED)),
 ];
 
 /// Whether two rows are saved in memory, lent, taken out and saved again, and then one with that tape.
@@ -60,9 +63,9 @@ fn in_memory(rt: HostRuntime) {
 }
 
 /// A withdrawal is saved, and read back.
-const WITHDRAWALS: &[Deed] = &[
-    Deed::Put(12, WITHDRAWN, None),
-    Deed::Get(12, Some(WITHDRAWN)),
+const WITHDRAWALS: &[RowsDeed] = &[
+    RowsDeed::Put(12, WITHDRAWN, None),
+    RowsDeed::Get(12, Some(WITHDRAWN)),
 ];
 
 /// How many of these are done with rows at this version: the first, which saves it, only where it fits.
@@ -78,7 +81,7 @@ fn withdrawals(rt: HostRuntime) {
 }
 
 /// The longest tape of all is saved, and read back.
-const LONGEST: &[Deed] = &[Deed::PutLong(13, 16_384), Deed::GetLong(13, 16_384)];
+const LONGEST: &[RowsDeed] = &[RowsDeed::PutLong(13, 16_384), RowsDeed::GetLong(13, 16_384)];
 
 /// How many of these are done with rows at this version: the first, which saves it, only where it fits.
 fn lengthened(alloc: Global, version: Version) -> usize {
@@ -92,64 +95,64 @@ fn longer_tapes(rt: HostRuntime) {
     assert!(rt; lengthened(rt.alloc(), Version::Two) == LONGEST.len());
 }
 
-const LATER: Sample = Sample {
+const LATER: RowSample = RowSample {
     promised: (2, 1),
     ..PROMISED
 };
 
 /// How the rows are armed, one call after another, and what is then done.
-const ARMED: &[(&[bool], &[Deed])] = &[
+const ARMED: &[(&[bool], &[RowsDeed])] = &[
     // The save is refused before it, and the next one is not.
     (
         &[false],
         &[
-            Deed::Put(12, PROMISED, Some(RowsFault::Store)),
-            Deed::Get(12, None),
-            Deed::Put(12, PROMISED, None),
-            Deed::Get(12, Some(PROMISED)),
+            RowsDeed::Put(12, PROMISED, Some(RowsFault::Store)),
+            RowsDeed::Get(12, None),
+            RowsDeed::Put(12, PROMISED, None),
+            RowsDeed::Get(12, Some(PROMISED)),
         ],
     ),
     // It is refused after it.
     (
         &[true],
         &[
-            Deed::Put(12, HIGHER, Some(RowsFault::Store)),
-            Deed::Get(12, Some(HIGHER)),
+            RowsDeed::Put(12, HIGHER, Some(RowsFault::Store)),
+            RowsDeed::Get(12, Some(HIGHER)),
         ],
     ),
     // Of two calls the last counts.
     (
         &[true, false],
         &[
-            Deed::Put(12, LATER, Some(RowsFault::Store)),
-            Deed::Get(12, Some(HIGHER)),
+            RowsDeed::Put(12, LATER, Some(RowsFault::Store)),
+            RowsDeed::Get(12, Some(HIGHER)),
         ],
     ),
     // An upgrade is refused before it.
     (
         &[false],
         &[
-            Deed::Upgrade(Some(RowsFault::Store), Version::One),
-            Deed::Get(12, Some(HIGHER)),
-            Deed::Put(13, VOTED, None),
+            RowsDeed::Upgrade(Some(RowsFault::Store), Version::One),
+            RowsDeed::Get(12, Some(HIGHER)),
+            RowsDeed::Put(13, VOTED, None),
         ],
     ),
     // It is refused after it.
     (
         &[true],
         &[
-            Deed::Upgrade(Some(RowsFault::Store), Version::Two),
-            Deed::Get(12, Some(HIGHER)),
-            Deed::Put(13, WITHDRAWN, None),
+            RowsDeed::Upgrade(Some(RowsFault::Store), Version::Two),
+            RowsDeed::Get(12, Some(HIGHER)),
+            RowsDeed::Put(13, WITHDRAWN, None),
         ],
     ),
     // At version 2 too, and the next one is not.
     (
         &[false],
         &[
-            Deed::Upgrade(Some(RowsFault::Store), Version::Two),
-            Deed::Upgrade(None, Version::Two),
-            Deed::Get(13, Some(WITHDRAWN)),
+            RowsDeed::Upgrade(Some(RowsFault::Store), Version::Two),
+            RowsDeed::Upgrade(None, Version::Two),
+            RowsDeed::Get(13, Some(WITHDRAWN)),
         ],
     ),
 ];
@@ -171,7 +174,7 @@ fn are_refused(alloc: Global, rows: &mut Balky<MemoryRows>) -> bool {
 fn gives_up(alloc: Global, rows: Balky<MemoryRows>) -> Option<bool> {
     let lent = rows.rows().row(Number::new(12)?).is_some();
     let mut inner = rows.into_rows();
-    Some(lent && are_done(alloc, &mut inner, &[Deed::Get(12, Some(HIGHER))]))
+    Some(lent && are_done(alloc, &mut inner, &[RowsDeed::Get(12, Some(HIGHER))]))
 }
 
 /// Whether armed rows refuse as they are armed, and give up what is in them.

@@ -10,7 +10,7 @@ use tape_frames::{Entry, EntryRef, Tape};
 
 /// What a vote is for.
 #[derive(Clone, Copy)]
-pub enum Choice {
+pub enum VoteChoice {
     /// A withdrawal.
     Withdrawal,
     /// The tape of the frames 1 2 4.
@@ -21,46 +21,46 @@ pub enum Choice {
     Flood,
 }
 
-impl Choice {
+impl VoteChoice {
     /// The frames of its tape, of which a withdrawal has none.
     fn frames(self) -> &'static [u8] {
         match self {
-            Choice::Withdrawal => &[],
-            Choice::Short => &[1, 2, 4],
-            Choice::Last => &[63],
-            Choice::Flood => FLOOD,
+            VoteChoice::Withdrawal => &[],
+            VoteChoice::Short => &[1, 2, 4],
+            VoteChoice::Last => &[63],
+            VoteChoice::Flood => FLOOD,
         }
     }
 }
 
 /// A row that is no blank one: its promise, and its vote, if any, at a ballot and for what it chooses.
 #[derive(Clone, Copy)]
-pub struct Sample {
+pub struct RowSample {
     pub promised: (u32, u8),
-    pub vote: Option<((u32, u8), Choice)>,
+    pub vote: Option<((u32, u8), VoteChoice)>,
 }
 
 /// A promise of 1.1 alone.
-pub const PROMISED: Sample = Sample {
+pub const PROMISED: RowSample = RowSample {
     promised: (1, 1),
     vote: None,
 };
 
 /// A promise of 1.3 alone.
-pub const HIGHER: Sample = Sample {
+pub const HIGHER: RowSample = RowSample {
     promised: (1, 3),
     ..PROMISED
 };
 
 /// A promise of 1.3 beside a vote at 1.1 for the frames 1 2 4.
-pub const VOTED: Sample = Sample {
-    vote: Some(((1, 1), Choice::Short)),
+pub const VOTED: RowSample = RowSample {
+    vote: Some(((1, 1), VoteChoice::Short)),
     ..HIGHER
 };
 
 /// A promise of 1.1 beside a vote at it for a withdrawal.
-pub const WITHDRAWN: Sample = Sample {
-    vote: Some(((1, 1), Choice::Withdrawal)),
+pub const WITHDRAWN: RowSample = RowSample {
+    vote: Some(((1, 1), VoteChoice::Withdrawal)),
     ..PROMISED
 };
 
@@ -78,7 +78,7 @@ fn entry_of(alloc: Global, frames: &[u8]) -> Option<Entry> {
 }
 
 /// The row of a sample; `None` where it is none, or memory was refused.
-pub fn row_of(alloc: Global, sample: &Sample) -> Option<Row>
+pub fn row_of(alloc: Global, sample: &RowSample) -> Option<Row>
     ensures { IfSome result HasPromise }
 {
     let promise = ballot_of(sample.promised)?;
@@ -107,7 +107,7 @@ fn is_vote(vote: &Vote, numbers: (u32, u8), frames: &[u8]) -> bool {
 }
 
 /// Whether a row is this one; the blank one with `None`.
-pub fn is_row(row: &Row, sample: Option<&Sample>) -> bool {
+pub fn is_row(row: &Row, sample: Option<&RowSample>) -> bool {
     let Some(sample) = sample else {
         return row.promised().is_none() && row.vote().is_none();
     };
@@ -128,7 +128,7 @@ fn is_vote_copied(alloc: Global, vote: &Vote) -> bool {
 }
 
 /// Whether a copy of a row is this one, and a copy of its vote is its vote.
-pub fn is_copied(alloc: Global, row: &Row, sample: &Sample) -> bool {
+pub fn is_copied(alloc: Global, row: &Row, sample: &RowSample) -> bool {
     let voted = match row.vote() {
         None => false,
         Some(vote) => is_vote_copied(alloc, vote),

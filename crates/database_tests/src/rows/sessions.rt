@@ -1,10 +1,10 @@
 //! Rows in a database in memory, made or taken up one time after another.
 
-use crate::rows::deeds::{Deed, are_done};
+use crate::rows::deeds::{RowsDeed, are_done};
 use crate::rows::identities::STATION;
 use crate::rows::known::is_known;
-use crate::rows::samples::{Sample, is_row};
-use crate::tables::statements::{Found, finds, save_long};
+use crate::rows::samples::{RowSample, is_row};
+use crate::tables::statements::{FindsRows, finds, save_long};
 use crate::tables::visitors::are_shown;
 use acceptor_store::SqliteRows;
 use ballots::{Number, Row};
@@ -19,7 +19,7 @@ use tape_frames::Version;
 
 /// How the rows come out of a database.
 #[derive(Clone, Copy)]
-pub enum Manner {
+pub enum OpenManner {
     /// Made, for the station.
     Create,
     /// Taken up, where they are this station's, if one is given.
@@ -28,9 +28,9 @@ pub enum Manner {
 
 /// What is then listed.
 #[derive(Clone, Copy)]
-pub enum Listing {
+pub enum SessionListing {
     /// These numbers and rows.
-    Rows(&'static [(u32, Sample)]),
+    Rows(&'static [(u32, RowSample)]),
     /// So many rows.
     Count(usize),
     /// A row of each number from 1 on, so many, and so many of the first of them with a vote.
@@ -41,7 +41,7 @@ pub enum Listing {
 
 /// Which command prints.
 #[derive(Clone, Copy)]
-pub enum Command {
+pub enum SessionCommand {
     Rows,
     Upgrade,
 }
@@ -49,7 +49,7 @@ pub enum Command {
 /// What a command prints to a writer that takes so many bytes: a front of the text, how it ends, and its fault.
 #[derive(Clone, Copy)]
 pub struct Print {
-    pub command: Command,
+    pub command: SessionCommand,
     pub room: usize,
     pub text: &'static str,
     pub end: End,
@@ -63,12 +63,12 @@ pub struct Print {
 pub struct Session {
     pub statements: &'static str,
     pub frames: usize,
-    pub found: &'static [Found],
-    pub manner: Manner,
+    pub found: &'static [FindsRows],
+    pub manner: OpenManner,
     pub version: Version,
     pub refusal: Option<RowsFault>,
-    pub deeds: &'static [Deed],
-    pub listing: Listing,
+    pub deeds: &'static [RowsDeed],
+    pub listing: SessionListing,
     pub prints: &'static [Print],
     pub shows: bool,
 }
@@ -78,18 +78,18 @@ pub const MADE: Session = Session {
     statements: "",
     frames: 0,
     found: &[],
-    manner: Manner::Create,
+    manner: OpenManner::Create,
     version: Version::One,
     refusal: None,
     deeds: &[],
-    listing: Listing::Rows(&[]),
+    listing: SessionListing::Rows(&[]),
     prints: &[],
     shows: false,
 };
 
 /// The rows are taken up for the station, at version 1, and there is none.
 pub const OPENED: Session = Session {
-    manner: Manner::Open(Some(STATION)),
+    manner: OpenManner::Open(Some(STATION)),
     ..MADE
 };
 
@@ -105,7 +105,7 @@ pub const OPENED_TWO: Session = Session {
 };
 
 /// Whether these numbers and rows are those, in their order.
-fn are_rows(rows: &[(Number, Row)], wanted: &[(u32, Sample)]) -> bool {
+fn are_rows(rows: &[(Number, Row)], wanted: &[(u32, RowSample)]) -> bool {
     for ((number, row), (of, sample)) in rows.iter().zip(wanted) {
         if number.get() != *of || !is_row(row, Some(sample)) {
             return false;
@@ -115,24 +115,24 @@ fn are_rows(rows: &[(Number, Row)], wanted: &[(u32, Sample)]) -> bool {
 }
 
 /// Whether what was listed is what is wanted.
-fn is_listed(listed: Result<Vec<(Number, Row)>, RowsFault>, wanted: &Listing) -> bool {
+fn is_listed(listed: Result<Vec<(Number, Row)>, RowsFault>, wanted: &SessionListing) -> bool {
     match (listed, wanted) {
-        (Ok(rows), Listing::Rows(wanted)) => are_rows(rows.as_slice(), wanted),
-        (Ok(rows), Listing::Count(count)) => rows.len() == *count,
-        (Ok(rows), Listing::First { rows: count, .. }) => rows.len() == *count as usize,
-        (Err(fault), Listing::Refused(wanted)) => fault == *wanted,
+        (Ok(rows), SessionListing::Rows(wanted)) => are_rows(rows.as_slice(), wanted),
+        (Ok(rows), SessionListing::Count(count)) => rows.len() == *count,
+        (Ok(rows), SessionListing::First { rows: count, .. }) => rows.len() == *count as usize,
+        (Err(fault), SessionListing::Refused(wanted)) => fault == *wanted,
         _ => false,
     }
 }
 
 /// A writer that takes one byte a call, and at most so many.
 #[derive(Drop)]
-struct Slow {
+struct SlowPrinter {
     taken: Vec<u8>,
     room: usize,
 }
 
-impl Write for Slow {
+impl Write for SlowPrinter {
     fn write(&mut self, buf: &[u8]) -> io::Result<usize> {
         if self.room == 0 {
             return Ok(0);
@@ -154,14 +154,14 @@ impl Write for Slow {
 
 /// Whether a command prints so.
 fn is_printed<S: Alter + Drop>(alloc: Global, rows: &mut SqliteRows<S>, print: &Print) -> bool {
-    let mut out = Slow {
+    let mut out = SlowPrinter {
         taken: Vec::new(alloc),
         room: print.room,
     };
     let mut err = Vec::new(alloc);
     let printed = match print.command {
-        Command::Rows => print_rows(alloc, rows, &mut out),
-        Command::Upgrade => upgrade_rows(rows, &mut out),
+        SessionCommand::Rows => print_rows(alloc, rows, &mut out),
+        SessionCommand::Upgrade => upgrade_rows(rows, &mut out),
     };
     let end = match printed {
         Ok(()) => End::Done,
@@ -212,8 +212,8 @@ fn after(
 ) -> Option<Connection<MemStore>> {
     prepare(alloc, &mut conn, session)?;
     let taken = match session.manner {
-        Manner::Create => SqliteRows::create(alloc, conn, STATION, session.version),
-        Manner::Open(given) => SqliteRows::open(alloc, conn, given),
+        OpenManner::Create => SqliteRows::create(alloc, conn, STATION, session.version),
+        OpenManner::Open(given) => SqliteRows::open(alloc, conn, given),
     };
     match taken {
         Ok(mut rows) => {

@@ -1,18 +1,20 @@
 //! Rows in databases that go over from layout 1 to layout 2.
 
 use crate::rows::databases::{BOTH, READ, SAVED};
-use crate::rows::deeds::Deed;
+use crate::rows::deeds::RowsDeed;
 use crate::rows::identities::OTHER;
 use crate::rows::samples::{PROMISED, VOTED, WITHDRAWN};
-use crate::rows::sessions::{Listing, MADE, Manner, OPENED, OPENED_TWO, Session, first_amiss};
-use crate::tables::statements::{Found, IN_LAYOUT_TWO};
+use crate::rows::sessions::{
+    MADE, OPENED, OPENED_TWO, OpenManner, Session, SessionListing, first_amiss,
+};
+use crate::tables::statements::{FindsRows, IN_LAYOUT_TWO};
 use rows_saved::RowsFault;
 use tape_frames::Version;
 
 const STORE: Option<RowsFault> = Some(RowsFault::Store);
 
 /// Statements that find the rows of layout 1 as they were, and the station in layout 2.
-const AS_THEY_WERE: &[Found] = &[
+const AS_THEY_WERE: &[FindsRows] = &[
     (
         "UPDATE acceptor_row SET number = number WHERE number = 3 AND promised_round = 1 AND promised_owner = 1 \
 AND vote_round IS NULL AND vote_owner IS NULL AND tape IS NULL",
@@ -33,12 +35,12 @@ const WENT_OVER: &[Session] = &[
     SAVED,
     Session {
         deeds: &[
-            Deed::Upgrade(None, Version::Two),
-            Deed::Get(12, Some(VOTED)),
-            Deed::Get(3, Some(PROMISED)),
-            Deed::Get(4, None),
-            Deed::Upgrade(None, Version::Two),
-            Deed::Copy(12, VOTED),
+            RowsDeed::Upgrade(None, Version::Two),
+            RowsDeed::Get(12, Some(VOTED)),
+            RowsDeed::Get(3, Some(PROMISED)),
+            RowsDeed::Get(4, None),
+            RowsDeed::Upgrade(None, Version::Two),
+            RowsDeed::Copy(12, VOTED),
         ],
         listing: BOTH,
         ..OPENED
@@ -50,30 +52,30 @@ const WENT_OVER: &[Session] = &[
         ..OPENED_TWO
     },
     Session {
-        manner: Manner::Open(Some(OTHER)),
+        manner: OpenManner::Open(Some(OTHER)),
         refusal: Some(RowsFault::WrongStation),
         ..OPENED_TWO
     },
     Session {
-        manner: Manner::Open(None),
+        manner: OpenManner::Open(None),
         deeds: &[
-            Deed::Upgrade(None, Version::Two),
-            Deed::Put(4, WITHDRAWN, None),
-            Deed::Put(3, VOTED, None),
+            RowsDeed::Upgrade(None, Version::Two),
+            RowsDeed::Put(4, WITHDRAWN, None),
+            RowsDeed::Put(3, VOTED, None),
         ],
-        listing: Listing::Rows(&[(3, VOTED), (4, WITHDRAWN), (12, VOTED)]),
+        listing: SessionListing::Rows(&[(3, VOTED), (4, WITHDRAWN), (12, VOTED)]),
         ..OPENED_TWO
     },
     Session {
         statements: "INSERT INTO acceptor_row VALUES (13, 0, 0, 1, 1, NULL)",
-        deeds: &[Deed::Get(4, Some(WITHDRAWN)), Deed::Get(13, None)],
-        listing: Listing::Rows(&[(3, VOTED), (4, WITHDRAWN), (12, VOTED)]),
+        deeds: &[RowsDeed::Get(4, Some(WITHDRAWN)), RowsDeed::Get(13, None)],
+        listing: SessionListing::Rows(&[(3, VOTED), (4, WITHDRAWN), (12, VOTED)]),
         ..OPENED_TWO
     },
     Session {
         statements: "DELETE FROM acceptor_row WHERE number = 13",
         found: AS_THEY_WERE,
-        listing: Listing::Count(3),
+        listing: SessionListing::Count(3),
         ..OPENED_TWO
     },
 ];
@@ -81,7 +83,7 @@ const WENT_OVER: &[Session] = &[
 /// Where there are no rows, none go over.
 const NO_ROWS: &[Session] = &[
     Session {
-        deeds: &[Deed::Upgrade(None, Version::Two)],
+        deeds: &[RowsDeed::Upgrade(None, Version::Two)],
         ..MADE
     },
     OPENED_TWO,
@@ -91,36 +93,36 @@ const NO_ROWS: &[Session] = &[
 const LONGEST: &[Session] = &[
     Session {
         deeds: &[
-            Deed::PutLong(12, 4096),
-            Deed::Upgrade(None, Version::Two),
-            Deed::GetLong(12, 4096),
+            RowsDeed::PutLong(12, 4096),
+            RowsDeed::Upgrade(None, Version::Two),
+            RowsDeed::GetLong(12, 4096),
         ],
-        listing: Listing::Count(1),
+        listing: SessionListing::Count(1),
         ..MADE
     },
     Session {
         deeds: &[
-            Deed::GetLong(12, 4096),
-            Deed::PutLong(13, 16_384),
-            Deed::GetLong(13, 16_384),
+            RowsDeed::GetLong(12, 4096),
+            RowsDeed::PutLong(13, 16_384),
+            RowsDeed::GetLong(13, 16_384),
         ],
-        listing: Listing::Count(2),
+        listing: SessionListing::Count(2),
         ..OPENED_TWO
     },
 ];
 
 /// An upgrade is refused, and nothing is answered after it.
-const REFUSED: &[Deed] = &[
-    Deed::Upgrade(STORE, Version::One),
-    Deed::Refused(12, RowsFault::Store),
-    Deed::Refused(4, RowsFault::Store),
-    Deed::Put(3, PROMISED, STORE),
-    Deed::Upgrade(STORE, Version::One),
+const REFUSED: &[RowsDeed] = &[
+    RowsDeed::Upgrade(STORE, Version::One),
+    RowsDeed::Refused(12, RowsFault::Store),
+    RowsDeed::Refused(4, RowsFault::Store),
+    RowsDeed::Put(3, PROMISED, STORE),
+    RowsDeed::Upgrade(STORE, Version::One),
 ];
 
 const BALKED: Session = Session {
     deeds: REFUSED,
-    listing: Listing::Refused(RowsFault::Store),
+    listing: SessionListing::Refused(RowsFault::Store),
     ..OPENED
 };
 
@@ -146,7 +148,7 @@ const TAKEN: &[Session] = &[
     AGAIN,
     Session {
         statements: "DROP TABLE acceptor_entry",
-        deeds: &[Deed::Upgrade(None, Version::Two)],
+        deeds: &[RowsDeed::Upgrade(None, Version::Two)],
         listing: BOTH,
         ..OPENED
     },
@@ -186,7 +188,7 @@ const IN_A_TRANSACTION: &[Session] = &[
     },
     Session {
         statements: "COMMIT",
-        deeds: &[Deed::Upgrade(None, Version::Two)],
+        deeds: &[RowsDeed::Upgrade(None, Version::Two)],
         listing: BOTH,
         ..OPENED
     },

@@ -2,11 +2,14 @@
 
 use crate::stops::disks::Side;
 use crate::stops::runs::stops_around;
-use crate::stops::works::Work;
+use crate::stops::works::RowsWork;
 use tape_frames::Version;
 
 /// Rows of either layout.
-const BLANK: &[Work] = &[Work::Create(Version::One), Work::Create(Version::Two)];
+const BLANK: &[RowsWork] = &[
+    RowsWork::Create(Version::One),
+    RowsWork::Create(Version::Two),
+];
 
 #[test]
 fn the_log_stops(rt: HostRuntime) {

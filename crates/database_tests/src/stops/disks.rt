@@ -22,7 +22,7 @@ pub enum Side {
 
 /// What is left of a database: its disks, and whether it was closed whole.
 #[derive(Drop)]
-pub struct Left {
+pub struct LeftDisks {
     pub disks: Disks,
     pub closed: bool,
 }
@@ -43,7 +43,7 @@ impl<S: Alter + Drop> Stored for SqliteRows<S> {
 }
 
 /// A database over two disks in memory.
-pub type Database = Connection<FileStore<Fuse<Memory>>>;
+pub type DiskDatabase = Connection<FileStore<Fuse<Memory>>>;
 
 /// A new disk that stops after so many calls.
 fn disk(alloc: Global, calls: u64) -> Fuse<Memory>
@@ -61,7 +61,7 @@ fn calls_of(side: Side, calls: u64) -> (u64, u64) {
 }
 
 /// Opens a database over new disks, of which this one stops after so many calls; or what is left of them.
-pub fn opened(alloc: Global, side: Side, calls: u64) -> Result<Database, Disks> {
+pub fn opened(alloc: Global, side: Side, calls: u64) -> Result<DiskDatabase, Disks> {
     let (log_calls, database_calls) = calls_of(side, calls);
     let disks = Files {
         log: disk(alloc, log_calls),
@@ -90,7 +90,7 @@ pub fn stopping(alloc: Global, disks: &Disks, side: Side, calls: u64) -> Option<
 }
 
 /// Begins a life over disks, and opens the database in it; or what is left of them.
-pub fn opened_in_life(alloc: Global, disks: Disks) -> Result<Database, Disks> {
+pub fn opened_in_life(alloc: Global, disks: Disks) -> Result<DiskDatabase, Disks> {
     if !disks.may_be_used() {
         return Err(disks);
     }
@@ -105,10 +105,10 @@ pub fn opened_in_life(alloc: Global, disks: Disks) -> Result<Database, Disks> {
 }
 
 /// The disks after the good end of a life: they are closed only where that ended well.
-pub fn ended(left: Left) -> Left {
-    let Left { mut disks, closed } = left;
+pub fn ended(left: LeftDisks) -> LeftDisks {
+    let LeftDisks { mut disks, closed } = left;
     let closed = closed && end_life(&mut disks).is_ok();
-    Left { disks, closed }
+    LeftDisks { disks, closed }
 }
 
 /// The disks after a crash, where the next start takes them: the file is at rest, or has the log of its life.
@@ -127,13 +127,13 @@ pub fn taken(disks: Disks) -> Option<Disks> {
 }
 
 /// Takes the disks out of a database.
-pub fn close(conn: Database) -> Left {
+pub fn close(conn: DiskDatabase) -> LeftDisks {
     match conn.close_files() {
-        Ok(disks) => Left {
+        Ok(disks) => LeftDisks {
             disks,
             closed: true,
         },
-        Err((_, store)) => Left {
+        Err((_, store)) => LeftDisks {
             disks: store.close(),
             closed: false,
         },
@@ -141,7 +141,7 @@ pub fn close(conn: Database) -> Left {
 }
 
 /// Opens the database that stands on the disks after a crash; nothing where that is refused.
-pub fn reopened(alloc: Global, disks: Disks) -> Option<Database> {
+pub fn reopened(alloc: Global, disks: Disks) -> Option<DiskDatabase> {
     let mut disks = disks;
     disks.log.crash();
     disks.db.crash();

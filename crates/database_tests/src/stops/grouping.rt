@@ -2,13 +2,13 @@
 
 use crate::stops::disks::Side;
 use crate::stops::runs::{stops_around, stops_throughout};
-use crate::stops::works::Work;
+use crate::stops::works::RowsWork;
 use tape_frames::Version;
 
 #[test]
 fn a_group_is_all_or_none(rt: HostRuntime) {
     for version in [Version::One, Version::Two] {
-        assert!(rt; stops_throughout(rt.alloc(), Work::Group(version), Side::Log));
-        assert!(rt; stops_around(rt.alloc(), Work::Group(version), Side::Database));
+        assert!(rt; stops_throughout(rt.alloc(), RowsWork::Group(version), Side::Log));
+        assert!(rt; stops_around(rt.alloc(), RowsWork::Group(version), Side::Database));
     }
 }

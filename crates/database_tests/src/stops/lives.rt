@@ -5,7 +5,7 @@ ghost use Rattle.std.specs.Prelude.{◌+◌, ◌≤◌, IsTrue};
 
 use crate::stops::disks::Side;
 use crate::stops::runs::{stops_around, stops_throughout};
-use crate::stops::works::Work;
+use crate::stops::works::RowsWork;
 use rows_files::{AT_REST, FoundFile, FoundLog, Mark, opening_refusal};
 use rows_life::{begin_life, end_life, pair_on};
 use sqlite_disk::{Crash, Disk, Files, Fuse, Memory};
@@ -23,7 +23,7 @@ const NEW: [u8; PAGE] = [2; PAGE];
 
 /// What is cut off.
 #[derive(Clone, Copy, PartialEq, Eq)]
-enum Change {
+enum CutOff {
     /// A start after a good end.
     Start,
     /// A start after a kill: a page is in the log alone.
@@ -96,9 +96,9 @@ fn put_frame<D: Disk>(log: &mut D) -> io::Result<()>
 }
 
 /// The files before a change.
-fn before(alloc: Global, change: Change) -> Option<Files<Memory>> {
+fn before(alloc: Global, change: CutOff) -> Option<Files<Memory>> {
     let files = at_rest(alloc).ok()?;
-    if change == Change::Start {
+    if change == CutOff::Start {
         return Some(files);
     }
     if !files.may_be_used() {
@@ -108,7 +108,7 @@ fn before(alloc: Global, change: Change) -> Option<Files<Memory>> {
     if begun.is_err() || !files.may_be_used() {
         return None;
     }
-    if change == Change::StartAfterKill {
+    if change == CutOff::StartAfterKill {
         put_frame(&mut files.log).ok()?;
     }
     Some(files)
@@ -130,12 +130,12 @@ fn stopping(files: Files<Memory>, side: Side, calls: u64) -> Files<Fuse<Memory>>
 fn changed(
     alloc: Global,
     files: Files<Fuse<Memory>>,
-    change: Change,
+    change: CutOff,
 ) -> (Files<Fuse<Memory>>, bool) {
     if !files.may_be_used() {
         return (files, false);
     }
-    let (mut files, done) = if change == Change::End {
+    let (mut files, done) = if change == CutOff::End {
         let mut files = files;
         let ended = end_life(&mut files);
         (files, ended)
@@ -169,12 +169,12 @@ fn has_page<D: Disk>(db: &mut D, page: &[u8; PAGE]) -> bool {
 }
 
 /// Whether the next start begins a life over the files, with the page that the last one left.
-fn goes_on(alloc: Global, files: Files<Fuse<Memory>>, change: Change) -> bool {
+fn goes_on(alloc: Global, files: Files<Fuse<Memory>>, change: CutOff) -> bool {
     if !files.may_be_used() {
         return false;
     }
     let (mut files, begun) = begin_life(alloc, files, 7);
-    let page = if change == Change::StartAfterKill {
+    let page = if change == CutOff::StartAfterKill {
         &NEW
     } else {
         &OLD
@@ -190,7 +190,7 @@ fn goes_on(alloc: Global, files: Files<Fuse<Memory>>, change: Change) -> bool {
 }
 
 /// Whether a change that is cut off by the stop of a disk after so many calls leaves a pair; nothing where it is not cut off.
-fn leaves_a_pair(alloc: Global, change: Change, side: Side, calls: u64) -> Option<bool> {
+fn leaves_a_pair(alloc: Global, change: CutOff, side: Side, calls: u64) -> Option<bool> {
     let files = stopping(before(alloc, change)?, side, calls);
     let (mut files, cut) = changed(alloc, files, change);
     let pair = taken(&mut files).is_some() && goes_on(alloc, files, change);
@@ -198,7 +198,7 @@ fn leaves_a_pair(alloc: Global, change: Change, side: Side, calls: u64) -> Optio
 }
 
 /// How many stops of this disk cut the change off, each of which leaves a pair; nothing where one does not.
-fn stops(alloc: Global, change: Change, side: Side) -> Option<u64> {
+fn stops(alloc: Global, change: CutOff, side: Side) -> Option<u64> {
     for calls in 0..100 {
         match leaves_a_pair(alloc, change, side, calls) {
             Some(true) => {}
@@ -210,13 +210,13 @@ fn stops(alloc: Global, change: Change, side: Side) -> Option<u64> {
 }
 
 /// Each change with each disk.
-const CUTS: &[(Change, Side)] = &[
-    (Change::Start, Side::Log),
-    (Change::Start, Side::Database),
-    (Change::StartAfterKill, Side::Log),
-    (Change::StartAfterKill, Side::Database),
-    (Change::End, Side::Log),
-    (Change::End, Side::Database),
+const CUTS: &[(CutOff, Side)] = &[
+    (CutOff::Start, Side::Log),
+    (CutOff::Start, Side::Database),
+    (CutOff::StartAfterKill, Side::Log),
+    (CutOff::StartAfterKill, Side::Database),
+    (CutOff::End, Side::Log),
+    (CutOff::End, Side::Database),
 ];
 
 #[test]
@@ -229,10 +229,10 @@ fn a_life_is_cut_off(rt: HostRuntime) {
 
 #[test]
 fn the_log_stops(rt: HostRuntime) {
-    assert!(rt; stops_throughout(rt.alloc(), Work::Live, Side::Log));
+    assert!(rt; stops_throughout(rt.alloc(), RowsWork::Live, Side::Log));
 }
 
 #[test]
 fn the_database_stops(rt: HostRuntime) {
-    assert!(rt; stops_around(rt.alloc(), Work::Live, Side::Database));
+    assert!(rt; stops_around(rt.alloc(), RowsWork::Live, Side::Database));
 }

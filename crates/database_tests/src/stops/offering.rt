@@ -3,14 +3,14 @@
 
 use crate::stops::disks::Side;
 use crate::stops::runs::{stops_around, stops_throughout};
-use crate::stops::works::Work;
+use crate::stops::works::RowsWork;
 
 #[test]
 fn the_log_stops(rt: HostRuntime) {
-    assert!(rt; stops_throughout(rt.alloc(), Work::Offer, Side::Log));
+    assert!(rt; stops_throughout(rt.alloc(), RowsWork::Offer, Side::Log));
 }
 
 #[test]
 fn the_database_stops(rt: HostRuntime) {
-    assert!(rt; stops_around(rt.alloc(), Work::Offer, Side::Database));
+    assert!(rt; stops_around(rt.alloc(), RowsWork::Offer, Side::Database));
 }

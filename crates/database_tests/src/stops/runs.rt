@@ -1,13 +1,13 @@
 //! Stops one after the other.
 
 use crate::stops::disks::Side;
-use crate::stops::works::{Stop, Work, stop_at};
+use crate::stops::works::{RowsWork, StopPlace, stop_at};
 use std::alloc::Global;
 
 /// Runs of a work in which a disk stops after so many calls, from the first number to below the other.
 #[derive(Clone, Copy)]
 pub struct Stops {
-    pub work: Work,
+    pub work: RowsWork,
     pub side: Side,
     pub from: u64,
     pub to: u64,
@@ -15,34 +15,34 @@ pub struct Stops {
 
 /// How many runs stopped: before the rows were made, in the work, and as the database was closed.
 #[derive(Clone, Copy)]
-struct Stopped {
+struct StoppedRuns {
     making: u64,
     working: u64,
     closing: u64,
 }
 
 /// Counts a run that stopped here.
-fn count(stopped: &mut Stopped, stop: Stop) {
+fn count(stopped: &mut StoppedRuns, stop: StopPlace) {
     let part = match stop {
-        Stop::Making => &mut stopped.making,
-        Stop::Working => &mut stopped.working,
-        Stop::Closing => &mut stopped.closing,
-        Stop::Nowhere => return,
+        StopPlace::Making => &mut stopped.making,
+        StopPlace::Working => &mut stopped.working,
+        StopPlace::Closing => &mut stopped.closing,
+        StopPlace::Nowhere => return,
     };
     *part = part.saturating_add(1);
 }
 
 /// Where these runs stopped, up to the first that does not; nothing where each stops, or another thing is found after a stop
 /// than may be.
-fn all_stopped(alloc: Global, stops: &Stops) -> Option<Stopped> {
-    let mut stopped = Stopped {
+fn all_stopped(alloc: Global, stops: &Stops) -> Option<StoppedRuns> {
+    let mut stopped = StoppedRuns {
         making: 0,
         working: 0,
         closing: 0,
     };
     for calls in stops.from..stops.to {
         let stop = stop_at(alloc, stops.side, calls, stops.work)?;
-        if matches!(&stop, Stop::Nowhere) {
+        if matches!(&stop, StopPlace::Nowhere) {
             return Some(stopped);
         }
         count(&mut stopped, stop);
@@ -53,7 +53,7 @@ fn all_stopped(alloc: Global, stops: &Stops) -> Option<Stopped> {
 /// The number of calls in the first of these runs that does not stop; nothing where each stops, or another thing is found
 /// after a stop than may be. It is what `bench/stops.py` prints.
 pub fn first_whole(alloc: Global, stops: &Stops) -> Option<u64> {
-    let Stopped {
+    let StoppedRuns {
         making,
         working,
         closing,
@@ -67,7 +67,7 @@ const MANY: u64 = 128;
 
 /// Where the runs of a work stopped in which this disk stops at its first call, at its second, and so on, until one does not
 /// stop; nothing where another thing is found after a stop than may be.
-fn stopped_by(alloc: Global, work: Work, side: Side) -> Option<Stopped> {
+fn stopped_by(alloc: Global, work: RowsWork, side: Side) -> Option<StoppedRuns> {
     let stops = Stops {
         work,
         side,
@@ -78,7 +78,7 @@ fn stopped_by(alloc: Global, work: Work, side: Side) -> Option<Stopped> {
 }
 
 /// Whether these runs stop before the rows are made, in the work, and as the database is closed.
-pub fn stops_throughout(alloc: Global, work: Work, side: Side) -> bool {
+pub fn stops_throughout(alloc: Global, work: RowsWork, side: Side) -> bool {
     match stopped_by(alloc, work, side) {
         Some(stopped) => stopped.making > 0 && stopped.working > 0 && stopped.closing > 0,
         None => false,
@@ -86,7 +86,7 @@ pub fn stops_throughout(alloc: Global, work: Work, side: Side) -> bool {
 }
 
 /// Whether they stop before the rows are made and as the database is closed, and not in the work, which asks this disk for nothing.
-pub fn stops_around(alloc: Global, work: Work, side: Side) -> bool {
+pub fn stops_around(alloc: Global, work: RowsWork, side: Side) -> bool {
     match stopped_by(alloc, work, side) {
         Some(stopped) => stopped.making > 0 && stopped.working == 0 && stopped.closing > 0,
         None => false,

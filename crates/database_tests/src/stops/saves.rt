@@ -2,14 +2,14 @@
 
 ghost use Rattle.rows_saved.specs.Saved.{HasPromise};
 
-use crate::rows::samples::{Sample, is_row, row_of};
+use crate::rows::samples::{RowSample, is_row, row_of};
 use ballots::{Number, Row};
 use rows_saved::{Grouped, Rows, SavesAll, Settles};
 use std::alloc::Global;
 use tape_frames::Version;
 
 /// A row under its number.
-pub type Numbered = (u32, Sample);
+pub type NumberedSample = (u32, RowSample);
 
 /// That a call was refused; nothing where a read is not refused then.
 fn refused<R: Rows>(rows: &mut R, number: Number) -> Option<bool> {
@@ -31,7 +31,7 @@ fn saves<R: Rows>(rows: &mut R, number: Number, row: &Row) -> Option<bool>
 }
 
 /// The same of a sample under its number.
-pub fn puts<R: Rows>(alloc: Global, rows: &mut R, numbered: &Numbered) -> Option<bool> {
+pub fn puts<R: Rows>(alloc: Global, rows: &mut R, numbered: &NumberedSample) -> Option<bool> {
     let number = Number::new(numbered.0)?;
     let row = row_of(alloc, &numbered.1)?;
     saves(rows, number, &row)
@@ -46,7 +46,7 @@ pub fn upgrades<R: Rows>(rows: &mut R) -> Option<bool> {
 }
 
 /// Whether the row under the number of a sample is that of the sample.
-fn is_there<R: Rows>(rows: &mut R, numbered: &Numbered) -> Option<bool> {
+fn is_there<R: Rows>(rows: &mut R, numbered: &NumberedSample) -> Option<bool> {
     let number = Number::new(numbered.0)?;
     match rows.get(number) {
         Ok(row) => Some(is_row(&row, Some(&numbered.1))),
@@ -55,7 +55,7 @@ fn is_there<R: Rows>(rows: &mut R, numbered: &Numbered) -> Option<bool> {
 }
 
 /// Whether each of these is there.
-pub fn are_there<R: Rows>(rows: &mut R, samples: &[Numbered]) -> bool {
+pub fn are_there<R: Rows>(rows: &mut R, samples: &[NumberedSample]) -> bool {
     for numbered in samples {
         if is_there(rows, numbered) != Some(true) {
             return false;
@@ -65,7 +65,11 @@ pub fn are_there<R: Rows>(rows: &mut R, samples: &[Numbered]) -> bool {
 }
 
 /// Whether these rows wait to be saved together, each read before it is put. A read that is refused ends it.
-fn wait<R: SavesAll>(alloc: Global, rows: &mut Grouped<R>, samples: &[Numbered]) -> Option<bool> {
+fn wait<R: SavesAll>(
+    alloc: Global,
+    rows: &mut Grouped<R>,
+    samples: &[NumberedSample],
+) -> Option<bool> {
     for numbered in samples {
         if rows.get(Number::new(numbered.0)?).is_err() {
             return Some(false);
@@ -82,8 +86,8 @@ fn wait<R: SavesAll>(alloc: Global, rows: &mut Grouped<R>, samples: &[Numbered])
 fn settles<R: SavesAll>(
     alloc: Global,
     rows: &mut Grouped<R>,
-    samples: &[Numbered],
-    left: &[Numbered],
+    samples: &[NumberedSample],
+    left: &[NumberedSample],
 ) -> Option<bool> {
     if !wait(alloc, rows, samples)? {
         return Some(false);
@@ -101,8 +105,8 @@ fn settles<R: SavesAll>(
 pub fn settled<R: SavesAll>(
     alloc: Global,
     rows: R,
-    samples: &[Numbered],
-    left: &[Numbered],
+    samples: &[NumberedSample],
+    left: &[NumberedSample],
 ) -> Option<(R, bool)> {
     let mut rows = Grouped::new(alloc, rows);
     let is_saved = settles(alloc, &mut rows, samples, left)?;

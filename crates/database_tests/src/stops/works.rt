@@ -1,12 +1,12 @@
 //! What is done to saved rows, and what has to be found where a disk stopped meanwhile.
 
 use crate::rows::identities::ALONE;
-use crate::rows::samples::{Choice, PROMISED, Sample, VOTED};
+use crate::rows::samples::{PROMISED, RowSample, VOTED, VoteChoice};
 use crate::stops::disks::{
-    Database, Disks, Left, Side, Stored, close, ended, opened, opened_in_life, reopened, stopping,
-    taken,
+    DiskDatabase, Disks, LeftDisks, Side, Stored, close, ended, opened, opened_in_life, reopened,
+    stopping, taken,
 };
-use crate::stops::saves::{Numbered, are_there, puts, settled, upgrades};
+use crate::stops::saves::{NumberedSample, are_there, puts, settled, upgrades};
 use crate::stops::stations::{offered, served, sought};
 use acceptor_store::{SqliteRows, into_files};
 use fixtures::{FLOOD, LIGATURE};
@@ -17,7 +17,7 @@ use tape_frames::Version;
 
 /// What is done to saved rows once they are made, at this version, or at version 1 where none is named.
 #[derive(Clone, Copy, PartialEq, Eq)]
-pub enum Work {
+pub enum RowsWork {
     /// Nothing.
     Create(Version),
     /// Two rows are saved.
@@ -35,61 +35,61 @@ pub enum Work {
 }
 
 /// Rows under 12 and 3, in the order in which they are saved.
-const SAVES: &[Numbered] = &[(12, VOTED), (3, PROMISED)];
+const SAVES: &[NumberedSample] = &[(12, VOTED), (3, PROMISED)];
 
 /// Rows that are saved together, and leave those.
-const GROUP: &[Numbered] = &[(12, PROMISED), (12, VOTED), (3, PROMISED)];
+const GROUP: &[NumberedSample] = &[(12, PROMISED), (12, VOTED), (3, PROMISED)];
 
 /// Rows that are saved in a life after those.
-const MORE: &[Numbered] = &[(14, VOTED), (15, PROMISED)];
+const MORE: &[NumberedSample] = &[(14, VOTED), (15, PROMISED)];
 
 /// All four.
-const LIVED: &[Numbered] = &[(12, VOTED), (3, PROMISED), (14, VOTED), (15, PROMISED)];
+const LIVED: &[NumberedSample] = &[(12, VOTED), (3, PROMISED), (14, VOTED), (15, PROMISED)];
 
 /// The rows that a work saves one after the other.
-fn saves_of(work: Work) -> &'static [Numbered] {
-    if work == Work::Live { MORE } else { SAVES }
+fn saves_of(work: RowsWork) -> &'static [NumberedSample] {
+    if work == RowsWork::Live { MORE } else { SAVES }
 }
 
 /// The version at which the rows are made for a work.
-fn version_for(work: Work) -> Version {
+fn version_for(work: RowsWork) -> Version {
     match work {
-        Work::Create(version) | Work::Put(version) | Work::Group(version) => version,
+        RowsWork::Create(version) | RowsWork::Put(version) | RowsWork::Group(version) => version,
         _ => Version::One,
     }
 }
 
 /// The vote of a station that was offered the flood story.
-const OFFERED: &[Numbered] = &[(
+const OFFERED: &[NumberedSample] = &[(
     12,
-    Sample {
-        vote: Some(((1, 1), Choice::Flood)),
+    RowSample {
+        vote: Some(((1, 1), VoteChoice::Flood)),
         ..PROMISED
     },
 )];
 
 /// How many rows were acknowledged as saved, and whether a save more, or the upgrade, was refused.
 #[derive(Clone, Copy)]
-struct Told {
+struct WorkTold {
     saved: usize,
     refused: bool,
 }
 
 /// Nothing was asked for yet.
-const NOTHING: Told = Told {
+const NOTHING: WorkTold = WorkTold {
     saved: 0,
     refused: false,
 };
 
 /// What was told, where the one save was acknowledged or refused.
-fn one(is_saved: bool) -> Told {
+fn one(is_saved: bool) -> WorkTold {
     if is_saved {
-        Told {
+        WorkTold {
             saved: 1,
             refused: false,
         }
     } else {
-        Told {
+        WorkTold {
             saved: 0,
             refused: true,
         }
@@ -97,44 +97,44 @@ fn one(is_saved: bool) -> Told {
 }
 
 /// Saves the rows one after the other, up to the first that is refused.
-fn put_all<R: Rows>(alloc: Global, rows: &mut R, samples: &[Numbered]) -> Option<Told> {
+fn put_all<R: Rows>(alloc: Global, rows: &mut R, samples: &[NumberedSample]) -> Option<WorkTold> {
     for (saved, sample) in samples.iter().enumerate() {
         if !puts(alloc, rows, sample)? {
-            return Some(Told {
+            return Some(WorkTold {
                 saved,
                 refused: true,
             });
         }
     }
-    Some(Told {
+    Some(WorkTold {
         saved: samples.len(),
         refused: false,
     })
 }
 
 /// Saves the rows, and takes them over where the work wants that and none was refused.
-fn put_over<R: Rows>(alloc: Global, rows: &mut R, work: Work) -> Option<Told> {
+fn put_over<R: Rows>(alloc: Global, rows: &mut R, work: RowsWork) -> Option<WorkTold> {
     let told = put_all(alloc, rows, saves_of(work))?;
-    if told.refused || work != Work::Upgrade {
+    if told.refused || work != RowsWork::Upgrade {
         return Some(told);
     }
     let refused = !upgrades(rows)?;
-    Some(Told { refused, ..told })
+    Some(WorkTold { refused, ..told })
 }
 
 /// The rows after two saves, and the upgrade where the work wants it.
-fn put<R: Rows>(alloc: Global, mut rows: R, work: Work) -> Option<(R, Told)> {
+fn put<R: Rows>(alloc: Global, mut rows: R, work: RowsWork) -> Option<(R, WorkTold)> {
     let told = put_over(alloc, &mut rows, work)?;
     Some((rows, told))
 }
 
 /// The rows after a group was saved: they are told as saved together.
-fn group<R: SavesAll>(alloc: Global, rows: R) -> Option<(R, Told)> {
+fn group<R: SavesAll>(alloc: Global, rows: R) -> Option<(R, WorkTold)> {
     let (rows, is_saved) = settled(alloc, rows, GROUP, SAVES)?;
     if !is_saved {
         return Some((rows, one(false)));
     }
-    let told = Told {
+    let told = WorkTold {
         saved: SAVES.len(),
         refused: false,
     };
@@ -142,19 +142,19 @@ fn group<R: SavesAll>(alloc: Global, rows: R) -> Option<(R, Told)> {
 }
 
 /// The rows after the work, and what was told of it.
-fn done<R: SavesAll>(alloc: Global, rows: R, work: Work) -> Option<(R, Told)> {
+fn done<R: SavesAll>(alloc: Global, rows: R, work: RowsWork) -> Option<(R, WorkTold)> {
     let (rows, is_saved) = match work {
-        Work::Create(_) => return Some((rows, NOTHING)),
-        Work::Put(_) | Work::Upgrade | Work::Live => return put(alloc, rows, work),
-        Work::Group(_) => return group(alloc, rows),
-        Work::Offer => offered(alloc, rows, FLOOD)?,
-        Work::Serve => served(alloc, rows, FLOOD)?,
+        RowsWork::Create(_) => return Some((rows, NOTHING)),
+        RowsWork::Put(_) | RowsWork::Upgrade | RowsWork::Live => return put(alloc, rows, work),
+        RowsWork::Group(_) => return group(alloc, rows),
+        RowsWork::Offer => offered(alloc, rows, FLOOD)?,
+        RowsWork::Serve => served(alloc, rows, FLOOD)?,
     };
     Some((rows, one(is_saved)))
 }
 
 /// Whether the list has the first of these rows, so many as were acknowledged, or one more where that was refused.
-fn is_listed<R: Stored>(rows: &mut R, samples: &[Numbered], told: Told) -> bool {
+fn is_listed<R: Stored>(rows: &mut R, samples: &[NumberedSample], told: WorkTold) -> bool {
     let Some(listed) = rows.count() else {
         return false;
     };
@@ -163,7 +163,7 @@ fn is_listed<R: Stored>(rows: &mut R, samples: &[Numbered], told: Told) -> bool 
 }
 
 /// Whether all of these rows are listed, as they were acknowledged; or all or none, where they were refused.
-fn is_all_or_none<R: Stored>(rows: &mut R, samples: &[Numbered], told: Told) -> bool {
+fn is_all_or_none<R: Stored>(rows: &mut R, samples: &[NumberedSample], told: WorkTold) -> bool {
     let Some(listed) = rows.count() else {
         return false;
     };
@@ -173,8 +173,8 @@ fn is_all_or_none<R: Stored>(rows: &mut R, samples: &[Numbered], told: Told) -> 
 
 /// Whether rows that are found after a work are at a version that it may have left: at version 2 where it went over, else at
 /// that they were made at, or at either where the upgrade of all of them was refused.
-fn is_at(found: Version, work: Work, told: Told) -> bool {
-    if work != Work::Upgrade {
+fn is_at(found: Version, work: RowsWork, told: WorkTold) -> bool {
+    if work != RowsWork::Upgrade {
         return found == version_for(work);
     }
     if told.saved < SAVES.len() {
@@ -186,7 +186,7 @@ fn is_at(found: Version, work: Work, told: Told) -> bool {
 
 /// Whether the rows have the vote of the offer, or none, as they may; and whether a new station over them releases what was voted for,
 /// and where there is none, what it is offered.
-fn is_kept<R: Stored>(alloc: Global, mut rows: R, told: Told) -> bool {
+fn is_kept<R: Stored>(alloc: Global, mut rows: R, told: WorkTold) -> bool {
     if !is_listed(&mut rows, OFFERED, told) {
         return false;
     }
@@ -195,22 +195,22 @@ fn is_kept<R: Stored>(alloc: Global, mut rows: R, told: Told) -> bool {
 }
 
 /// Whether the list has the rows that were saved before a life, and then those of it.
-fn has_lived<R: Stored>(rows: &mut R, told: Told) -> bool {
+fn has_lived<R: Stored>(rows: &mut R, told: WorkTold) -> bool {
     let saved = told.saved.saturating_add(SAVES.len());
-    is_listed(rows, LIVED, Told { saved, ..told })
+    is_listed(rows, LIVED, WorkTold { saved, ..told })
 }
 
 /// Whether the rows are those that a work may have left.
-fn is_left<R: Stored>(alloc: Global, mut rows: R, work: Work, told: Told) -> bool {
+fn is_left<R: Stored>(alloc: Global, mut rows: R, work: RowsWork, told: WorkTold) -> bool {
     if !is_at(rows.version(), work, told) {
         return false;
     }
     match work {
-        Work::Create(_) => is_listed(&mut rows, &[], told),
-        Work::Put(_) | Work::Upgrade => is_listed(&mut rows, SAVES, told),
-        Work::Group(_) => is_all_or_none(&mut rows, SAVES, told),
-        Work::Offer | Work::Serve => is_kept(alloc, rows, told),
-        Work::Live => has_lived(&mut rows, told),
+        RowsWork::Create(_) => is_listed(&mut rows, &[], told),
+        RowsWork::Put(_) | RowsWork::Upgrade => is_listed(&mut rows, SAVES, told),
+        RowsWork::Group(_) => is_all_or_none(&mut rows, SAVES, told),
+        RowsWork::Offer | RowsWork::Serve => is_kept(alloc, rows, told),
+        RowsWork::Live => has_lived(&mut rows, told),
     }
 }
 
@@ -220,7 +220,7 @@ enum Expected {
     /// A database that was not made: it is empty, or made at this version with no row.
     Unmade(Version),
     /// The rows that this work may have left, of which this was told.
-    Left(Work, Told),
+    Left(RowsWork, WorkTold),
 }
 
 /// Whether the rows that are found are as they may be.
@@ -241,18 +241,18 @@ fn may_be_refused(fault: RowsFault, expected: Expected) -> bool {
 
 /// What is to be done with the rows of a database.
 #[derive(Clone, Copy)]
-enum Task {
+enum StopTask {
     /// They are made for a work, which is done.
-    Do(Work),
+    Do(RowsWork),
     /// They are taken up, to be as they may be.
     Find(Expected),
 }
 
 /// What came of it with the rows of a database.
 #[derive(Drop)]
-enum Taken<S: Alter + Drop> {
+enum RowsTaken<S: Alter + Drop> {
     /// The work ended, or was refused: the database, and what was told.
-    Ended(Connection<S>, Told),
+    Ended(Connection<S>, WorkTold),
     /// The rows were not made in it.
     Unmade(Connection<S>),
     /// Whether they are as they may be.
@@ -262,29 +262,37 @@ enum Taken<S: Alter + Drop> {
 }
 
 /// What comes of a task with these rows.
-fn over<S: Alter + Drop>(alloc: Global, rows: SqliteRows<S>, task: Task) -> Taken<S> {
+fn over<S: Alter + Drop>(alloc: Global, rows: SqliteRows<S>, task: StopTask) -> RowsTaken<S> {
     match task {
-        Task::Do(work) => match done(alloc, rows, work) {
-            Some((rows, told)) => Taken::Ended(rows.into_connection(), told),
-            None => Taken::Strange,
+        StopTask::Do(work) => match done(alloc, rows, work) {
+            Some((rows, told)) => RowsTaken::Ended(rows.into_connection(), told),
+            None => RowsTaken::Strange,
         },
-        Task::Find(expected) => Taken::Found(holds(alloc, rows, expected)),
+        StopTask::Find(expected) => RowsTaken::Found(holds(alloc, rows, expected)),
     }
 }
 
 /// What comes of it where the rows of this database are refused.
-fn refused<S: Alter + Drop>(fault: RowsFault, conn: Connection<S>, task: Task) -> Taken<S> {
+fn refused<S: Alter + Drop>(fault: RowsFault, conn: Connection<S>, task: StopTask) -> RowsTaken<S> {
     match task {
-        Task::Do(_) => Taken::Unmade(conn),
-        Task::Find(expected) => Taken::Found(may_be_refused(fault, expected)),
+        StopTask::Do(_) => RowsTaken::Unmade(conn),
+        StopTask::Find(expected) => RowsTaken::Found(may_be_refused(fault, expected)),
     }
 }
 
 /// What comes of a task with a database.
-fn in_database<S: Alter + Drop>(alloc: Global, conn: Connection<S>, task: Task) -> Taken<S> {
+fn in_database<S: Alter + Drop>(
+    alloc: Global,
+    conn: Connection<S>,
+    task: StopTask,
+) -> RowsTaken<S> {
     let rows = match task {
-        Task::Do(Work::Live) | Task::Find(_) => SqliteRows::open(alloc, conn, Some(ALONE)),
-        Task::Do(work) => SqliteRows::create(alloc, conn, ALONE, version_for(work)),
+        StopTask::Do(RowsWork::Live) | StopTask::Find(_) => SqliteRows::open(
+            alloc,
+            conn,
+            Some(ALONE),
+        ),
+        StopTask::Do(work) => SqliteRows::create(alloc, conn, ALONE, version_for(work)),
     };
     match rows {
         Ok(rows) => over(alloc, rows, task),
@@ -294,36 +302,36 @@ fn in_database<S: Alter + Drop>(alloc: Global, conn: Connection<S>, task: Task) 
 
 /// What came of it with the disks of a database, of which these are left.
 #[derive(Drop)]
-enum Came {
-    Ended(Left, Told),
+enum DisksCame {
+    Ended(LeftDisks, WorkTold),
     Unmade(Disks),
     Found(bool),
     Strange,
 }
 
 /// What comes of a task with a database over disks: here alone its rows have their whole type.
-fn over_disks(alloc: Global, conn: Database, task: Task) -> Came {
+fn over_disks(alloc: Global, conn: DiskDatabase, task: StopTask) -> DisksCame {
     match in_database(alloc, conn, task) {
-        Taken::Ended(conn, told) => Came::Ended(close(conn), told),
-        Taken::Unmade(conn) => Came::Unmade(into_files(conn)),
-        Taken::Found(is_right) => Came::Found(is_right),
-        Taken::Strange => Came::Strange,
+        RowsTaken::Ended(conn, told) => DisksCame::Ended(close(conn), told),
+        RowsTaken::Unmade(conn) => DisksCame::Unmade(into_files(conn)),
+        RowsTaken::Found(is_right) => DisksCame::Found(is_right),
+        RowsTaken::Strange => DisksCame::Strange,
     }
 }
 
 /// What comes of a work with rows that are made over new disks, of which this one stops after so many calls.
-fn worked(alloc: Global, side: Side, calls: u64, work: Work) -> Came {
+fn worked(alloc: Global, side: Side, calls: u64, work: RowsWork) -> DisksCame {
     match opened(alloc, side, calls) {
-        Ok(conn) => over_disks(alloc, conn, Task::Do(work)),
-        Err(disks) => Came::Unmade(disks),
+        Ok(conn) => over_disks(alloc, conn, StopTask::Do(work)),
+        Err(disks) => DisksCame::Unmade(disks),
     }
 }
 
 /// The disks of rows that were saved, which are at rest.
 fn at_rest(alloc: Global) -> Option<Disks> {
-    match worked(alloc, Side::Log, u64::MAX, Work::Put(Version::One)) {
-        Came::Ended(left, _) => {
-            let Left { disks, closed } = ended(left);
+    match worked(alloc, Side::Log, u64::MAX, RowsWork::Put(Version::One)) {
+        DisksCame::Ended(left, _) => {
+            let LeftDisks { disks, closed } = ended(left);
             closed.then_some(disks)
         }
         _ => None,
@@ -331,34 +339,38 @@ fn at_rest(alloc: Global) -> Option<Disks> {
 }
 
 /// What comes of a life over rows that were saved, whose disk stops after so many calls.
-fn lived(alloc: Global, side: Side, calls: u64) -> Option<Came> {
+fn lived(alloc: Global, side: Side, calls: u64) -> Option<DisksCame> {
     let disks = stopping(alloc, &at_rest(alloc)?, side, calls)?;
     match opened_in_life(alloc, disks) {
-        Ok(conn) => match over_disks(alloc, conn, Task::Do(Work::Live)) {
-            Came::Ended(left, told) => Some(Came::Ended(ended(left), told)),
+        Ok(conn) => match over_disks(alloc, conn, StopTask::Do(RowsWork::Live)) {
+            DisksCame::Ended(left, told) => Some(DisksCame::Ended(ended(left), told)),
             came => Some(came),
         },
-        Err(disks) => Some(Came::Unmade(disks)),
+        Err(disks) => Some(DisksCame::Unmade(disks)),
     }
 }
 
 /// Whether the next start takes the disks after a crash, and what is found in the life that it begins is as it may be.
-fn lives_on(alloc: Global, disks: Disks, told: Told) -> Option<bool> {
+fn lives_on(alloc: Global, disks: Disks, told: WorkTold) -> Option<bool> {
     let conn = opened_in_life(alloc, taken(disks)?).ok()?;
-    let found = over_disks(alloc, conn, Task::Find(Expected::Left(Work::Live, told)));
-    Some(matches!(found, Came::Found(true)))
+    let found = over_disks(
+        alloc,
+        conn,
+        StopTask::Find(Expected::Left(RowsWork::Live, told)),
+    );
+    Some(matches!(found, DisksCame::Found(true)))
 }
 
 /// Where a life stopped whose disk stops after so many calls; nothing where the next start does not take what it left, or something
 /// else is found after it than may be.
-fn life_stop_at(alloc: Global, side: Side, calls: u64) -> Option<Stop> {
+fn life_stop_at(alloc: Global, side: Side, calls: u64) -> Option<StopPlace> {
     match lived(alloc, side, calls)? {
-        Came::Ended(left, told) => {
-            let Left { disks, closed } = left;
+        DisksCame::Ended(left, told) => {
+            let LeftDisks { disks, closed } = left;
             lives_on(alloc, disks, told)?.then_some(stop_in(told, closed))
         }
-        Came::Unmade(disks) => lives_on(alloc, disks, NOTHING)?.then_some(Stop::Making),
-        Came::Found(_) | Came::Strange => None,
+        DisksCame::Unmade(disks) => lives_on(alloc, disks, NOTHING)?.then_some(StopPlace::Making),
+        DisksCame::Found(_) | DisksCame::Strange => None,
     }
 }
 
@@ -366,8 +378,8 @@ fn life_stop_at(alloc: Global, side: Side, calls: u64) -> Option<Stop> {
 fn is_found(alloc: Global, disks: Disks, expected: Expected) -> bool {
     match reopened(alloc, disks) {
         Some(conn) => matches!(
-            over_disks(alloc, conn, Task::Find(expected)),
-            Came::Found(true)
+            over_disks(alloc, conn, StopTask::Find(expected)),
+            DisksCame::Found(true)
         ),
         None => false,
     }
@@ -375,7 +387,7 @@ fn is_found(alloc: Global, disks: Disks, expected: Expected) -> bool {
 
 /// Where a run stopped.
 #[derive(Clone, Copy)]
-pub enum Stop {
+pub enum StopPlace {
     /// Before its rows were made.
     Making,
     /// In its work, which was refused.
@@ -387,35 +399,35 @@ pub enum Stop {
 }
 
 /// Where a run stopped of which this was told, and which was closed or not.
-fn stop_in(told: Told, closed: bool) -> Stop {
+fn stop_in(told: WorkTold, closed: bool) -> StopPlace {
     if told.refused {
-        Stop::Working
+        StopPlace::Working
     } else if closed {
-        Stop::Nowhere
+        StopPlace::Nowhere
     } else {
-        Stop::Closing
+        StopPlace::Closing
     }
 }
 
 /// Where a run stopped that made its rows, if what it left is found after a crash.
-fn stop_of(alloc: Global, left: Left, work: Work, told: Told) -> Option<Stop> {
-    let Left { disks, closed } = left;
+fn stop_of(alloc: Global, left: LeftDisks, work: RowsWork, told: WorkTold) -> Option<StopPlace> {
+    let LeftDisks { disks, closed } = left;
     let stop = stop_in(told, closed);
     is_found(alloc, disks, Expected::Left(work, told)).then_some(stop)
 }
 
 /// Where a run stopped in which this disk stops after so many calls; nothing where something else is found after it than
 /// may be.
-pub fn stop_at(alloc: Global, side: Side, calls: u64, work: Work) -> Option<Stop> {
-    if work == Work::Live {
+pub fn stop_at(alloc: Global, side: Side, calls: u64, work: RowsWork) -> Option<StopPlace> {
+    if work == RowsWork::Live {
         return life_stop_at(alloc, side, calls);
     }
     match worked(alloc, side, calls, work) {
-        Came::Ended(left, told) => stop_of(alloc, left, work, told),
-        Came::Unmade(disks) => {
+        DisksCame::Ended(left, told) => stop_of(alloc, left, work, told),
+        DisksCame::Unmade(disks) => {
             let expected = Expected::Unmade(version_for(work));
-            is_found(alloc, disks, expected).then_some(Stop::Making)
+            is_found(alloc, disks, expected).then_some(StopPlace::Making)
         }
-        Came::Found(_) | Came::Strange => None,
+        DisksCame::Found(_) | DisksCame::Strange => None,
     }
 }

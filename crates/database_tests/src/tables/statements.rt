@@ -5,23 +5,23 @@ use std::alloc::Global;
 use tape_frames::Version;
 
 /// A statement that finds so many rows.
-pub type Found = (&'static str, usize);
+pub type FindsRows = (&'static str, usize);
 
 /// The vote for 01 02 04 under 12, which are packed in three bytes, beside a promise of 1.3.
-pub const VOTE_OF_12: Found = (
+pub const VOTE_OF_12: FindsRows = (
     "UPDATE acceptor_entry SET number = number WHERE number = 12 AND promised_round = 1 AND promised_owner = 3 \
 AND vote_round = 1 AND vote_owner = 1 AND length = 3 AND packed = x'042100'",
     1,
 );
 
 /// Member 2 of 3 of circuit 7, in layout 2.
-pub const IN_LAYOUT_TWO: Found = (
+pub const IN_LAYOUT_TWO: FindsRows = (
     "UPDATE station SET one = one WHERE layout = 2 AND circuit = 7 AND member = 2 AND members = 3",
     1,
 );
 
 /// Whether each of these statements finds its rows.
-pub fn finds<S: Alter>(conn: &mut Connection<S>, statements: &[Found]) -> bool {
+pub fn finds<S: Alter>(conn: &mut Connection<S>, statements: &[FindsRows]) -> bool {
     for (statement, rows) in statements {
         if conn.execute(*statement, &[]) != Ok(*rows) {
             return false;

@@ -1,7 +1,7 @@
 //! A database that is upgraded from the table of rows to the table of entries.
 
 use crate::tables::columns::{promise, vote};
-use crate::tables::statements::{Found, IN_LAYOUT_TWO, VOTE_OF_12, finds};
+use crate::tables::statements::{FindsRows, IN_LAYOUT_TWO, VOTE_OF_12, finds};
 use rows_table::{EntryColumns, upgrade_tables};
 use sqlite::{Alter, Connection};
 use std::alloc::Global;
@@ -17,7 +17,7 @@ INSERT INTO station VALUES (1, 1, 7, 2, 3);
 INSERT INTO acceptor_row VALUES (3, 1, 1, NULL, NULL, NULL), (12, 1, 3, 1, 1, x'010204')";
 
 /// Statements that find so many rows each after the upgrade: the entries, the old rows and the station in layout 2.
-const FOUND: &[Found] = &[
+const FOUND: &[FindsRows] = &[
     (
         "UPDATE acceptor_entry SET number = number WHERE number = 3 AND promised_round = 1 AND promised_owner = 1 \
 AND vote_round IS NULL AND vote_owner IS NULL AND length IS NULL AND packed IS NULL",
@@ -30,7 +30,7 @@ AND vote_round IS NULL AND vote_owner IS NULL AND length IS NULL AND packed IS N
 ];
 
 /// Statements that find so many rows each where the upgrade was refused: all is as it was.
-const AS_IT_WAS: &[Found] = &[
+const AS_IT_WAS: &[FindsRows] = &[
     ("UPDATE acceptor_row SET number = number", 2),
     ("UPDATE station SET one = one WHERE layout = 1", 1),
 ];

@@ -51,10 +51,10 @@ impl RowVisitor for Count {
 }
 
 /// Whether all were seen, how many, and the number of the last.
-type Seen = (bool, usize, i64);
+type RowsSeen = (bool, usize, i64);
 
 /// What is seen of the rows 3 and 12 where so many are wanted at most.
-const SEEN: &[(usize, Seen)] = &[(1, (false, 1, 3)), (2, (false, 2, 12)), (3, (true, 2, 12))];
+const SEEN: &[(usize, RowsSeen)] = &[(1, (false, 1, 3)), (2, (false, 2, 12)), (3, (true, 2, 12))];
 
 /// The station whose tables are made.
 const STATION: StationColumns = StationColumns {
@@ -64,7 +64,7 @@ const STATION: StationColumns = StationColumns {
 };
 
 /// What is seen of the rows of a table where so many are wanted at most.
-fn seen<S: Alter>(conn: &mut Connection<S>, layout: Layout, most: usize) -> Option<Seen> {
+fn seen<S: Alter>(conn: &mut Connection<S>, layout: Layout, most: usize) -> Option<RowsSeen> {
     let mut count = Count {
         most,
         seen: 0,
@@ -116,7 +116,7 @@ fn are_seen(alloc: Global, layout: Layout) -> bool {
 }
 
 /// What is shown of saved rows where so many are wanted at most.
-fn shown<S: Alter + Drop>(rows: &mut SqliteRows<S>, most: usize) -> Option<Seen> {
+fn shown<S: Alter + Drop>(rows: &mut SqliteRows<S>, most: usize) -> Option<RowsSeen> {
     let mut count = Count {
         most,
         seen: 0,

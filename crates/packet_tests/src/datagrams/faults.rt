@@ -1,21 +1,21 @@
 //! The first fault of bytes that are no packet. Where two faults stand, the one that comes first in the order is answered.
 
-use crate::datagrams::samples::Sample::{
+use crate::datagrams::samples::PacketSample::{
     Accept, AcceptTwo, AcceptVoid, Accepted, AcceptedTwo, AcceptedVoid, Nack, Prepare, PrepareTwo,
     Promise, Report, ReportTwo, ReportVoid, ShortReport,
 };
 use crate::datagrams::samples::{
-    Changes, Garbling, LONG_REPORT, Sample, bytes_of, fails, long_packet,
+    Changes, Garbling, LONG_REPORT, PacketSample, bytes_of, fails, long_packet,
 };
 use packets::PacketFault;
 use std::alloc::Global;
 use tape_frames::Version;
 
 // A packet, what is changed of it, whether a 0 stands behind it, and the fault.
-type Row = (Sample, Changes, bool, Option<PacketFault>);
+type FaultRow = (PacketSample, Changes, bool, Option<PacketFault>);
 
 // Packets of version 1, which a station of either version reads alike.
-const ROWS: &[Row] = &[
+const ROWS: &[FaultRow] = &[
     (
         Prepare,
         Changes::Two((0, 0x55), (2, 3)),
@@ -310,7 +310,7 @@ const ROWS: &[Row] = &[
 ];
 
 // The bytes that a row is about.
-fn garbled_of(row: Row) -> Garbling<'static> {
+fn garbled_of(row: FaultRow) -> Garbling<'static> {
     Garbling {
         bytes: bytes_of(row.0),
         changes: row.1,
@@ -331,7 +331,7 @@ fn first_faults(rt: HostRuntime) {
 }
 
 // Packets of version 2, as a station of version 2 reads them. A station of version 1 reads none.
-const ROWS_TWO: &[Row] = &[
+const ROWS_TWO: &[FaultRow] = &[
     (
         PrepareTwo,
         Changes::One(3, 0),

@@ -8,17 +8,17 @@ use std::alloc::Global;
 use tape_frames::Version;
 
 /// A ballot: its round and its owner.
-type At = (u32, u8);
+type ReadBallot = (u32, u8);
 
 fn is_member(member: u8) -> bool {
     1 <= member && member <= 15
 }
 
-fn is_ballot(ballot: At) -> bool {
+fn is_ballot(ballot: ReadBallot) -> bool {
     ballot.0 >= 1 && is_member(ballot.1)
 }
 
-fn is_below(one: At, other: At) -> bool {
+fn is_below(one: ReadBallot, other: ReadBallot) -> bool {
     one.0 < other.0 || (one.0 == other.0 && one.1 < other.1)
 }
 
@@ -95,7 +95,7 @@ fn entry_fault(version: Version, body: &[u8]) -> Option<PacketFault> {
     }
 }
 
-fn vote_fault(version: Version, ballot: At, vote: &[u8]) -> Option<PacketFault> {
+fn vote_fault(version: Version, ballot: ReadBallot, vote: &[u8]) -> Option<PacketFault> {
     match vote {
         [a, b, c, d, owner, high, low, rest @ ..] => {
             let voted = (number_of([*a, *b, *c, *d]), *owner);
@@ -109,7 +109,7 @@ fn vote_fault(version: Version, ballot: At, vote: &[u8]) -> Option<PacketFault> 
     }
 }
 
-fn nack_fault(ballot: At, body: &[u8]) -> Option<PacketFault> {
+fn nack_fault(ballot: ReadBallot, body: &[u8]) -> Option<PacketFault> {
     match body {
         [a, b, c, d, owner, rest @ ..] => {
             let promised = (number_of([*a, *b, *c, *d]), *owner);
@@ -123,7 +123,7 @@ fn nack_fault(ballot: At, body: &[u8]) -> Option<PacketFault> {
     }
 }
 
-fn body_fault(version: Version, kind: u8, ballot: At, body: &[u8]) -> Option<PacketFault> {
+fn body_fault(version: Version, kind: u8, ballot: ReadBallot, body: &[u8]) -> Option<PacketFault> {
     match (kind, body) {
         (1, _) => end_fault(body),
         (2, []) => Some(PacketFault::Short),
@@ -141,7 +141,7 @@ struct Fields {
     kind: u8,
     ends: (u8, u8),
     number: u32,
-    ballot: At,
+    ballot: ReadBallot,
 }
 
 /// The first fault of the fields behind the kind, and of the body.

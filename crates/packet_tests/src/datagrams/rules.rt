@@ -6,7 +6,7 @@ use packets::BodyRef;
 use tape_frames::EntryRef;
 
 #[derive(Clone, Copy)]
-enum Says {
+enum RuleSays {
     Prepare,
     Promise,
     Report,
@@ -17,39 +17,39 @@ enum Says {
 }
 
 // From 2 to 1 at 1.1: 2 asks at no ballot of 1's, a vote at 1.1 is not below it, and a promise of 1.1 not above.
-const SAID: &[(Says, bool)] = &[
-    (Says::Prepare, false),
-    (Says::Promise, true),
-    (Says::Report, false),
-    (Says::Accept, false),
-    (Says::Accepted, true),
-    (Says::NackAbove, true),
-    (Says::NackOwn, false),
+const SAID: &[(RuleSays, bool)] = &[
+    (RuleSays::Prepare, false),
+    (RuleSays::Promise, true),
+    (RuleSays::Report, false),
+    (RuleSays::Accept, false),
+    (RuleSays::Accepted, true),
+    (RuleSays::NackAbove, true),
+    (RuleSays::NackOwn, false),
 ];
 
 const TAPE: &[u8] = &[1, 2, 4];
 
-fn of_entry(says: Says, own: Ballot, above: Ballot, entry: EntryRef<'_>) -> BodyRef<'_> {
+fn of_entry(says: RuleSays, own: Ballot, above: Ballot, entry: EntryRef<'_>) -> BodyRef<'_> {
     match says {
-        Says::Prepare => BodyRef::Prepare,
-        Says::Promise => BodyRef::Promise { report: None },
-        Says::Report => BodyRef::Promise {
+        RuleSays::Prepare => BodyRef::Prepare,
+        RuleSays::Promise => BodyRef::Promise { report: None },
+        RuleSays::Report => BodyRef::Promise {
             report: Some(VoteRef::new(own, entry)),
         },
-        Says::Accept => BodyRef::Accept { entry },
-        Says::Accepted => BodyRef::Accepted { entry },
-        Says::NackAbove => BodyRef::Nack { promised: above },
-        Says::NackOwn => BodyRef::Nack { promised: own },
+        RuleSays::Accept => BodyRef::Accept { entry },
+        RuleSays::Accepted => BodyRef::Accepted { entry },
+        RuleSays::NackAbove => BodyRef::Nack { promised: above },
+        RuleSays::NackOwn => BodyRef::Nack { promised: own },
     }
 }
 
-fn body(says: Says) -> Option<BodyRef<'static>> {
+fn body(says: RuleSays) -> Option<BodyRef<'static>> {
     let (own, above) = (ballot(1, 1)?, ballot(1, 2)?);
     Some(of_entry(says, own, above, lent(Some(TAPE))?))
 }
 
 // Whether there is a packet from 2 to 1 at 1.1 that says this.
-fn said(says: Says) -> Option<bool> {
+fn said(says: RuleSays) -> Option<bool> {
     match body(says) {
         Some(body) => Some(packet_of(2, 1, body).is_some()),
         None => None,

@@ -103,7 +103,7 @@ const FLOOD_TOLD: &[u8] = &[
 
 /// The packets above, by their names.
 #[derive(Clone, Copy)]
-pub enum Sample {
+pub enum PacketSample {
     Prepare,
     Promise,
     Accept,
@@ -126,59 +126,59 @@ pub enum Sample {
 }
 
 /// Its bytes.
-pub fn bytes_of(sample: Sample) -> &'static [u8] {
+pub fn bytes_of(sample: PacketSample) -> &'static [u8] {
     match sample {
-        Sample::Prepare => PREPARE,
-        Sample::Promise => PROMISE,
-        Sample::Accept => ACCEPT,
-        Sample::Accepted => ACCEPTED,
-        Sample::PrepareOf3 => PREPARE_OF_3,
-        Sample::Report => REPORT,
-        Sample::ShortReport => SHORT_REPORT,
-        Sample::Nack => NACK,
-        Sample::PrepareTwo => PREPARE_TWO,
-        Sample::PromiseTwo => PROMISE_TWO,
-        Sample::AcceptTwo => ACCEPT_TWO,
-        Sample::AcceptedTwo => ACCEPTED_TWO,
-        Sample::ReportTwo => REPORT_TWO,
-        Sample::NackTwo => NACK_TWO,
-        Sample::AcceptVoid => ACCEPT_VOID,
-        Sample::AcceptedVoid => ACCEPTED_VOID,
-        Sample::ReportVoid => REPORT_VOID,
-        Sample::FloodAsked => FLOOD_ASKED,
-        Sample::FloodTold => FLOOD_TOLD,
+        PacketSample::Prepare => PREPARE,
+        PacketSample::Promise => PROMISE,
+        PacketSample::Accept => ACCEPT,
+        PacketSample::Accepted => ACCEPTED,
+        PacketSample::PrepareOf3 => PREPARE_OF_3,
+        PacketSample::Report => REPORT,
+        PacketSample::ShortReport => SHORT_REPORT,
+        PacketSample::Nack => NACK,
+        PacketSample::PrepareTwo => PREPARE_TWO,
+        PacketSample::PromiseTwo => PROMISE_TWO,
+        PacketSample::AcceptTwo => ACCEPT_TWO,
+        PacketSample::AcceptedTwo => ACCEPTED_TWO,
+        PacketSample::ReportTwo => REPORT_TWO,
+        PacketSample::NackTwo => NACK_TWO,
+        PacketSample::AcceptVoid => ACCEPT_VOID,
+        PacketSample::AcceptedVoid => ACCEPTED_VOID,
+        PacketSample::ReportVoid => REPORT_VOID,
+        PacketSample::FloodAsked => FLOOD_ASKED,
+        PacketSample::FloodTold => FLOOD_TOLD,
     }
 }
 
 /// All of version 1.
-pub const ALL: &[Sample] = &[
-    Sample::Prepare,
-    Sample::Promise,
-    Sample::Accept,
-    Sample::Accepted,
-    Sample::PrepareOf3,
-    Sample::Report,
-    Sample::Nack,
+pub const ALL: &[PacketSample] = &[
+    PacketSample::Prepare,
+    PacketSample::Promise,
+    PacketSample::Accept,
+    PacketSample::Accepted,
+    PacketSample::PrepareOf3,
+    PacketSample::Report,
+    PacketSample::Nack,
 ];
 
 /// All of version 2.
-pub const ALL_TWO: &[Sample] = &[
-    Sample::PrepareTwo,
-    Sample::PromiseTwo,
-    Sample::AcceptTwo,
-    Sample::AcceptedTwo,
-    Sample::ReportTwo,
-    Sample::NackTwo,
-    Sample::AcceptVoid,
-    Sample::AcceptedVoid,
-    Sample::ReportVoid,
+pub const ALL_TWO: &[PacketSample] = &[
+    PacketSample::PrepareTwo,
+    PacketSample::PromiseTwo,
+    PacketSample::AcceptTwo,
+    PacketSample::AcceptedTwo,
+    PacketSample::ReportTwo,
+    PacketSample::NackTwo,
+    PacketSample::AcceptVoid,
+    PacketSample::AcceptedVoid,
+    PacketSample::ReportVoid,
 ];
 
 /// The frames of a tape; `None` where the number is withdrawn.
-pub type Agreed<'a> = Option<&'a [u8]>;
+pub type AgreedFrames<'a> = Option<&'a [u8]>;
 
 /// The entry, its frames lent.
-pub fn lent(agreed: Agreed<'_>) -> Option<EntryRef<'_>> {
+pub fn lent(agreed: AgreedFrames<'_>) -> Option<EntryRef<'_>> {
     match agreed {
         None => Some(EntryRef::Void),
         Some(frames) => plain(frames),
@@ -186,7 +186,7 @@ pub fn lent(agreed: Agreed<'_>) -> Option<EntryRef<'_>> {
 }
 
 /// Whether the entry is this one.
-pub fn is_entry(entry: &EntryRef<'_>, agreed: Agreed<'_>) -> bool {
+pub fn is_entry(entry: &EntryRef<'_>, agreed: AgreedFrames<'_>) -> bool {
     match lent(agreed) {
         Some(other) => entry.same(other),
         None => false,

@@ -2,19 +2,19 @@
 
 use crate::datagrams::samples::changed;
 use crate::datagrams::spellings::wrong;
-use Said::{Asks, NoReport, Report, Story};
+use SentSays::{Asks, NoReport, Report, Story};
 use std::alloc::Global;
 use tape_frames::Version;
 
 /// A datagram of circuit 7 about number 12 in round 1: its kind, its sender, its addressee, the owner of its ballot, and
 /// what it says.
 #[derive(Clone, Copy)]
-struct Sent(u8, u8, u8, u8, Said);
+struct SentDatagram(u8, u8, u8, u8, SentSays);
 
 /// What it says: a Prepare nothing, a Promise that there is no vote to report, or the vote for the flood story at 1.1, an
 /// Accept and an Accepted the flood story.
 #[derive(Clone, Copy)]
-enum Said {
+enum SentSays {
     Asks,
     NoReport,
     Report,
@@ -22,7 +22,7 @@ enum Said {
 }
 
 /// How version 1 spells it.
-fn in_one(said: Said) -> &'static [u8] {
+fn in_one(said: SentSays) -> &'static [u8] {
     match said {
         Asks => &[],
         NoReport => &[0],
@@ -32,7 +32,7 @@ fn in_one(said: Said) -> &'static [u8] {
 }
 
 /// How version 2 does.
-fn in_two(said: Said) -> &'static [u8] {
+fn in_two(said: SentSays) -> &'static [u8] {
     match said {
         Asks => &[],
         NoReport => &[0],
@@ -42,7 +42,7 @@ fn in_two(said: Said) -> &'static [u8] {
 }
 
 /// How version 2 does where a withdrawal is agreed on in place of the flood story.
-fn in_two_of_void(said: Said) -> &'static [u8] {
+fn in_two_of_void(said: SentSays) -> &'static [u8] {
     match said {
         Asks => &[],
         NoReport => &[0],
@@ -53,30 +53,30 @@ fn in_two_of_void(said: Said) -> &'static [u8] {
 
 /// Member 1 asks for promises at 1.1, and proposes when 2 has promised; 1 and 2 tell of their votes. Member 3 asks for
 /// promises at 1.3, and proposes when 2 has reported its vote; 3 and 2 tell of theirs.
-const ALL_SENT: &[Sent] = &[
-    Sent(1, 1, 2, 1, Asks),
-    Sent(1, 1, 3, 1, Asks),
-    Sent(2, 2, 1, 1, NoReport),
-    Sent(3, 1, 2, 1, Story),
-    Sent(3, 1, 3, 1, Story),
-    Sent(4, 1, 2, 1, Story),
-    Sent(4, 1, 3, 1, Story),
-    Sent(4, 2, 1, 1, Story),
-    Sent(4, 2, 3, 1, Story),
-    Sent(1, 3, 1, 3, Asks),
-    Sent(1, 3, 2, 3, Asks),
-    Sent(2, 2, 3, 3, Report),
-    Sent(3, 3, 1, 3, Story),
-    Sent(3, 3, 2, 3, Story),
-    Sent(4, 3, 1, 3, Story),
-    Sent(4, 3, 2, 3, Story),
-    Sent(4, 2, 1, 3, Story),
-    Sent(4, 2, 3, 3, Story),
+const ALL_SENT: &[SentDatagram] = &[
+    SentDatagram(1, 1, 2, 1, Asks),
+    SentDatagram(1, 1, 3, 1, Asks),
+    SentDatagram(2, 2, 1, 1, NoReport),
+    SentDatagram(3, 1, 2, 1, Story),
+    SentDatagram(3, 1, 3, 1, Story),
+    SentDatagram(4, 1, 2, 1, Story),
+    SentDatagram(4, 1, 3, 1, Story),
+    SentDatagram(4, 2, 1, 1, Story),
+    SentDatagram(4, 2, 3, 1, Story),
+    SentDatagram(1, 3, 1, 3, Asks),
+    SentDatagram(1, 3, 2, 3, Asks),
+    SentDatagram(2, 2, 3, 3, Report),
+    SentDatagram(3, 3, 1, 3, Story),
+    SentDatagram(3, 3, 2, 3, Story),
+    SentDatagram(4, 3, 1, 3, Story),
+    SentDatagram(4, 3, 2, 3, Story),
+    SentDatagram(4, 2, 1, 3, Story),
+    SentDatagram(4, 2, 3, 3, Story),
 ];
 
 /// The bytes of a datagram that says so in this version.
-fn bytes_of(alloc: Global, sent: Sent, version: u8, said: &[u8]) -> Option<Vec<u8>> {
-    let Sent(kind, from, to, owner, _) = sent;
+fn bytes_of(alloc: Global, sent: SentDatagram, version: u8, said: &[u8]) -> Option<Vec<u8>> {
+    let SentDatagram(kind, from, to, owner, _) = sent;
     let header = [
         0x54, 0x4e, version, kind, 0, 7, from, to, 0, 0, 0, 12, 0, 0, 0, 1, owner,
     ];
@@ -84,7 +84,7 @@ fn bytes_of(alloc: Global, sent: Sent, version: u8, said: &[u8]) -> Option<Vec<u
 }
 
 /// Which of what has to hold of the datagram of version 1 at a station of this version does not; 0 where all does.
-fn wrong_of_one(alloc: Global, station: Version, sent: Sent) -> Option<u32> {
+fn wrong_of_one(alloc: Global, station: Version, sent: SentDatagram) -> Option<u32> {
     match bytes_of(alloc, sent, 1, in_one(sent.4)) {
         Some(bytes) => Some(wrong(alloc, station, &bytes)),
         None => None,
@@ -92,7 +92,7 @@ fn wrong_of_one(alloc: Global, station: Version, sent: Sent) -> Option<u32> {
 }
 
 /// The same of the one of version 2 that says so, at a station of version 2.
-fn wrong_of_two(alloc: Global, sent: Sent, said: &[u8]) -> Option<u32> {
+fn wrong_of_two(alloc: Global, sent: SentDatagram, said: &[u8]) -> Option<u32> {
     match bytes_of(alloc, sent, 2, said) {
         Some(bytes) => Some(wrong(alloc, Version::Two, &bytes)),
         None => None,

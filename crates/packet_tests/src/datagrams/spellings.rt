@@ -1,12 +1,12 @@
 //! What packets say, and that each has one spelling in a version.
 
 use crate::datagrams::garbled::is_read;
-use crate::datagrams::samples::Sample::{
+use crate::datagrams::samples::PacketSample::{
     Accept, Accepted, Nack, Prepare, PrepareOf3, Promise, Report, ReportTwo, ReportVoid,
 };
 use crate::datagrams::samples::{
-    ALL, ALL_TWO, Agreed, LONG_ACCEPT, LONG_ACCEPTED, LONG_REPORT, Sample, bytes_of, changed,
-    fault_of, is_entry, long_packet,
+    ALL, ALL_TWO, AgreedFrames, LONG_ACCEPT, LONG_ACCEPTED, LONG_REPORT, PacketSample, bytes_of,
+    changed, fault_of, is_entry, long_packet,
 };
 use packets::{BodyRef, PacketFault, PacketRef, decode, encode};
 use std::alloc::Global;
@@ -26,7 +26,7 @@ fn header_of(packet: &PacketRef<'_>) -> [u32; 6] {
 }
 
 #[derive(Clone, Copy, PartialEq, Eq)]
-enum Kind {
+enum BodyKind {
     Prepare,
     Promise,
     Report,
@@ -35,18 +35,18 @@ enum Kind {
     Nack,
 }
 
-fn kind_of(body: &BodyRef<'_>) -> Kind {
+fn kind_of(body: &BodyRef<'_>) -> BodyKind {
     match body {
-        BodyRef::Prepare => Kind::Prepare,
-        BodyRef::Promise { report: None } => Kind::Promise,
-        BodyRef::Promise { report: Some(_) } => Kind::Report,
-        BodyRef::Accept { .. } => Kind::Accept,
-        BodyRef::Accepted { .. } => Kind::Accepted,
-        BodyRef::Nack { .. } => Kind::Nack,
+        BodyRef::Prepare => BodyKind::Prepare,
+        BodyRef::Promise { report: None } => BodyKind::Promise,
+        BodyRef::Promise { report: Some(_) } => BodyKind::Report,
+        BodyRef::Accept { .. } => BodyKind::Accept,
+        BodyRef::Accepted { .. } => BodyKind::Accepted,
+        BodyRef::Nack { .. } => BodyKind::Nack,
     }
 }
 
-fn says(version: Version, bytes: &[u8], header: &[u32; 6], kind: Kind) -> bool {
+fn says(version: Version, bytes: &[u8], header: &[u32; 6], kind: BodyKind) -> bool {
     match decode(bytes, version) {
         Ok(packet) => header_of(&packet) == *header && kind_of(packet.body()) == kind,
         Err(_) => false,
@@ -54,18 +54,18 @@ fn says(version: Version, bytes: &[u8], header: &[u32; 6], kind: Kind) -> bool {
 }
 
 // What each of the packets says.
-const SAID: &[(Sample, [u32; 6], Kind)] = &[
-    (Prepare, [7, 1, 2, 12, 1, 1], Kind::Prepare),
-    (Promise, [7, 2, 1, 12, 1, 1], Kind::Promise),
-    (Accept, [7, 1, 2, 12, 1, 1], Kind::Accept),
-    (Accepted, [7, 2, 1, 12, 1, 1], Kind::Accepted),
-    (PrepareOf3, [7, 3, 2, 12, 1, 3], Kind::Prepare),
-    (Report, [7, 2, 3, 12, 1, 3], Kind::Report),
-    (Nack, [7, 2, 1, 12, 1, 1], Kind::Nack),
+const SAID: &[(PacketSample, [u32; 6], BodyKind)] = &[
+    (Prepare, [7, 1, 2, 12, 1, 1], BodyKind::Prepare),
+    (Promise, [7, 2, 1, 12, 1, 1], BodyKind::Promise),
+    (Accept, [7, 1, 2, 12, 1, 1], BodyKind::Accept),
+    (Accepted, [7, 2, 1, 12, 1, 1], BodyKind::Accepted),
+    (PrepareOf3, [7, 3, 2, 12, 1, 3], BodyKind::Prepare),
+    (Report, [7, 2, 3, 12, 1, 3], BodyKind::Report),
+    (Nack, [7, 2, 1, 12, 1, 1], BodyKind::Nack),
 ];
 
 // Whether a vote at this ballot for this entry is reported.
-fn is_reported(body: &BodyRef<'_>, round: u32, owner: u8, agreed: Agreed<'_>) -> bool {
+fn is_reported(body: &BodyRef<'_>, round: u32, owner: u8, agreed: AgreedFrames<'_>) -> bool {
     match body {
         BodyRef::Promise { report: Some(vote) } => {
             vote.ballot().round() == round
@@ -77,7 +77,7 @@ fn is_reported(body: &BodyRef<'_>, round: u32, owner: u8, agreed: Agreed<'_>) ->
 }
 
 // What a station of version 2 reads.
-fn reports(bytes: &[u8], round: u32, owner: u8, agreed: Agreed<'_>) -> bool {
+fn reports(bytes: &[u8], round: u32, owner: u8, agreed: AgreedFrames<'_>) -> bool {
     match decode(bytes, Version::Two) {
         Ok(packet) => is_reported(packet.body(), round, owner, agreed),
         Err(_) => false,
@@ -203,7 +203,7 @@ fn fields(rt: HostRuntime) {
 }
 
 // What is reported of a vote at 1.1.
-const REPORTED: &[(Sample, Agreed<'static>)] = &[
+const REPORTED: &[(PacketSample, AgreedFrames<'static>)] = &[
     (Report, Some(&[1, 2, 4])),
     (ReportTwo, Some(&[1, 2, 4])),
     (ReportVoid, None),

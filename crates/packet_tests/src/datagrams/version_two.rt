@@ -1,11 +1,12 @@
 //! Version 2: worked spellings, packets in both versions, and the longest.
 
-use crate::datagrams::samples::Sample::{
+use crate::datagrams::samples::PacketSample::{
     Accept, AcceptTwo, AcceptVoid, Accepted, AcceptedTwo, AcceptedVoid, FloodAsked, FloodTold,
     Nack, NackTwo, Prepare, PrepareTwo, Promise, PromiseTwo, Report, ReportTwo, ReportVoid,
 };
 use crate::datagrams::samples::{
-    ALL_TWO, Agreed, Changes, Garbling, Sample, bytes_of, changed, fails, fault_of, lent, packet_of,
+    ALL_TWO, AgreedFrames, Changes, Garbling, PacketSample, bytes_of, changed, fails, fault_of,
+    lent, packet_of,
 };
 use crate::datagrams::spellings::{is_spelled_in, len_again};
 use fixtures::FLOOD;
@@ -14,20 +15,20 @@ use std::alloc::Global;
 use tape_frames::Version;
 
 // An entry, how 1 asks 2 to vote for it, and how 2 tells of its vote.
-const WORKED: &[(Agreed<'static>, Sample, Sample)] = &[
+const WORKED: &[(AgreedFrames<'static>, PacketSample, PacketSample)] = &[
     (Some(FLOOD), FloodAsked, FloodTold),
     (Some(&[1, 2, 4]), AcceptTwo, AcceptedTwo),
     (None, AcceptVoid, AcceptedVoid),
 ];
 
-fn asked(agreed: Agreed<'_>) -> Option<PacketRef<'_>> {
+fn asked(agreed: AgreedFrames<'_>) -> Option<PacketRef<'_>> {
     match lent(agreed) {
         Some(entry) => packet_of(1, 2, BodyRef::Accept { entry }),
         None => None,
     }
 }
 
-fn told(agreed: Agreed<'_>) -> Option<PacketRef<'_>> {
+fn told(agreed: AgreedFrames<'_>) -> Option<PacketRef<'_>> {
     match lent(agreed) {
         Some(entry) => packet_of(2, 1, BodyRef::Accepted { entry }),
         None => None,
@@ -75,7 +76,7 @@ fn is_also(alloc: Global, bytes: &[u8], version: Version, other: &[u8]) -> bool 
 }
 
 // Packets in both versions.
-const BOTH: &[(Sample, Sample)] = &[
+const BOTH: &[(PacketSample, PacketSample)] = &[
     (Prepare, PrepareTwo),
     (Promise, PromiseTwo),
     (Accept, AcceptTwo),
@@ -106,7 +107,7 @@ fn fits_one(bytes: &[u8]) -> Option<bool> {
 }
 
 // Packets, and whether version 1 has a spelling for each.
-const FITS: &[(Sample, bool)] = &[
+const FITS: &[(PacketSample, bool)] = &[
     (PrepareTwo, true),
     (PromiseTwo, true),
     (NackTwo, true),

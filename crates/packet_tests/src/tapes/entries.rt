@@ -6,53 +6,65 @@ use tape_frames::{EntryRef, PackedRef, TapeRef, Version};
 
 // How an entry stands: withdrawn, one frame a byte, or so many frames packed.
 #[derive(Clone, Copy)]
-enum Form {
+enum EntryForm {
     Void,
     Plain(&'static [u8]),
     Packed(u16, &'static [u8]),
 }
 
 // Entries that are the same, in other forms. Each packing was worked out by hand.
-const ALIKE: &[(Form, Form)] = &[
-    (Form::Void, Form::Void),
-    (Form::Plain(FLOOD), Form::Plain(&[1, 2, 3, 1, 3, 2, 4])),
+const ALIKE: &[(EntryForm, EntryForm)] = &[
+    (EntryForm::Void, EntryForm::Void),
     (
-        Form::Plain(FLOOD),
-        Form::Packed(7, &[0x04, 0x20, 0xc1, 0x0c, 0x21, 0x00]),
+        EntryForm::Plain(FLOOD),
+        EntryForm::Plain(&[1, 2, 3, 1, 3, 2, 4]),
     ),
-    (Form::Plain(&[63, 63]), Form::Packed(2, &[0xff, 0xf0])),
-    (Form::Packed(1, &[0x04]), Form::Packed(1, &[0x04])),
+    (
+        EntryForm::Plain(FLOOD),
+        EntryForm::Packed(7, &[0x04, 0x20, 0xc1, 0x0c, 0x21, 0x00]),
+    ),
+    (
+        EntryForm::Plain(&[63, 63]),
+        EntryForm::Packed(2, &[0xff, 0xf0]),
+    ),
+    (EntryForm::Packed(1, &[0x04]), EntryForm::Packed(1, &[0x04])),
     // frames with all holes set each bit
-    (Form::Plain(LONGEST), Form::Packed(16_384, &[255; 12_288])),
+    (
+        EntryForm::Plain(LONGEST),
+        EntryForm::Packed(16_384, &[255; 12_288]),
+    ),
 ];
 
 // Entries that are not: three frames and the same three with an empty one behind them take the same bytes.
-const OTHERS: &[(Form, Form)] = &[
-    (Form::Void, Form::Plain(&[0])),
-    (Form::Void, Form::Packed(1, &[0])),
-    (Form::Plain(FLOOD), Form::Plain(HARVEST)),
-    (Form::Plain(&[1, 2]), Form::Plain(&[1, 2, 3])),
-    (Form::Plain(&[1, 2]), Form::Packed(1, &[0x04])),
-    (Form::Plain(&[1, 3]), Form::Packed(2, &[0x04, 0x20])),
+const OTHERS: &[(EntryForm, EntryForm)] = &[
+    (EntryForm::Void, EntryForm::Plain(&[0])),
+    (EntryForm::Void, EntryForm::Packed(1, &[0])),
+    (EntryForm::Plain(FLOOD), EntryForm::Plain(HARVEST)),
+    (EntryForm::Plain(&[1, 2]), EntryForm::Plain(&[1, 2, 3])),
+    (EntryForm::Plain(&[1, 2]), EntryForm::Packed(1, &[0x04])),
     (
-        Form::Packed(3, &[0x04, 0x20, 0xc0]),
-        Form::Packed(4, &[0x04, 0x20, 0xc0]),
+        EntryForm::Plain(&[1, 3]),
+        EntryForm::Packed(2, &[0x04, 0x20]),
     ),
-    (Form::Packed(1, &[0x04]), Form::Packed(1, &[0x08])),
-    (Form::Plain(LONGEST), Form::Plain(LONGEST_ONE)),
+    (
+        EntryForm::Packed(3, &[0x04, 0x20, 0xc0]),
+        EntryForm::Packed(4, &[0x04, 0x20, 0xc0]),
+    ),
+    (EntryForm::Packed(1, &[0x04]), EntryForm::Packed(1, &[0x08])),
+    (EntryForm::Plain(LONGEST), EntryForm::Plain(LONGEST_ONE)),
 ];
 
 // Entries, and whether version 1 has a spelling for them. Version 2 has one for each.
-const FITS: &[(Form, bool)] = &[
-    (Form::Void, false),
-    (Form::Plain(&[1]), true),
-    (Form::Plain(LONGEST_ONE), true),
-    (Form::Plain(&[63; 4097]), false),
-    (Form::Plain(LONGEST), false),
-    (Form::Packed(1, &[0x04]), true),
-    (Form::Packed(4096, &[255; 3072]), true),
-    (Form::Packed(4097, &[0; 3073]), false),
-    (Form::Packed(16_384, &[255; 12_288]), false),
+const FITS: &[(EntryForm, bool)] = &[
+    (EntryForm::Void, false),
+    (EntryForm::Plain(&[1]), true),
+    (EntryForm::Plain(LONGEST_ONE), true),
+    (EntryForm::Plain(&[63; 4097]), false),
+    (EntryForm::Plain(LONGEST), false),
+    (EntryForm::Packed(1, &[0x04]), true),
+    (EntryForm::Packed(4096, &[255; 3072]), true),
+    (EntryForm::Packed(4097, &[0; 3073]), false),
+    (EntryForm::Packed(16_384, &[255; 12_288]), false),
 ];
 
 /// A tape of these frames.
@@ -70,16 +82,16 @@ fn packed(length: u16, bytes: &[u8]) -> Option<EntryRef<'_>> {
     }
 }
 
-fn entry_of(form: Form) -> Option<EntryRef<'static>> {
+fn entry_of(form: EntryForm) -> Option<EntryRef<'static>> {
     match form {
-        Form::Void => Some(EntryRef::Void),
-        Form::Plain(frames) => plain(frames),
-        Form::Packed(length, bytes) => packed(length, bytes),
+        EntryForm::Void => Some(EntryRef::Void),
+        EntryForm::Plain(frames) => plain(frames),
+        EntryForm::Packed(length, bytes) => packed(length, bytes),
     }
 }
 
 // Whether the one is the same as the other, asked both ways; nothing where they disagree, or a form is none.
-fn same(one: Form, other: Form) -> Option<bool> {
+fn same(one: EntryForm, other: EntryForm) -> Option<bool> {
     match (entry_of(one), entry_of(other)) {
         (Some(one), Some(other)) => {
             let forth = one.same(other.lend());
@@ -94,7 +106,7 @@ fn same(one: Form, other: Form) -> Option<bool> {
 }
 
 // Whether a copy is the same entry.
-fn copies(alloc: Global, form: Form) -> bool {
+fn copies(alloc: Global, form: EntryForm) -> bool {
     match entry_of(form) {
         Some(entry) => match entry.copy(alloc) {
             Ok(copy) => entry.same(copy.lend()),
@@ -105,7 +117,7 @@ fn copies(alloc: Global, form: Form) -> bool {
 }
 
 // Whether it fits version 2, and version 1 where it is to.
-fn fits(form: Form, at_one: bool) -> bool {
+fn fits(form: EntryForm, at_one: bool) -> bool {
     match entry_of(form) {
         Some(entry) => entry.fits(Version::Two) && entry.fits(Version::One) == at_one,
         None => false,
@@ -113,7 +125,7 @@ fn fits(form: Form, at_one: bool) -> bool {
 }
 
 // Named here alone: a table costs the prover time in each function that names it.
-fn all_alike() -> &'static [(Form, Form)] {
+fn all_alike() -> &'static [(EntryForm, EntryForm)] {
     ALIKE
 }
 
@@ -146,19 +158,23 @@ fn fitting(rt: HostRuntime) {
 }
 
 // An entry, its frames, and its frames packed.
-type Frames = (Form, &'static [u8], &'static [u8]);
+type Frames = (EntryForm, &'static [u8], &'static [u8]);
 
 const FRAMES: &[Frames] = &[
-    (Form::Void, &[], &[]),
-    (Form::Plain(&[1, 2, 3]), &[1, 2, 3], &[0x04, 0x20, 0xc0]),
+    (EntryForm::Void, &[], &[]),
     (
-        Form::Packed(3, &[0x04, 0x20, 0xc0]),
+        EntryForm::Plain(&[1, 2, 3]),
         &[1, 2, 3],
         &[0x04, 0x20, 0xc0],
     ),
-    (Form::Plain(LONGEST), LONGEST, &[255; 12_288]),
     (
-        Form::Packed(16_384, &[255; 12_288]),
+        EntryForm::Packed(3, &[0x04, 0x20, 0xc0]),
+        &[1, 2, 3],
+        &[0x04, 0x20, 0xc0],
+    ),
+    (EntryForm::Plain(LONGEST), LONGEST, &[255; 12_288]),
+    (
+        EntryForm::Packed(16_384, &[255; 12_288]),
         LONGEST,
         &[255; 12_288],
     ),
@@ -179,7 +195,7 @@ fn puts(alloc: Global, entry: &EntryRef<'_>, frames: &[u8], packed: &[u8]) -> bo
 }
 
 // How many frames it has.
-fn len_of(form: Form) -> Option<usize> {
+fn len_of(form: EntryForm) -> Option<usize> {
     match entry_of(form) {
         Some(entry) => Some(entry.len()),
         None => None,
@@ -194,7 +210,7 @@ fn lengths(rt: HostRuntime) {
 }
 
 // Whether the entry of the form writes these.
-fn puts_frames(alloc: Global, form: Form, frames: &[u8], packed: &[u8]) -> bool {
+fn puts_frames(alloc: Global, form: EntryForm, frames: &[u8], packed: &[u8]) -> bool {
     match entry_of(form) {
         Some(entry) => puts(alloc, &entry, frames, packed),
         None => false,

@@ -35,7 +35,7 @@ fn by_example<'a>(tape: &'a [u8], page: DrawingForm) -> DrawInput<'a> {
 
 /// How `draw` ends, what it writes, and what it tells.
 #[derive(Clone, Copy)]
-struct Drawn<'a> {
+struct DrawWanted<'a> {
     end: End,
     document: &'a str,
     err: &'a str,
@@ -60,7 +60,7 @@ fn end_of<W: Write>(alloc: Global, input: DrawInput<'_>, out: &mut W, err: &str)
 }
 
 /// Whether `draw` of this ends so, writes this document and tells this.
-fn draws(alloc: Global, input: DrawInput<'_>, drawn: Drawn<'_>) -> bool {
+fn draws(alloc: Global, input: DrawInput<'_>, drawn: DrawWanted<'_>) -> bool {
     let mut out = Vec::new(alloc);
     let ended = end_of(alloc, input, &mut out, drawn.err);
     ended == Some(drawn.end) && out.as_slice() == drawn.document.as_bytes()
@@ -68,7 +68,7 @@ fn draws(alloc: Global, input: DrawInput<'_>, drawn: Drawn<'_>) -> bool {
 
 #[test]
 fn a_story_that_sets(rt: HostRuntime) {
-    let drawn = Drawn {
+    let drawn = DrawWanted {
         end: End::Done,
         document: FLOOD_SVG,
         err: "",
@@ -78,7 +78,7 @@ fn a_story_that_sets(rt: HostRuntime) {
 
 #[test]
 fn a_story_that_is_overset(rt: HostRuntime) {
-    let drawn = Drawn {
+    let drawn = DrawWanted {
         end: End::Input,
         document: OVERSET_SVG,
         err: "fault: overset 1 at 7 line 1\n",
@@ -88,7 +88,7 @@ fn a_story_that_is_overset(rt: HostRuntime) {
 
 #[test]
 fn a_story_that_is_loose(rt: HostRuntime) {
-    let drawn = Drawn {
+    let drawn = DrawWanted {
         end: End::Input,
         document: LOOSE_SVG,
         err: "fault: loose 14 at 3 line 1\n",
@@ -104,7 +104,7 @@ fn a_story_that_is_loose(rt: HostRuntime) {
 
 #[test]
 fn a_story_that_is_never_cut(rt: HostRuntime) {
-    let drawn = Drawn {
+    let drawn = DrawWanted {
         end: End::Input,
         document: UNFINISHED_HTML,
         err: "fault: unfinished at 1 line 1\n",
@@ -121,7 +121,7 @@ fn names_are_escaped(alloc: Global, document: &str) -> Option<bool> {
         tape: &[8, 1, 9, 10, 1, 7, 4],
         page: DrawingForm::Html,
     };
-    let drawn = Drawn {
+    let drawn = DrawWanted {
         end: End::Done,
         document,
         err: "",
@@ -149,7 +149,7 @@ fn faulty_files(rt: HostRuntime) {
             tape: *tape,
             page: DrawingForm::Svg,
         };
-        let drawn = Drawn {
+        let drawn = DrawWanted {
             end: End::Input,
             document: "",
             err: *err,

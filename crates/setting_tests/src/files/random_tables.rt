@@ -30,7 +30,7 @@ const OTHER_FRAMES: &[Frame] = &[
 
 /// What a column says.
 #[derive(Clone, Copy, PartialEq, Eq)]
-enum Says {
+enum ColumnSays {
     /// A matrix, or a function that may stand beside another.
     Plain,
     /// A shift or an unshift.
@@ -42,30 +42,30 @@ enum Says {
 }
 
 /// What a column says, and its word.
-type Column = (Says, &'static str);
+type Column = (ColumnSays, &'static str);
 
 const GOOD_COLUMNS: &[Column] = &[
-    (Says::Plain, "a"),
-    (Says::Plain, "~"),
-    (Says::Plain, "12345678"),
-    (Says::Plain, "@en"),
-    (Says::Plain, "@elevate"),
-    (Says::Plain, "@quadright"),
+    (ColumnSays::Plain, "a"),
+    (ColumnSays::Plain, "~"),
+    (ColumnSays::Plain, "12345678"),
+    (ColumnSays::Plain, "@en"),
+    (ColumnSays::Plain, "@elevate"),
+    (ColumnSays::Plain, "@quadright"),
 ];
 
 const OTHER_COLUMNS: &[Column] = &[
-    (Says::CaseCode, "@shift"),
-    (Says::CaseCode, "@unshift"),
-    (Says::Nonsense, ""),
-    (Says::Nonsense, "123456789"),
-    (Says::Nonsense, "@font"),
-    (Says::Nonsense, "a b"),
-    (Says::Other, "3"),
-    (Says::Other, "[]"),
+    (ColumnSays::CaseCode, "@shift"),
+    (ColumnSays::CaseCode, "@unshift"),
+    (ColumnSays::Nonsense, ""),
+    (ColumnSays::Nonsense, "123456789"),
+    (ColumnSays::Nonsense, "@font"),
+    (ColumnSays::Nonsense, "a b"),
+    (ColumnSays::Other, "3"),
+    (ColumnSays::Other, "[]"),
 ];
 
 /// An entry: its frame, what it means unshifted, and what shifted.
-type Entry = (Frame, Column, Column);
+type TableEntry = (Frame, Column, Column);
 
 fn drawn_frame(dice: &mut Dice) -> Frame {
     let frame = if dice.throw(24) == 0 {
@@ -87,12 +87,12 @@ fn drawn_column(dice: &mut Dice) -> Column {
     };
     match column {
         Some(column) => *column,
-        None => (Says::Other, "3"),
+        None => (ColumnSays::Other, "3"),
     }
 }
 
 /// One to four entries, of which one in eight has the same column twice.
-fn drafted(alloc: Global, dice: &mut Dice) -> Option<Vec<Entry>> {
+fn drafted(alloc: Global, dice: &mut Dice) -> Option<Vec<TableEntry>> {
     let mut entries = Vec::new(alloc);
     for _ in 0..1 + dice.throw(4) {
         let (frame, unshift) = (drawn_frame(dice), drawn_column(dice));
@@ -117,13 +117,13 @@ fn put(text: &mut String, parts: &[&str]) -> Option<()> {
 /// Writes what a key has, where something stands there.
 fn put_column(text: &mut String, key: &'static str, column: Column) -> Option<()> {
     match column.0 {
-        Says::Other => put(text, &[key, " = ", column.1, "\n"]),
+        ColumnSays::Other => put(text, &[key, " = ", column.1, "\n"]),
         _ => put(text, &[key, " = \"", column.1, "\"\n"]),
     }
 }
 
 /// The table of the entries.
-fn text_of(alloc: Global, entries: &[Entry]) -> Option<String> {
+fn text_of(alloc: Global, entries: &[TableEntry]) -> Option<String> {
     let mut text = String::new(alloc);
     for (frame, unshift, shift) in entries {
         put(&mut text, &["[[code]]\n"])?;
@@ -137,7 +137,7 @@ fn text_of(alloc: Global, entries: &[Entry]) -> Option<String> {
 }
 
 /// Whether one of so many first entries has this frame.
-fn has_frame(entries: &[Entry], many: usize, frame: i64) -> bool {
+fn has_frame(entries: &[TableEntry], many: usize, frame: i64) -> bool {
     for (other, ..) in entries.iter().take(many) {
         if other.0 == Some(frame) {
             return true;
@@ -148,10 +148,10 @@ fn has_frame(entries: &[Entry], many: usize, frame: i64) -> bool {
 
 /// What is wrong with the columns of the entry at this place.
 fn column_fault(entry: usize, unshift: Column, shift: Column) -> Option<TableFault> {
-    if unshift.0 == Says::Nonsense || shift.0 == Says::Nonsense {
+    if unshift.0 == ColumnSays::Nonsense || shift.0 == ColumnSays::Nonsense {
         return Some(TableFault::BadMeaning { entry });
     }
-    let either_is_case_code = unshift.0 == Says::CaseCode || shift.0 == Says::CaseCode;
+    let either_is_case_code = unshift.0 == ColumnSays::CaseCode || shift.0 == ColumnSays::CaseCode;
     if either_is_case_code && unshift.1 != shift.1 {
         return Some(TableFault::CaseCodeDiffers { entry });
     }
@@ -159,10 +159,10 @@ fn column_fault(entry: usize, unshift: Column, shift: Column) -> Option<TableFau
 }
 
 /// What is wrong with an entry, behind so many of these.
-fn entry_fault(entries: &[Entry], before: usize, code: &Entry) -> Option<TableFault> {
+fn entry_fault(entries: &[TableEntry], before: usize, code: &TableEntry) -> Option<TableFault> {
     let (frame, unshift, shift) = *code;
     let entry = before.saturating_add(1);
-    if unshift.0 == Says::Other || shift.0 == Says::Other {
+    if unshift.0 == ColumnSays::Other || shift.0 == ColumnSays::Other {
         return Some(TableFault::WrongType { entry });
     }
     match frame.0 {
@@ -176,7 +176,7 @@ fn entry_fault(entries: &[Entry], before: usize, code: &Entry) -> Option<TableFa
 }
 
 /// The first fault of the entries.
-fn fault_of(entries: &[Entry]) -> Option<TableFault> {
+fn fault_of(entries: &[TableEntry]) -> Option<TableFault> {
     for (place, code) in entries.iter().enumerate() {
         let fault = entry_fault(entries, place, code);
         if fault.is_some() {
@@ -187,7 +187,7 @@ fn fault_of(entries: &[Entry]) -> Option<TableFault> {
 }
 
 /// Whether the frame means in this table what the entries say, and nothing where they don't have it.
-fn means(table: &CodeTable, entries: &[Entry], frame: u8) -> bool {
+fn means(table: &CodeTable, entries: &[TableEntry], frame: u8) -> bool {
     let (mut unshift, mut shift) = ("", "");
     for code in entries {
         if code.0.0 == Some(i64::from(frame)) {
@@ -199,7 +199,7 @@ fn means(table: &CodeTable, entries: &[Entry], frame: u8) -> bool {
 }
 
 /// Whether each frame does.
-fn means_all(table: &CodeTable, entries: &[Entry]) -> bool {
+fn means_all(table: &CodeTable, entries: &[TableEntry]) -> bool {
     for frame in 0..64 {
         if !means(table, entries, frame) {
             return false;
@@ -209,7 +209,7 @@ fn means_all(table: &CodeTable, entries: &[Entry]) -> bool {
 }
 
 /// Whether the table of the entries is read as it has to be.
-fn is_read(alloc: Global, entries: &[Entry]) -> bool {
+fn is_read(alloc: Global, entries: &[TableEntry]) -> bool {
     let Some(text) = text_of(alloc, entries) else {
         return false;
     };

@@ -7,7 +7,7 @@ use widths::{WidthFault, WidthKey, Widths};
 
 /// What stands at a key.
 #[derive(Clone, Copy)]
-enum Value {
+enum WidthValue {
     Nothing,
     /// A value of another type.
     Other,
@@ -15,31 +15,31 @@ enum Value {
 }
 
 /// A value, and how it is written.
-type Written = (Value, &'static str);
+type Written = (WidthValue, &'static str);
 
-const NOTHING: Written = (Value::Nothing, "");
+const NOTHING: Written = (WidthValue::Nothing, "");
 
 const GOOD: &[Written] = &[
-    (Value::Number(1), "1"),
-    (Value::Number(2), "2"),
-    (Value::Number(5), "5"),
-    (Value::Number(30), "30"),
-    (Value::Number(998), "998"),
-    (Value::Number(999), "999"),
+    (WidthValue::Number(1), "1"),
+    (WidthValue::Number(2), "2"),
+    (WidthValue::Number(5), "5"),
+    (WidthValue::Number(30), "30"),
+    (WidthValue::Number(998), "998"),
+    (WidthValue::Number(999), "999"),
 ];
 
 const DOUBTFUL: &[Written] = &[
     NOTHING,
-    (Value::Other, "\"5\""),
-    (Value::Other, "5.0"),
-    (Value::Other, "true"),
-    (Value::Other, "[5]"),
-    (Value::Number(-1), "-1"),
-    (Value::Number(0), "0"),
-    (Value::Number(1000), "1000"),
-    (Value::Number(65_535), "65535"),
-    (Value::Number(65_536), "65536"),
-    (Value::Number(4_294_967_297), "4294967297"),
+    (WidthValue::Other, "\"5\""),
+    (WidthValue::Other, "5.0"),
+    (WidthValue::Other, "true"),
+    (WidthValue::Other, "[5]"),
+    (WidthValue::Number(-1), "-1"),
+    (WidthValue::Number(0), "0"),
+    (WidthValue::Number(1000), "1000"),
+    (WidthValue::Number(65_535), "65535"),
+    (WidthValue::Number(65_536), "65536"),
+    (WidthValue::Number(4_294_967_297), "4294967297"),
 ];
 
 /// The keys of a width file but `matrix`, in the order of their faults, each with the greatest value that it may have.
@@ -97,12 +97,12 @@ struct Draft {
 }
 
 /// What is wrong with the value of a key.
-fn fault_of(value: Value, key: WidthKey, most: i64) -> Option<WidthFault> {
+fn fault_of(value: WidthValue, key: WidthKey, most: i64) -> Option<WidthFault> {
     match value {
-        Value::Nothing => Some(WidthFault::Missing { key }),
-        Value::Other => Some(WidthFault::WrongType { key }),
-        Value::Number(number) if 1 <= number && number <= most => None,
-        Value::Number(_) => Some(WidthFault::OutOfRange { key }),
+        WidthValue::Nothing => Some(WidthFault::Missing { key }),
+        WidthValue::Other => Some(WidthFault::WrongType { key }),
+        WidthValue::Number(number) if 1 <= number && number <= most => None,
+        WidthValue::Number(_) => Some(WidthFault::OutOfRange { key }),
     }
 }
 
@@ -125,9 +125,9 @@ impl Draft {
     /// Writes a key and its value, where one stands there.
     fn put(&mut self, key: &'static str, written: Written) -> Option<()> {
         let number = match written.0 {
-            Value::Nothing => return self.numbers.push(0).ok(),
-            Value::Other => 0,
-            Value::Number(number) => number,
+            WidthValue::Nothing => return self.numbers.push(0).ok(),
+            WidthValue::Other => 0,
+            WidthValue::Number(number) => number,
         };
         self.numbers.push(number).ok()?;
         self.line(&["\"", key, "\" = ", written.1])
@@ -152,7 +152,7 @@ impl Draft {
     }
 
     /// What is wrong with the matrix at this place.
-    fn note_name(&mut self, is_good: bool, value: Value, place: usize) {
+    fn note_name(&mut self, is_good: bool, value: WidthValue, place: usize) {
         if !is_good {
             self.note(Some(WidthFault::BadName { place }));
         }
@@ -165,7 +165,7 @@ impl Draft {
         for (name, is_good) in NAMES {
             let written = drawn_for(dice, *is_good);
             self.put(name, written)?;
-            if !matches!(written.0, Value::Nothing) {
+            if !matches!(written.0, WidthValue::Nothing) {
                 self.note_name(*is_good, written.0, place);
                 place = place.saturating_add(1);
             }

@@ -11,13 +11,13 @@ use widths::Widths;
 
 /// What a reader is asked: to take in a piece, or whether the tape may end.
 #[derive(Clone, Copy)]
-enum Asks {
+enum ReaderAsks {
     Piece(&'static [u8]),
     End,
 }
 
 /// What it answers: where the lines were cut, or a fault.
-type Answer = Result<&'static [u32], ReadFault>;
+type ReaderAnswer = Result<&'static [u32], ReadFault>;
 
 /// Whether the lines were cut at these positions.
 fn are_cut_at(lines: &[Line], places: &[u32]) -> bool {
@@ -29,21 +29,21 @@ fn are_cut_at(lines: &[Line], places: &[u32]) -> bool {
     lines.len() == places.len()
 }
 
-fn answers(reader: &mut Reader<'_>, asks: Asks, answer: Answer) -> bool {
+fn answers(reader: &mut Reader<'_>, asks: ReaderAsks, answer: ReaderAnswer) -> bool {
     match asks {
-        Asks::Piece(piece) => match reader.push(piece) {
+        ReaderAsks::Piece(piece) => match reader.push(piece) {
             Ok(lines) => match answer {
                 Ok(places) => are_cut_at(&lines, places),
                 Err(_) => false,
             },
             Err(fault) => answer == Err(fault),
         },
-        Asks::End => reader.finish().err() == answer.err(),
+        ReaderAsks::End => reader.finish().err() == answer.err(),
     }
 }
 
 /// Whether a reader by the example's files, asked so, answers so each time.
-fn goes_so(alloc: Global, story: &[(Asks, Answer)]) -> bool {
+fn goes_so(alloc: Global, story: &[(ReaderAsks, ReaderAnswer)]) -> bool {
     let Some(job) = Job::new(alloc, true, &[0]) else {
         return false;
     };
@@ -56,57 +56,60 @@ fn goes_so(alloc: Global, story: &[(Asks, Answer)]) -> bool {
     true
 }
 
-const UNKNOWN_AT_0: Answer = Err(ReadFault::UnknownCode { at: 0 });
+const UNKNOWN_AT_0: ReaderAnswer = Err(ReadFault::UnknownCode { at: 0 });
 
-const UNKNOWN_AT_7: Answer = Err(ReadFault::UnknownCode { at: 7 });
+const UNKNOWN_AT_7: ReaderAnswer = Err(ReadFault::UnknownCode { at: 7 });
 
-const UNFINISHED_AT_1: Answer = Err(ReadFault::Unfinished { at: 1 });
+const UNFINISHED_AT_1: ReaderAnswer = Err(ReadFault::Unfinished { at: 1 });
 
 /// What readers are asked one after another, and what they answer.
-const STORIES: &[&[(Asks, Answer)]] = &[
+const STORIES: &[&[(ReaderAsks, ReaderAnswer)]] = &[
     // a line over two pieces, and more after an end that may be
     &[
-        (Asks::End, Ok(&[])),
-        (Asks::Piece(&[1, 2, 3]), Ok(&[])),
-        (Asks::Piece(&[]), Ok(&[])),
-        (Asks::Piece(&[1, 3, 2, 4]), Ok(&[6])),
-        (Asks::End, Ok(&[])),
-        (Asks::Piece(&[2, 4]), Ok(&[8])),
-        (Asks::End, Ok(&[])),
+        (ReaderAsks::End, Ok(&[])),
+        (ReaderAsks::Piece(&[1, 2, 3]), Ok(&[])),
+        (ReaderAsks::Piece(&[]), Ok(&[])),
+        (ReaderAsks::Piece(&[1, 3, 2, 4]), Ok(&[6])),
+        (ReaderAsks::End, Ok(&[])),
+        (ReaderAsks::Piece(&[2, 4]), Ok(&[8])),
+        (ReaderAsks::End, Ok(&[])),
     ],
     // a fault behind lines waits for the next call, whichever it is, and stays
     &[
-        (Asks::Piece(&[5, 2, 7, 4, 1, 11, 4, 12]), Ok(&[3, 6])),
-        (Asks::Piece(&[1]), UNKNOWN_AT_7),
-        (Asks::Piece(&[]), UNKNOWN_AT_7),
-        (Asks::End, UNKNOWN_AT_7),
+        (ReaderAsks::Piece(&[5, 2, 7, 4, 1, 11, 4, 12]), Ok(&[3, 6])),
+        (ReaderAsks::Piece(&[1]), UNKNOWN_AT_7),
+        (ReaderAsks::Piece(&[]), UNKNOWN_AT_7),
+        (ReaderAsks::End, UNKNOWN_AT_7),
     ],
     &[
-        (Asks::Piece(&[5, 2, 7, 4, 1, 11, 4, 12]), Ok(&[3, 6])),
-        (Asks::Piece(&[]), UNKNOWN_AT_7),
+        (ReaderAsks::Piece(&[5, 2, 7, 4, 1, 11, 4, 12]), Ok(&[3, 6])),
+        (ReaderAsks::Piece(&[]), UNKNOWN_AT_7),
     ],
     &[
-        (Asks::Piece(&[5, 2, 7, 4, 1, 11, 4, 12]), Ok(&[3, 6])),
-        (Asks::End, UNKNOWN_AT_7),
-        (Asks::Piece(&[1]), UNKNOWN_AT_7),
+        (ReaderAsks::Piece(&[5, 2, 7, 4, 1, 11, 4, 12]), Ok(&[3, 6])),
+        (ReaderAsks::End, UNKNOWN_AT_7),
+        (ReaderAsks::Piece(&[1]), UNKNOWN_AT_7),
     ],
     // an elevate code without items cuts no line for a fault to wait behind
     &[
-        (Asks::Piece(&[4, 4]), Ok(&[])),
-        (Asks::Piece(&[4, 12]), Err(ReadFault::UnknownCode { at: 3 })),
+        (ReaderAsks::Piece(&[4, 4]), Ok(&[])),
+        (
+            ReaderAsks::Piece(&[4, 12]),
+            Err(ReadFault::UnknownCode { at: 3 }),
+        ),
     ],
     // a byte that is no frame
     &[
-        (Asks::Piece(&[0x40]), UNKNOWN_AT_0),
-        (Asks::Piece(&[1, 4]), UNKNOWN_AT_0),
-        (Asks::End, UNKNOWN_AT_0),
+        (ReaderAsks::Piece(&[0x40]), UNKNOWN_AT_0),
+        (ReaderAsks::Piece(&[1, 4]), UNKNOWN_AT_0),
+        (ReaderAsks::End, UNKNOWN_AT_0),
     ],
     // an end that may not be is one for good
     &[
-        (Asks::Piece(&[1]), Ok(&[])),
-        (Asks::End, UNFINISHED_AT_1),
-        (Asks::Piece(&[4]), UNFINISHED_AT_1),
-        (Asks::End, UNFINISHED_AT_1),
+        (ReaderAsks::Piece(&[1]), Ok(&[])),
+        (ReaderAsks::End, UNFINISHED_AT_1),
+        (ReaderAsks::Piece(&[4]), UNFINISHED_AT_1),
+        (ReaderAsks::End, UNFINISHED_AT_1),
     ],
 ];
 

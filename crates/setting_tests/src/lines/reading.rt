@@ -14,7 +14,7 @@ pub fn lines_of(alloc: Global, job: &Job) -> Result<Vec<Line>, ReadFault> {
 type Stands = (&'static str, Rail, u16);
 
 /// A line: what stands in it, its quad, and the position of the elevate code that cuts it.
-type Row = (&'static [Stands], Option<Quad>, u32);
+type ReadRow = (&'static [Stands], Option<Quad>, u32);
 
 /// What stands there, as the rows have it. No name of a matrix begins as the words do.
 fn parts_of(item: &Item) -> (&str, Rail, u16) {
@@ -34,11 +34,11 @@ fn are_items(items: &[Item], rows: &[Stands]) -> bool {
     items.len() == rows.len()
 }
 
-fn is_line(line: &Line, row: &Row) -> bool {
+fn is_line(line: &Line, row: &ReadRow) -> bool {
     line.quad == row.1 && line.elevate_at == row.2 && are_items(line.items.as_slice(), row.0)
 }
 
-fn are_lines(lines: &[Line], rows: &[Row]) -> bool {
+fn are_lines(lines: &[Line], rows: &[ReadRow]) -> bool {
     for (line, row) in lines.iter().zip(rows) {
         if !is_line(line, row) {
             return false;
@@ -48,7 +48,7 @@ fn are_lines(lines: &[Line], rows: &[Row]) -> bool {
 }
 
 /// Whether these are the lines of these frames.
-fn reads(alloc: Global, frames: &[u8], rows: &[Row]) -> bool {
+fn reads(alloc: Global, frames: &[u8], rows: &[ReadRow]) -> bool {
     match Job::new(alloc, true, frames) {
         Some(job) => match lines_of(alloc, &job) {
             Ok(lines) => are_lines(&lines, rows),
@@ -65,7 +65,7 @@ const B: Stands = ("b", Rail::Lower, 6);
 const BAND: Stands = ("@spaceband", Rail::Lower, 0);
 
 /// Frames and their lines.
-const LINES: &[(&[u8], &[Row])] = &[
+const LINES: &[(&[u8], &[ReadRow])] = &[
     (FLOOD, &[(&[A, B, BAND, A, BAND, B], None, 6)]),
     // the case and the rail go on over an elevate code
     (

@@ -31,9 +31,9 @@ fn has_fault(alloc: Global, ligature: bool, frames: &[u8], fault: SetFault) -> b
 }
 
 /// Whether the ligature has a width, frames, the position and the line of their fault, and what it is.
-type Faulty = (bool, &'static [u8], u32, u32, Cause);
+type FaultySlug = (bool, &'static [u8], u32, u32, Cause);
 
-const FAULTS: &[Faulty] = &[
+const FAULTS: &[FaultySlug] = &[
     (true, &[1, 2, 3, 1, 2, 4], 5, 1, Cause::Loose { under: 2 }),
     (true, &[1, 1, 1, 1, 1, 4], 5, 1, Cause::Loose { under: 5 }),
     (true, OVERSET, 7, 1, Cause::Overset { over: 1 }),
@@ -52,7 +52,7 @@ const FAULTS: &[Faulty] = &[
 ];
 
 /// Frames and their first faults.
-pub fn all_faults() -> &'static [Faulty] {
+pub fn all_faults() -> &'static [FaultySlug] {
     FAULTS
 }
 

@@ -38,7 +38,7 @@ const BAD: &[u8] = &[
 ];
 
 /// A line: where it ends, its least and greatest width, its fault and the kind of its slug.
-struct Row {
+struct FitRow {
     cut_at: u32,
     least: u32,
     greatest: u32,
@@ -47,8 +47,8 @@ struct Row {
 }
 
 /// The lines of that tape.
-const LINES: &[Row] = &[
-    Row {
+const LINES: &[FitRow] = &[
+    FitRow {
         cut_at: 5,
         least: 24,
         greatest: 28,
@@ -59,14 +59,14 @@ const LINES: &[Row] = &[
         }),
         kind: None,
     },
-    Row {
+    FitRow {
         cut_at: 6,
         least: 0,
         greatest: 0,
         fault: None,
         kind: None,
     },
-    Row {
+    FitRow {
         cut_at: 9,
         least: 5,
         greatest: 5,
@@ -77,7 +77,7 @@ const LINES: &[Row] = &[
         }),
         kind: None,
     },
-    Row {
+    FitRow {
         cut_at: 17,
         least: 31,
         greatest: 39,
@@ -88,7 +88,7 @@ const LINES: &[Row] = &[
         }),
         kind: None,
     },
-    Row {
+    FitRow {
         cut_at: 20,
         least: 5,
         greatest: 5,
@@ -98,7 +98,7 @@ const LINES: &[Row] = &[
 ];
 
 /// Whether a line is as this row says.
-fn is_row(line: &LineFit, row: &Row) -> bool {
+fn is_row(line: &LineFit, row: &FitRow) -> bool {
     line.cut_at == row.cut_at
         && line.least == row.least
         && line.greatest == row.greatest
