@@ -23,8 +23,8 @@ does else. Operators, conversions and what a macro writes are no calls.
   clauses                                          2,698           6,022           4,198
   repeated                                           791           1,626             259
   long                                                22              78               0
-  functions                                          130             105               0
-  types                                               16              76               0
+  functions                                          157             128               0
+  types                                               51             118               0
   functions, files and crates of the walk    143, 49, 21     178, 68, 27     130, 48, 16
 
 0.2.0 is 504be7e1, and before is c260e571, before contracts were said once. 0.2.0 had no groups of steps: its legs were `take_datagram`
