@@ -4,7 +4,6 @@
 
 mod acts;
 mod change;
-mod content;
 mod fault;
 mod first_start;
 mod folders;
@@ -26,7 +25,6 @@ mod wishes;
 
 pub use acts::{Act, Noted};
 pub use change::{Change, Records};
-pub use content::FileContent;
 pub use fault::FolderFault;
 pub use first_start::{first_went_out, went_before};
 pub use folders::{Folders, Found, Listing, News, PassedOver, Unwritten, WentOut};

@@ -321,7 +321,7 @@ impl MemoryFolders {
         if self.is_full {
             return Err(FolderFault::Full);
         }
-        let named = NamedFile::of(alloc, &named.name, named.bytes())?;
+        let named = NamedFile::of(alloc, &named.name, named.bytes.as_ref())?;
         keep(&mut self.acts, Act::Wrote(named))
     }
 

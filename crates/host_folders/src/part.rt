@@ -63,24 +63,21 @@ impl Part {
         Ok(stamp_of(&self.file.metadata()?).touched)
     }
 
-    /// Writes bytes into it, and has the host begin to write them to the disk. By POSIX this is advice that its bytes are not needed soon, for
-    /// which Linux starts to write those that the disk lacks; a host that does not take it starts at the wait.
-    fn write(&mut self, bytes: &[u8]) -> Result<(), FolderFault> {
-        self.file.write_all(bytes)?;
-        self.file.set_len(bytes.len() as u64)?;
-        libc::posix_fadvise(self.file.as_raw_fd(), 0, 0, libc::POSIX_FADV_DONTNEED);
-        Ok(())
-    }
-
-    /// Writes bytes into it, all that it then holds, and does not wait for the disk. Where that fails it is taken away.
+    /// Writes bytes into it, all that it then holds, and has the host begin to write them to the disk. It does not wait for that. Where it
+    /// fails the file is taken away.
     pub(crate) fn fill(mut self, rt: &HostRuntime, bytes: &[u8]) -> Result<Part, FolderFault> {
-        match self.write(bytes) {
-            Ok(()) => Ok(self),
-            Err(fault) => {
-                self.discard(rt);
-                Err(fault)
-            }
+        let written = match self.file.write_all(bytes) {
+            Ok(()) => self.file.set_len(bytes.len() as u64),
+            Err(error) => Err(error),
+        };
+        if let Err(error) = written {
+            self.discard(rt);
+            return Err(FolderFault::from(error));
         }
+        // By POSIX this is advice that its bytes are not needed soon, for which Linux starts to write those that the disk lacks; a host that
+        // does not take it starts at the wait.
+        libc::posix_fadvise(self.file.as_raw_fd(), 0, 0, libc::POSIX_FADV_DONTNEED);
+        Ok(self)
     }
 
     /// Waits until the disk has what it holds, and gives it its name.

@@ -101,7 +101,7 @@ impl Releases {
                 Some(spare) => spare,
                 None => Part::make(maker, &self.guarded.path)?,
             };
-            let _ = begun.push_back(empty.fill(maker.rt, named.bytes())?);
+            let _ = begun.push_back(empty.fill(maker.rt, named.bytes.as_ref())?);
         }
         Ok(())
     }
@@ -137,13 +137,13 @@ impl Releases {
         self.has_new_names = true;
         let path = self.guarded.within(maker.rt.alloc(), &named.name)?;
         let Some(part) = begun else {
-            return self.write_whole(maker, &path, named.bytes());
+            return self.write_whole(maker, &path, named.bytes.as_ref());
         };
         match part.name_as(maker.rt, &path) {
             Ok(_) => Ok(()),
             Err(FolderFault::Changed) => {
                 let _ = self.news.push(News::WrittenAnew);
-                self.write_whole(maker, &path, named.bytes())
+                self.write_whole(maker, &path, named.bytes.as_ref())
             }
             Err(fault) => Err(fault),
         }

@@ -1,29 +1,32 @@
 //! Releases as files.
 
 ghost use Rattle.std.specs.Prelude.{◌≡◌, ◌++◌, OnOk, IfOk, codes, string_bytes};
-ghost use Rattle.folders.specs.Written.{content_of};
 ghost use Rattle.refusals.specs.CauseWords.{cause_text};
 ghost use Rattle.station.specs.Readiness.{slugs_of};
 ghost use Rattle.run_command.specs.ReleaseFiles.{file, galley_text, files_of};
 
-use folders::{FileContent, NamedFile, file_name};
+use folders::{NamedFile, file_name};
 use line_check::{SetFault, Slug, galley};
 use refusals::CauseText;
 use station::Release;
 use std::alloc::{AllocError, Global};
-use tape_frames::Entry;
+use tape_frames::{Entry, Tape};
 
 /// A file of this number and kind.
-fn file(
-    alloc: Global,
-    number: u32,
-    kind: &str,
-    content: FileContent,
-) -> Result<NamedFile, AllocError>
-    ensures { IfOk result (λ p. p ≡ file number kind.now (content_of content)) }
+fn file(alloc: Global, number: u32, kind: &str, bytes: Vec<u8>) -> Result<NamedFile, AllocError>
+    ensures { IfOk result (λ p. p ≡ file number kind.now bytes.items) }
 {
     let name = file_name(alloc, number, kind)?;
-    Ok(NamedFile::new(name, content))
+    NamedFile::new(alloc, name, bytes)
+}
+
+/// The file of a tape, one frame a byte, which it shares with the tape.
+fn tape_file(alloc: Global, number: u32, tape: &Tape) -> Result<NamedFile, AllocError>
+    ensures { IfOk result (λ p. p ≡ file number (codes ".tape") tape.now) }
+{
+    let name = file_name(alloc, number, ".tape")?;
+    let bytes = tape.shared_frames()?;
+    Ok(NamedFile { name, bytes })
 }
 
 /// The line that stands in place of a galley where a tape does not set.
@@ -50,7 +53,7 @@ fn galley_text(alloc: Global, set: &Result<Vec<Slug>, SetFault>) -> Result<Vec<u
     }
 }
 
-/// Lets the files of a release, if there is one, wait behind the others: of a tape `12.tape` with its frames, which it shares, and `12.galley` with its
+/// Lets the files of a release, if there is one, wait behind the others: of a tape `12.tape` with its frames and `12.galley` with its
 /// slugs, or with why it does not set; of a withdrawal `12.void`, which is empty. Where there is no memory for them, `AllocError`.
 pub(crate) fn keep_files(
     alloc: Global,
@@ -64,14 +67,10 @@ pub(crate) fn keep_files(
     };
     let number = release.number.get();
     match &release.entry {
-        Entry::Void => {
-            let nothing = FileContent::Bytes(Vec::new(alloc));
-            waits.push(file(alloc, number, ".void", nothing)?)?;
-        }
+        Entry::Void => waits.push(file(alloc, number, ".void", Vec::new(alloc))?)?,
         Entry::Tape(tape) => {
-            let frames = FileContent::Frames(tape.copy()?);
-            let text = FileContent::Bytes(galley_text(alloc, &release.set)?);
-            waits.push(file(alloc, number, ".tape", frames)?)?;
+            let text = galley_text(alloc, &release.set)?;
+            waits.push(tape_file(alloc, number, tape)?)?;
             waits.push(file(alloc, number, ".galley", text)?)?;
         }
     }

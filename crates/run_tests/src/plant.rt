@@ -96,7 +96,7 @@ pub fn count_filed(folders: &MemoryFolders) -> usize {
 fn write_filed(act: &Doing, text: &mut Vec<u8>) -> bool {
     match act {
         Doing::Wrote(named) => {
-            let (name, count) = (named.name.as_str(), named.bytes().len());
+            let (name, count) = (named.name.as_str(), named.bytes.as_ref().len());
             writeln!(text, "wrote {name} {count}").is_ok()
         }
         _ => true,

@@ -230,6 +230,14 @@ impl Tape {
         self.lend().same(other)
     }
 
+    /// Its frames, in order, one a byte, which it shares. It takes no memory: an error comes only where there are more owners than can be
+    /// counted.
+    pub fn shared_frames(&self) -> Result<Rc<Vec<u8>>, AllocError>
+        ensures { IfOk result (λ r. r.value.items ≡ self.now) }
+    {
+        self.frames.clone()
+    }
+
     /// An equal tape, which shares the frames. It takes no memory: an error comes only where there are more owners than can be counted.
     pub fn copy(&self) -> Result<Tape, AllocError>
         ensures { IfOk result (λ t. t ≡ self.now) }
