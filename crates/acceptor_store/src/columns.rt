@@ -16,7 +16,7 @@ ghost use Rattle.rows_saved.specs.Saved.{HasPromise, RowFits, AreFitting};
 
 use crate::entry_columns::entry_in;
 use ballots::{Ballot, Member, Number, Row, Vote, VoteRef};
-use rows_table::{Layout, RowColumns};
+use rows_table::{Layout, RowColumns, RowVote};
 use sqlite::types::ValueRef;
 use std::alloc::{AllocError, Global};
 use tape_frames::{EntryRef, MAX_FRAMES_ONE, TapeRef};
@@ -283,9 +283,7 @@ pub(crate) fn columns_for(
             number,
             promised_round,
             promised_owner,
-            vote_round: None,
-            vote_owner: None,
-            tape: None,
+            vote: None,
         });
     };
     let ballot = vote.ballot();
@@ -294,8 +292,10 @@ pub(crate) fn columns_for(
         number,
         promised_round,
         promised_owner,
-        vote_round: Some(ballot.round()),
-        vote_owner: Some(u32::from(ballot.owner().get())),
-        tape: Some(frames),
+        vote: Some(RowVote {
+            round: ballot.round(),
+            owner: u32::from(ballot.owner().get()),
+            tape: frames,
+        }),
     })
 }

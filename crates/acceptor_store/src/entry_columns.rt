@@ -13,7 +13,7 @@ ghost use Rattle.acceptor_store.specs.Columns.{packed_entry, entry_in, columns_f
 
 use crate::columns::whole_in;
 use ballots::{Number, Row};
-use rows_table::EntryColumns;
+use rows_table::{EntryColumns, EntryVote};
 use sqlite::types::ValueRef;
 use std::alloc::{AllocError, Global};
 use tape_frames::{EntryRef, PackedRef, laws};
@@ -85,15 +85,12 @@ pub(crate) fn entry_columns_for(
             number,
             promised_round,
             promised_owner,
-            vote_round: None,
-            vote_owner: None,
-            length: None,
-            packed: None,
+            vote: None,
         });
     };
     let ballot = vote.ballot();
-    let vote_round = ballot.round();
-    let vote_owner = u32::from(ballot.owner().get());
+    let round = ballot.round();
+    let owner = u32::from(ballot.owner().get());
     let entry = vote.entry();
     let length = entry.len();
     let packed = packed_frames(alloc, &entry)?;
@@ -102,9 +99,11 @@ pub(crate) fn entry_columns_for(
         number,
         promised_round,
         promised_owner,
-        vote_round: Some(vote_round),
-        vote_owner: Some(vote_owner),
-        length: Some(length as u32),
-        packed: Some(packed),
+        vote: Some(EntryVote {
+            round,
+            owner,
+            length: length as u32,
+            packed,
+        }),
     })
 }

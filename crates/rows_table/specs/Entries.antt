@@ -22,7 +22,9 @@ entry_columns promised_round promised_owner vote_round vote_owner frames packed 
 
 -- the columns of an entry
 abbrev pub columns_of_entry : EntryColumns → Row
-columns_of_entry e = entry_columns e.promised_round e.promised_owner e.vote_round e.vote_owner e.length (option_map (λ v. v.items) e.packed)
+columns_of_entry e =
+    entry_columns e.promised_round e.promised_owner
+    (option_map (λ v. v.round) e.vote) (option_map (λ v. v.owner) e.vote) (option_map (λ v. v.length) e.vote) (option_map (λ v. v.packed.items) e.vote)
 
 -- an entry as the row that the table stores
 abbrev pub entry_row : EntryColumns → Row

@@ -1,5 +1,5 @@
 -- What an act makes of a database: `old` is the state of the connection before it, `new` after it. All is said where the disk returned what was written.
-use Rattle.std.specs.Prelude.{◌≡◌, ◌⊎◌, ℕ, List, [], Result, OnOk, IsTrue}
+use Rattle.std.specs.Prelude.{◌≡◌, ◌⊎◌, List, [], Result, OnOk, IsTrue}
 use Rattle.sqlite_value.specs.Order.{Row}
 use Rattle.sqlite_trees.specs.Tree.{Trees, put_row}
 use Rattle.sqlite.specs.State.{State, HasCleanDisk}

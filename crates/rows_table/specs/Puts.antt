@@ -13,7 +13,7 @@ use Rattle.rows_table.specs.declared.puts.RowColumns.{RowColumns}
 
 -- the columns of a row of layout 1
 abbrev pub columns_of_row : RowColumns → Row
-columns_of_row r = columns_of r.promised_round r.promised_owner r.vote_round r.vote_owner (option_map (λ v. v.items) r.tape)
+columns_of_row r = columns_of r.promised_round r.promised_owner (option_map (λ v. v.round) r.vote) (option_map (λ v. v.owner) r.vote) (option_map (λ v. v.tape.items) r.vote)
 
 -- an Ok has saved this row; a refusal has changed nothing, and a crash leaves what was there, or that with this row
 pub record PutsRow {A E : Type 0} (layout : Layout) (number : ℕ) (columns : Row) (result : Result A E) (old new : State) : Type 0 where

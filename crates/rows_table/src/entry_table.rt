@@ -5,9 +5,20 @@ ghost use Rattle.rows_table.specs.Making.{AddsEntries, AddsEntry, MakesEntryTabl
 
 use sqlite::{Alter, Error, Transaction, params};
 
+/// The columns of a vote in the table of entries.
+#[derive(Drop)]
+pub struct EntryVote {
+    /// The round of the ballot that the vote was cast in.
+    pub round: u32,
+    /// The member that owns that ballot.
+    pub owner: u32,
+    /// How many frames the entry has that was voted for.
+    pub length: u32,
+    /// Its frames, six bits each, four frames in three bytes.
+    pub packed: Vec<u8>,
+}
+
 /// A row of the table of entries, column by column.
-///
-/// The last four are all there, a vote, or none of them is.
 #[derive(Drop)]
 pub struct EntryColumns {
     /// The number that the row is about, which is its key.
@@ -16,14 +27,8 @@ pub struct EntryColumns {
     pub promised_round: u32,
     /// The member that owns that ballot.
     pub promised_owner: u32,
-    /// The round of the ballot that the vote was cast in.
-    pub vote_round: Option<u32>,
-    /// The member that owns that ballot.
-    pub vote_owner: Option<u32>,
-    /// How many frames the entry has that was voted for.
-    pub length: Option<u32>,
-    /// Its frames, six bits each, four frames in three bytes.
-    pub packed: Option<Vec<u8>>,
+    /// The vote, if there is one; without one its columns are null.
+    pub vote: Option<EntryVote>,
 }
 
 /// Makes the table of entries, empty, beside the tables that are there.
@@ -45,16 +50,17 @@ pub fn make_entry_table<S: Alter>(tx: &mut Transaction<'_, S>) -> Result<(), Err
 pub fn add_entry<S: Alter>(tx: &mut Transaction<'_, S>, entry: &EntryColumns) -> Result<(), Error>
     ensures { ActsWithin S.Store (AddsEntry entry.now) result tx.old tx.new }
 {
+    let vote = entry.vote.as_ref();
     tx.execute(
         "INSERT INTO acceptor_entry VALUES (?1, ?2, ?3, ?4, ?5, ?6, ?7)",
         params![
             entry.number,
             entry.promised_round,
             entry.promised_owner,
-            entry.vote_round,
-            entry.vote_owner,
-            entry.length,
-            entry.packed.as_ref()
+            vote.map(|vote| vote.round),
+            vote.map(|vote| vote.owner),
+            vote.map(|vote| vote.length),
+            vote.map(|vote| &vote.packed)
         ],
     )?;
     Ok(())

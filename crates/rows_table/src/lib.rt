@@ -13,9 +13,9 @@ mod tables;
 mod upgrade;
 
 pub use cursor::TableVisitor;
-pub use entry_table::{EntryColumns, add_entries, add_entry, make_entry_table};
+pub use entry_table::{EntryColumns, EntryVote, add_entries, add_entry, make_entry_table};
 pub use layout::{Layout, LayoutOrigin};
-pub use puts::{RowColumns, put_entry, put_row};
+pub use puts::{RowColumns, RowVote, put_entry, put_row};
 pub use reads::{all_rows, get_row, visit_rows};
 pub use rising::{are_rising, number_above, rising_is_listed, rows_rise};
 pub use staging::{stage_entry, stage_row};

@@ -7,9 +7,18 @@ ghost use Rattle.rows_table.specs.Puts.{PutsEntry, PutsRow, columns_of_row};
 use crate::entry_table::EntryColumns;
 use sqlite::{Alter, Connection, Error, params};
 
+/// The columns of a vote in the table of rows.
+#[derive(Drop)]
+pub struct RowVote {
+    /// The round of the ballot that the vote was cast in.
+    pub round: u32,
+    /// The member that owns that ballot.
+    pub owner: u32,
+    /// The frames of the tape that was voted for, one a byte.
+    pub tape: Vec<u8>,
+}
+
 /// A row of the table of rows, column by column.
-///
-/// The last three are all there, a vote, or none of them is.
 #[derive(Drop)]
 pub struct RowColumns {
     /// The number that the row is about, which is its key.
@@ -18,12 +27,8 @@ pub struct RowColumns {
     pub promised_round: u32,
     /// The member that owns that ballot.
     pub promised_owner: u32,
-    /// The round of the ballot that the vote was cast in.
-    pub vote_round: Option<u32>,
-    /// The member that owns that ballot.
-    pub vote_owner: Option<u32>,
-    /// The frames of the tape that was voted for, one a byte.
-    pub tape: Option<Vec<u8>>,
+    /// The vote, if there is one; without one its columns are null.
+    pub vote: Option<RowVote>,
 }
 
 /// The statement that puts one row in place of the one under its number.
@@ -41,15 +46,16 @@ pub(crate) const PUT_ENTRY: &str =
 pub fn put_row<S: Alter>(conn: &mut Connection<S>, row: &RowColumns) -> Result<usize, Error>
     ensures { PutsRow One row.now.number (columns_of_row row.now) result (state S.Store conn.old) (state S.Store conn.new) }
 {
+    let vote = row.vote.as_ref();
     conn.execute(
         PUT_ROW,
         params![
             row.number,
             row.promised_round,
             row.promised_owner,
-            row.vote_round,
-            row.vote_owner,
-            row.tape.as_ref()
+            vote.map(|vote| vote.round),
+            vote.map(|vote| vote.owner),
+            vote.map(|vote| &vote.tape)
         ],
     )
 }
@@ -58,16 +64,17 @@ pub fn put_row<S: Alter>(conn: &mut Connection<S>, row: &RowColumns) -> Result<u
 pub fn put_entry<S: Alter>(conn: &mut Connection<S>, entry: &EntryColumns) -> Result<usize, Error>
     ensures { PutsEntry entry.now result (state S.Store conn.old) (state S.Store conn.new) }
 {
+    let vote = entry.vote.as_ref();
     conn.execute(
         PUT_ENTRY,
         params![
             entry.number,
             entry.promised_round,
             entry.promised_owner,
-            entry.vote_round,
-            entry.vote_owner,
-            entry.length,
-            entry.packed.as_ref()
+            vote.map(|vote| vote.round),
+            vote.map(|vote| vote.owner),
+            vote.map(|vote| vote.length),
+            vote.map(|vote| &vote.packed)
         ],
     )
 }

@@ -16,15 +16,16 @@ use sqlite::{Alter, Error, Transaction, params};
 pub fn stage_row<S: Alter>(tx: &mut Transaction<'_, S>, row: &RowColumns) -> Result<(), Error>
     ensures { ActsWithin S.Store (StagesRow One row.now.number (columns_of_row row.now)) result tx.old tx.new }
 {
+    let vote = row.vote.as_ref();
     tx.execute(
         PUT_ROW,
         params![
             row.number,
             row.promised_round,
             row.promised_owner,
-            row.vote_round,
-            row.vote_owner,
-            row.tape.as_ref()
+            vote.map(|vote| vote.round),
+            vote.map(|vote| vote.owner),
+            vote.map(|vote| &vote.tape)
         ],
     )?;
     Ok(())
@@ -34,16 +35,17 @@ pub fn stage_row<S: Alter>(tx: &mut Transaction<'_, S>, row: &RowColumns) -> Res
 pub fn stage_entry<S: Alter>(tx: &mut Transaction<'_, S>, entry: &EntryColumns) -> Result<(), Error>
     ensures { ActsWithin S.Store (StagesEntry entry.now) result tx.old tx.new }
 {
+    let vote = entry.vote.as_ref();
     tx.execute(
         PUT_ENTRY,
         params![
             entry.number,
             entry.promised_round,
             entry.promised_owner,
-            entry.vote_round,
-            entry.vote_owner,
-            entry.length,
-            entry.packed.as_ref()
+            vote.map(|vote| vote.round),
+            vote.map(|vote| vote.owner),
+            vote.map(|vote| vote.length),
+            vote.map(|vote| &vote.packed)
         ],
     )?;
     Ok(())

@@ -1,6 +1,6 @@
 //! Rows as the columns of their tables.
 
-use rows_table::{EntryColumns, RowColumns};
+use rows_table::{EntryColumns, EntryVote, RowColumns};
 use std::alloc::Global;
 
 /// A promise of 1.1 alone.
@@ -9,10 +9,7 @@ pub fn promise(number: u32) -> EntryColumns {
         number,
         promised_round: 1,
         promised_owner: 1,
-        vote_round: None,
-        vote_owner: None,
-        length: None,
-        packed: None,
+        vote: None,
     }
 }
 
@@ -23,10 +20,12 @@ pub fn vote(alloc: Global, number: u32) -> Option<EntryColumns> {
         number,
         promised_round: 1,
         promised_owner: 3,
-        vote_round: Some(1),
-        vote_owner: Some(1),
-        length: Some(3),
-        packed: Some(packed),
+        vote: Some(EntryVote {
+            round: 1,
+            owner: 1,
+            length: 3,
+            packed,
+        }),
     })
 }
 
@@ -36,8 +35,6 @@ pub fn promise_in_layout_one(number: u32) -> RowColumns {
         number,
         promised_round: 1,
         promised_owner: 1,
-        vote_round: None,
-        vote_owner: None,
-        tape: None,
+        vote: None,
     }
 }

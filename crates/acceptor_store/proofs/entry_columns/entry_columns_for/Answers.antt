@@ -18,4 +18,4 @@ returns-clause-back c origin =
     let voted : Some vote ≡ c.args.row.now.vote = ap (λ (v : Vote). Some v) (sym same) ∙ c.in-Some-vote.ensures.value in
     let stands : may_stand (Some p) (Some vote) ≡ true = subst₂ (λ x y. may_stand x y ≡ true) (sym promised) (sym voted) c.in-Some-vote.ensures.stands in
     subst₂ (λ x y. row_in (Two origin) 0 (columns_with (Two origin) x y) ≡ Some (record { promised = x; vote = y })) promised voted
-    (back_with origin p b e c.entries_come_back.ensures c.round-promised_round.ensures.range c.round-vote_round.ensures.range c.len-length.ensures.is_entry stands)
+    (back_with origin p b e c.entries_come_back.ensures c.round-promised_round.ensures.range c.round-round.ensures.range c.len-length.ensures.is_entry stands)
