@@ -20,7 +20,7 @@ that a station under `run` has. Left out are the ways of a `match` or an `if` th
 does else. Operators, conversions and what a macro writes are no calls.
 
   what it gives                                    0.2.0          before             now
-  clauses                                          2,698           6,022           4,198
+  clauses                                          2,698           6,022           4,201
   repeated                                           791           1,626             259
   long                                                22              78               0
   functions                                          157             128               0
