@@ -3,7 +3,7 @@
 use crate::plant::{PlantRun, RUN, machine_of, place_word, terms};
 use crate::stage::OfferHeld::{Flood, Harvest, Nothing};
 use crate::stage::OfferName::{Stop, Tape12};
-use crate::stage::StageAct as Happens;
+use crate::stage::StageAct;
 use crate::stage::StageChange::Laid;
 use folders::Act;
 use log_terms::Loudness;
@@ -29,9 +29,9 @@ fn put_act(act: &Act, text: &mut Vec<u8>) -> bool {
 fn done(alloc: Global) -> Option<Vec<u8>> {
     let run = PlantRun {
         acts: &[
-            Happens(1, Laid(Tape12, Flood)),
-            Happens(10, Laid(Tape12, Harvest)),
-            Happens(20, Laid(Stop, Nothing)),
+            StageAct(1, Laid(Tape12, Flood)),
+            StageAct(10, Laid(Tape12, Harvest)),
+            StageAct(20, Laid(Stop, Nothing)),
         ],
         ..RUN
     };

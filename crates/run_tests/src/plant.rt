@@ -6,7 +6,7 @@ use ballots::Member;
 use code_table::CodeTable;
 use command_ends::{End, end_with};
 use driver::Machine;
-use folders::{MemoryFolders, Place, StageAct as Doing};
+use folders::{Act, MemoryFolders, Place};
 use gone_out::Origin;
 use log_terms::Loudness;
 use plant_status::NoStatus;
@@ -85,7 +85,7 @@ pub fn place_word(to: Place) -> &'static str {
 pub fn count_filed(folders: &MemoryFolders) -> usize {
     let mut count: usize = 0;
     for act in folders.acts() {
-        if let Doing::Wrote(_) = act {
+        if let Act::Wrote(_) = act {
             count = count.saturating_add(1);
         }
     }
@@ -93,9 +93,9 @@ pub fn count_filed(folders: &MemoryFolders) -> usize {
 }
 
 /// Writes a line for a file that was written among the releases; whether there was memory for it.
-fn write_filed(act: &Doing, text: &mut Vec<u8>) -> bool {
+fn write_filed(act: &Act, text: &mut Vec<u8>) -> bool {
     match act {
-        Doing::Wrote(named) => {
+        Act::Wrote(named) => {
             let (name, count) = (named.name.as_str(), named.bytes.as_ref().len());
             writeln!(text, "wrote {name} {count}").is_ok()
         }
@@ -104,19 +104,19 @@ fn write_filed(act: &Doing, text: &mut Vec<u8>) -> bool {
 }
 
 /// The same for a file that left the offers.
-fn write_moved(act: &Doing, text: &mut Vec<u8>) -> bool {
+fn write_moved(act: &Act, text: &mut Vec<u8>) -> bool {
     let (place, name) = match act {
-        Doing::SetAside(name, to) => (place_word(*to), name.as_str()),
-        Doing::TakenAway(name) => ("gone", name.as_str()),
+        Act::SetAside(name, to) => (place_word(*to), name.as_str()),
+        Act::TakenAway(name) => ("gone", name.as_str()),
         _ => return true,
     };
     writeln!(text, "{place} {name}").is_ok()
 }
 
 /// The same for a text that was written beside a file.
-fn write_noted(act: &Doing, text: &mut Vec<u8>) -> bool {
+fn write_noted(act: &Act, text: &mut Vec<u8>) -> bool {
     match act {
-        Doing::Noted(noted) => {
+        Act::Noted(noted) => {
             let (place, name) = (place_word(noted.to), noted.name.as_str());
             let line = noted.text.as_str();
             write!(text, "{place} {name}: {line}").is_ok()
