@@ -15,6 +15,8 @@ import sys
 import tempfile
 import time
 
+import proved
+
 HERE = os.path.dirname(os.path.abspath(__file__))
 CIRCUIT, MEMBER = 7, 2
 RUNS = 15
@@ -96,7 +98,7 @@ def write(path, text):
 def main():
     if len(sys.argv) not in (2, 3):
         sys.exit(__doc__)
-    program = os.path.abspath(sys.argv[1])
+    program = proved.program(sys.argv[1])
     word = sys.argv[2] if len(sys.argv) == 3 else ''
     with tempfile.TemporaryDirectory() as work:
         peer, path = os.path.join(work, 'peer'), os.path.join(work, 'asked')

@@ -42,6 +42,8 @@ import sys
 import time
 from typing import NamedTuple
 
+import proved
+
 import burst
 from hostile import CIRCUIT, DATAGRAM, TELLS, Circuit, ends_of, ip_packet, is_datagram, payload_of, said_in, turned
 from kills import Wrong
@@ -450,7 +452,7 @@ def main():
         print('skipped: it needs root, ip and /dev/net/tun')
         return 0
     print(f'seed {words.seed}', flush=True)
-    play = Play(os.path.abspath(words.program), words.tries, not words.plain, words.datagrams, random.Random(words.seed), words.keep)
+    play = Play(proved.program(words.program), words.tries, not words.plain, words.datagrams, random.Random(words.seed), words.keep)
     names = words.only or [name for name in ATTACKS if play.keyed or name not in KEYED]
     return 0 if all([tried(name, play) for name in names]) else 1
 

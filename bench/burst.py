@@ -56,6 +56,7 @@ import tempfile
 import threading
 import time
 
+import proved
 from net import Net
 
 HERE = os.path.dirname(os.path.abspath(__file__))
@@ -535,7 +536,7 @@ def main():
     unknown = [name for name in asked.cases if name not in CASES]
     if unknown:
         sys.exit(f'no such case: {", ".join(unknown)}\n{__doc__}')
-    program = os.path.abspath(asked.program)
+    program = proved.program(asked.program)
     # Fifteen plants and their watches hold some hundred files.
     resource.setrlimit(resource.RLIMIT_NOFILE, (4096, resource.getrlimit(resource.RLIMIT_NOFILE)[1]))
     all_elsewhere, runs, lacking = {}, 0, 0

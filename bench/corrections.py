@@ -21,6 +21,8 @@ import sys
 import tempfile
 import time
 
+import proved
+
 HERE = os.path.dirname(os.path.abspath(__file__))
 EXAMPLES = os.path.join(HERE, '..', 'examples')
 MEMBERS = (1, 2, 3)
@@ -209,7 +211,7 @@ class Circuit:
 
 
 def main():
-    program = os.path.abspath(sys.argv[1])
+    program = proved.program(sys.argv[1])
     kills = int(sys.argv[2]) if len(sys.argv) > 2 else KILLS
     seed = int(sys.argv[3]) if len(sys.argv) > 3 else random.randrange(1 << 32)
     circuit = Circuit(program, random.Random(seed))

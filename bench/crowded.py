@@ -40,6 +40,8 @@ import tempfile
 import threading
 import time
 
+import proved
+
 HERE = os.path.dirname(os.path.abspath(__file__))
 EXAMPLES = os.path.join(HERE, '..', 'examples')
 STORY = bytes.fromhex('01020301030204')
@@ -297,9 +299,9 @@ def main():
     words = parser.parse_args()
     for name in words.cases or CASES:
         if words.turns:
-            watch(os.path.abspath(words.program), name, words.count)
+            watch(proved.program(words.program), name, words.count)
         else:
-            run(os.path.abspath(words.program), name, words.count, words.rest)
+            run(proved.program(words.program), name, words.count, words.rest)
     return 0
 
 

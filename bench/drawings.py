@@ -14,6 +14,8 @@ import sys
 import tempfile
 import time
 
+import proved
+
 HERE = os.path.dirname(os.path.abspath(__file__))
 WIRE = os.path.join(HERE, '..', 'examples', 'wire')
 RUNS = 15
@@ -47,7 +49,7 @@ def beside(programs, words):
 def main():
     if len(sys.argv) != 3:
         sys.exit(__doc__)
-    programs = sys.argv[1:]
+    programs = [proved.program(word) for word in sys.argv[1:]]
     starts, _ = beside(programs, ['--version'])
     print(f'--version: {starts[0]:.1f} ms and {starts[1]:.1f} ms')
     for times in (1, 10, 41):

@@ -43,6 +43,8 @@ import tempfile
 import time
 from collections import Counter
 
+import proved
+
 import plants
 from commits import commits_of, end_of, sizes
 from kills import MEMBERS, NEVER, ROWS, VOID, Network, Row, Wrong, shell
@@ -761,7 +763,7 @@ def main():
         sys.exit(__doc__)
     if shutil.which('sqlite3') is None:
         sys.exit('grouped.py: no SQLite shell: apt-get install sqlite3')
-    program = os.path.abspath(words[0])
+    program = proved.program(words[0])
     counts = [int(word) for word in words[1:]]
     seed = counts.pop() if len(counts) == (1 if forges else 3) else random.SystemRandom().randrange(1_000_000)
     print(f'seed {seed}', flush=True)

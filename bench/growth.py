@@ -13,6 +13,8 @@ import sys
 import tempfile
 import time
 
+import proved
+
 from scripts import heard_again, in_hand, released
 
 HERE = os.path.dirname(os.path.abspath(__file__))
@@ -40,7 +42,7 @@ def seconds(program, lines, runs):
 def main():
     if len(sys.argv) not in (2, 3):
         sys.exit(__doc__)
-    program = os.path.abspath(sys.argv[1])
+    program = proved.program(sys.argv[1])
     runs = int(sys.argv[2]) if len(sys.argv) == 3 else 5
     for name, script, length in KINDS:
         once, twice = (seconds(program, script(n), runs) for n in (length, 2 * length))

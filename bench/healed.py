@@ -26,6 +26,8 @@ import sys
 import tempfile
 import time
 
+import proved
+
 from burst import rows_of
 from kills import MEMBERS, Wrong
 from soak import Lossy, Plant, empty, end
@@ -164,7 +166,7 @@ def main():
     parser.add_argument('--seed', type=int, default=random.randrange(1 << 32))
     parser.add_argument('program')
     words = parser.parse_args()
-    program, top = os.path.abspath(words.program), tempfile.mkdtemp(dir=os.getcwd())
+    program, top = proved.program(words.program), tempfile.mkdtemp(dir=os.getcwd())
     chance = random.Random(words.seed)
     network = Lossy(chance, chance.uniform(*words.loss))
     print(f'seed {words.seed}, {100 * network.loss:.0f} % lost', flush=True)

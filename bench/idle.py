@@ -18,6 +18,8 @@ import sys
 import tempfile
 import time
 
+import proved
+
 from burst import Plant, free_ports
 
 LINE = bytes.fromhex('01020301030204')
@@ -78,7 +80,7 @@ def main():
     words = parser.parse_args()
     for is_off in (False, True):
         with tempfile.TemporaryDirectory(prefix='idle-') as folder:
-            run(os.path.abspath(words.program), folder, words, is_off)
+            run(proved.program(words.program), folder, words, is_off)
 
 
 if __name__ == '__main__':

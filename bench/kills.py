@@ -31,6 +31,8 @@ import sys
 import tempfile
 import time
 
+import proved
+
 HERE = os.path.dirname(os.path.abspath(__file__))
 EXAMPLES = os.path.join(HERE, '..', 'examples')
 NUMBERS = range(1, 13)
@@ -415,7 +417,7 @@ def tell(circuits, seed):
 def main():
     if not 2 <= len(sys.argv) <= 4:
         sys.exit(__doc__)
-    program = os.path.abspath(sys.argv[1])
+    program = proved.program(sys.argv[1])
     kills = int(sys.argv[2]) if len(sys.argv) > 2 else 1000
     seed = int(sys.argv[3]) if len(sys.argv) > 3 else random.SystemRandom().randrange(1_000_000)
     if shutil.which('sqlite3') is None:

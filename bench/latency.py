@@ -31,6 +31,8 @@ import sys
 import tempfile
 import time
 
+import proved
+
 HERE = os.path.dirname(os.path.abspath(__file__))
 EXAMPLES = os.path.join(HERE, '..', 'examples')
 MEMBERS = (1, 2, 3)
@@ -184,7 +186,7 @@ def main():
     words = [word for word in sys.argv[1:] if word != '--renamed']
     if not 1 <= len(words) <= 2:
         sys.exit(__doc__)
-    program = os.path.abspath(words[0])
+    program = proved.program(words[0])
     count = int(words[1]) if len(words) > 1 else 200
     folder = tempfile.mkdtemp(dir=os.getcwd())
     ports, plants = free_ports(), []

@@ -25,6 +25,8 @@ import sys
 import tempfile
 import time
 
+import proved
+
 from makings import EXAMPLES, Disk, Wrong
 
 STATION = """circuit = {circuit}
@@ -303,7 +305,7 @@ def play_cuts(program, tables, cuts, chance):
 def main():
     if len(sys.argv) < 2:
         sys.exit(__doc__)
-    program = os.path.abspath(sys.argv[1])
+    program = proved.program(sys.argv[1])
     kills, cuts, seed = [int(word) for word in sys.argv[2:]] + [500, 200, 1][len(sys.argv) - 2:]
     tables = tempfile.mkdtemp(prefix='lives-')
     configure(tables)

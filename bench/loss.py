@@ -22,6 +22,8 @@ import subprocess
 import sys
 import tempfile
 
+import proved
+
 HERE = os.path.dirname(os.path.abspath(__file__))
 EXAMPLES = os.path.join(HERE, '..', 'examples')
 STORY = '01020301030204'
@@ -146,7 +148,7 @@ def measure(program, folder, members, loss, runs, chance):
 def main():
     if len(sys.argv) not in (2, 3, 4):
         sys.exit(__doc__)
-    program = os.path.abspath(sys.argv[1])
+    program = proved.program(sys.argv[1])
     runs = int(sys.argv[2]) if len(sys.argv) > 2 else 20
     seed = int(sys.argv[3]) if len(sys.argv) > 3 else 1
     chance = random.Random(seed)

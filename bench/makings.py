@@ -23,6 +23,8 @@ import sys
 import tempfile
 import time
 
+import proved
+
 HERE = os.path.dirname(os.path.abspath(__file__))
 EXAMPLES = os.path.join(HERE, '..', 'examples')
 FS_IOC_SHUTDOWN, WITHOUT_FLUSH = 0x8004587D, 2
@@ -194,7 +196,7 @@ def play_cuts(program, folder, config, cuts, chance):
 def main():
     if len(sys.argv) < 2:
         sys.exit(__doc__)
-    program = os.path.abspath(sys.argv[1])
+    program = proved.program(sys.argv[1])
     kills, cuts, seed = [int(word) for word in sys.argv[2:]] + [300, 100, 1][len(sys.argv) - 2:]
     folder = tempfile.mkdtemp(prefix='makings-')
     with socket.socket(socket.AF_INET, socket.SOCK_DGRAM) as probe:

@@ -30,6 +30,8 @@ import sys
 import tempfile
 import time
 
+import proved
+
 import burst
 from kills import MEMBERS, Network
 
@@ -167,7 +169,7 @@ def run(program, folder, words):
 def runs(run, words):
     """So many runs as are asked for, each in a folder of its own; the status."""
     with tempfile.TemporaryDirectory(dir=os.getcwd()) as room:
-        ends = [run(os.path.abspath(words.program), tempfile.mkdtemp(dir=room), words) for _ in range(words.runs)]
+        ends = [run(proved.program(words.program), tempfile.mkdtemp(dir=room), words) for _ in range(words.runs)]
     return 0 if all(ends) else 1
 
 

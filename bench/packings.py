@@ -15,6 +15,8 @@ import subprocess
 import sys
 import tempfile
 
+import proved
+
 import burst
 import sealing
 
@@ -50,7 +52,7 @@ def instructions(program, folder, members, tape):
 
 
 def main():
-    programs = [os.path.abspath(word) for word in sys.argv[1:]]
+    programs = [proved.program(word) for word in sys.argv[1:]]
     if not 1 <= len(programs) <= 2:
         sys.exit(__doc__)
     short = burst.LINES[0]

@@ -12,6 +12,8 @@ import sys
 import tempfile
 import time
 
+import proved
+
 from scripts import heard_again, in_hand, long_tapes, released
 
 HERE = os.path.dirname(os.path.abspath(__file__))
@@ -41,7 +43,7 @@ def seconds(command):
 def main():
     if len(sys.argv) not in (2, 3):
         sys.exit(__doc__)
-    program = os.path.abspath(sys.argv[1])
+    program = proved.program(sys.argv[1])
     word = sys.argv[2] if len(sys.argv) == 3 else ''
     with tempfile.TemporaryDirectory() as work:
         peer, path = os.path.join(work, 'peer'), os.path.join(work, 'script')

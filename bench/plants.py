@@ -22,6 +22,8 @@ import sys
 import tempfile
 import time
 
+import proved
+
 from kills import EXAMPLES, MEMBERS, NEVER, VOID, Network, Wrong
 
 NUMBERS = range(1, 200)
@@ -226,7 +228,7 @@ class Circuit:
 def main():
     if not 2 <= len(sys.argv) <= 4:
         sys.exit(__doc__)
-    program = os.path.abspath(sys.argv[1])
+    program = proved.program(sys.argv[1])
     kills = int(sys.argv[2]) if len(sys.argv) > 2 else 300
     seed = int(sys.argv[3]) if len(sys.argv) > 3 else random.SystemRandom().randrange(1_000_000)
     print(f'seed {seed}', flush=True)

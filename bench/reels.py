@@ -18,6 +18,8 @@ import subprocess
 import sys
 import tempfile
 
+import proved
+
 BLANK, RUB_OUT = 0, 63
 MOST = 1_048_576
 
@@ -144,7 +146,7 @@ def as_read(program, folder, dice, many):
 
 
 def main():
-    program = os.path.abspath(sys.argv[1])
+    program = proved.program(sys.argv[1])
     many = int(sys.argv[2]) if len(sys.argv) > 2 else 10_000
     seed = int(sys.argv[3]) if len(sys.argv) > 3 else random.randrange(1 << 32)
     dice = random.Random(seed)

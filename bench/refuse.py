@@ -1,7 +1,7 @@
 #!/usr/bin/env python3
 """Refuses each request for memory of each command in turn, and looks how the command ends.
 
-    bench/refuse.py PROGRAM
+    bench/refuse.py [--short] PROGRAM
 
 Needs a C compiler (`apt-get install gcc`), which makes the library refuse.c that is loaded before the program. Each case below is
 run with its first request refused, then with its second, and so on, until a run meets no refusal. A run ends well in one of these
@@ -15,6 +15,9 @@ ways:
 After each run of a station its file is read by `rows`, with ample memory: it has the rows from before the run or those that the run
 saves on its way, or it is refused where the run was to make it; what was released is saved. Printed are for each case the requests,
 and how many runs ended in which way. The status is 1 where a run ended otherwise.
+
+With --short the commands that draw and those of a station's run are left out, but for `rows`: `check`, `answer`, `rehearse` and `rows` are over
+in half a minute, and the test command runs them. All of them take a quarter of an hour.
 """
 import dataclasses
 import os
@@ -25,6 +28,8 @@ import socket
 import subprocess
 import sys
 import tempfile
+
+import proved
 
 HERE = os.path.dirname(os.path.abspath(__file__))
 EXAMPLES = os.path.join(HERE, '..', 'examples')
@@ -415,10 +420,18 @@ def is_answered(own, datagram, port, process):
     return True
 
 
+# What `rows` prints of the saved rows that are made.
+ROWS = 'station 2 of 3 circuit 7\n3 1.1 - -\n12 1.3 1.1 010204\n'
+
+
+def rows_case():
+    return Case('rows', ['rows', 'made.db'], out=ROWS)
+
+
 def store_cases(sweep):
     """Of `rows` and of a station's run: alone, over rows and without, and beside another."""
     make_rows(sweep)
-    text = 'station 2 of 3 circuit 7\n3 1.1 - -\n12 1.3 1.1 010204\n'
+    text = ROWS
     sweep.write('own.toml', config(1, [free_port()]))
     peer, port = udp(), free_port()
     sweep.write('two.toml', config(1, [port, peer.getsockname()[1]]))
@@ -429,7 +442,7 @@ def store_cases(sweep):
         'store: refused\nno such file: look for it and its log; only a station that never ran is made, by circuitd create\n',
     )
     return [
-        Case('rows', ['rows', 'made.db'], out=text),
+        rows_case(),
         Case('upgrade', ['upgrade', 'own.db'], out='layout 2\n', begins='made.db', left=(text,)),
         Case('upgrade of layout 2', ['upgrade', 'own.db'], out='layout 2\n', begins='over.db', left=(text,)),
         Case('rows of layout 2', ['rows', 'over.db'], out=text),
@@ -448,15 +461,20 @@ def store_cases(sweep):
 
 
 def main():
-    if len(sys.argv) != 2:
+    is_short = sys.argv[1:2] == ['--short']
+    if len(sys.argv) != 2 + is_short:
         sys.exit(__doc__)
     totals = dict.fromkeys(('requests', 'memory', 'own', 'went on', 'wrong'), 0)
     with tempfile.TemporaryDirectory() as work:
         for name in ('codes.toml', 'widths.toml', 'flood.tape'):
             shutil.copy(os.path.join(EXAMPLES, name), work)
-        sweep = Sweep(os.path.abspath(sys.argv[1]), work)
-        cases = [
-            *setting_cases(sweep), *draw_cases(sweep), *answer_cases(), *rehearse_cases(sweep), *store_cases(sweep)]
+        sweep = Sweep(proved.program(sys.argv[-1]), work)
+        cases = [*setting_cases(sweep), *answer_cases(), *rehearse_cases(sweep)]
+        if is_short:
+            make_rows(sweep)
+            cases.append(rows_case())
+        else:
+            cases += [*draw_cases(sweep), *store_cases(sweep)]
         print(f'{"":32}' + ''.join(f'{name:>10}' for name in totals), flush=True)
         for case in cases:
             counts = count(sweep, case)

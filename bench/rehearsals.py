@@ -19,6 +19,8 @@ import subprocess
 import sys
 import tempfile
 
+import proved
+
 HERE = os.path.dirname(os.path.abspath(__file__))
 EXAMPLES = os.path.join(HERE, '..', 'examples')
 # each story in hex, and what it sets as
@@ -179,7 +181,7 @@ class Rehearsal:
 
 
 def main():
-    program = os.path.abspath(sys.argv[1])
+    program = proved.program(sys.argv[1])
     scripts = int(sys.argv[2]) if len(sys.argv) > 2 else 100
     seed = int(sys.argv[3]) if len(sys.argv) > 3 else 1
     chance = random.Random(seed)

@@ -29,6 +29,8 @@ import sys
 import tempfile
 import time
 
+import proved
+
 import burst
 import latency
 
@@ -221,7 +223,7 @@ def main():
     resource.setrlimit(resource.RLIMIT_NOFILE, (4096, resource.getrlimit(resource.RLIMIT_NOFILE)[1]))
     held = [beside_openssl(os.path.abspath(words.lab))] if words.lab else []
     if words.program:
-        program = os.path.abspath(words.program)
+        program = proved.program(words.program)
         held += [time_stories(program, words.stories), longest_among_fifteen(program)]
     return 0 if all(held) else 1
 

@@ -26,6 +26,8 @@ import sys
 import tempfile
 import time
 
+import proved
+
 from corrections import CONFIG, LINES
 from kills import EXAMPLES, MEMBERS, Network, Wrong
 
@@ -202,7 +204,7 @@ def main():
     parser.add_argument('program')
     words = parser.parse_args()
     network, top = Lossy(random.Random(words.seed)), tempfile.mkdtemp()
-    plants = [Plant(os.path.abspath(words.program), top, member, network) for member in MEMBERS]
+    plants = [Plant(proved.program(words.program), top, member, network) for member in MEMBERS]
     try:
         for plant in plants:
             plant.start()

@@ -19,6 +19,8 @@ import sys
 import tempfile
 import time
 
+import proved
+
 HERE = os.path.dirname(os.path.abspath(__file__))
 EXAMPLES = os.path.join(HERE, '..', 'examples')
 STATION = """circuit = 7
@@ -59,7 +61,7 @@ class Station:
     """A station over a file of its own."""
 
     def __init__(self, program, folder, name, port):
-        self.program, self.home = os.path.abspath(program), os.path.join(folder, name)
+        self.program, self.home = proved.program(program), os.path.join(folder, name)
         self.clock, self.processor = {}, {}
         os.mkdir(self.home)
         for file in ('codes.toml', 'widths.toml', 'flood.tape'):

@@ -25,6 +25,8 @@ import sys
 import tempfile
 import time
 
+import proved
+
 from corrections import CONFIG
 from kills import MEMBERS, Wrong
 from soak import Lossy, Plant, empty, end
@@ -158,7 +160,7 @@ def main():
     words = parser.parse_args()
     top = tempfile.mkdtemp(prefix='circuitd-watched-')
     network = Watched(random.Random(words.seed))
-    plants = [Station(os.path.abspath(words.program), top, member, network) for member in MEMBERS]
+    plants = [Station(proved.program(words.program), top, member, network) for member in MEMBERS]
     watch = Watch(plants, network)
     try:
         for plant in plants:

@@ -21,6 +21,8 @@ import tempfile
 import time
 from concurrent.futures import ThreadPoolExecutor
 
+import proved
+
 HERE = os.path.dirname(os.path.abspath(__file__))
 WIRE = os.path.join(HERE, '..', 'examples', 'wire')
 FUNCTIONS = [
@@ -258,7 +260,7 @@ def main():
     words = sys.argv[1:]
     if not words:
         sys.exit(__doc__)
-    program, rest = os.path.abspath(words[0]), words[1:]
+    program, rest = proved.program(words[0]), words[1:]
     many, seed = 100_000, 1
     if '--there-and-back' in rest:
         numbers = [int(word) for word in rest[rest.index('--there-and-back') + 1:] if word.isdigit()]

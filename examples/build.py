@@ -55,31 +55,34 @@ def lay_out(lines, crates, home):
     return total.hexdigest()
 
 
-def show(text):
-    """One line, written over and over where a person looks on."""
-    if sys.stderr.isatty():
-        print(f'\r\033[K{text}', end='', file=sys.stderr, flush=True)
+# What the gate says when it is done with a crate.
+DONE = re.compile(r'^rt: (\w+) (?:proved|is kept)', re.M)
 
 
 def prove(home, log, count):
-    """Whether the gate passes there; where it does not, the end of what it says is told."""
-    began = time.time()
-    with open(log, 'w') as told:
-        run = subprocess.Popen(['rt', 'ci'], cwd=home, stdin=subprocess.DEVNULL, stdout=told, stderr=subprocess.STDOUT)
+    """Whether the gate passes there. Each crate that is done is told, with how many are left; where the gate does not pass, the end of what it
+    says is told."""
+    began, told = time.time(), 0
+    with open(log, 'w') as said:
+        run = subprocess.Popen(['rt', 'ci'], cwd=home, stdin=subprocess.DEVNULL, stdout=said, stderr=subprocess.STDOUT)
     try:
-        while run.poll() is None:
+        while True:
+            ended = run.poll() is not None
+            with open(log, errors='replace') as said:
+                done = DONE.findall(said.read())
+            for name in done[told:]:
+                told += 1
+                print(f'  {name} is proved; {count - told} crates are left, after {(time.time() - began) / 60:.0f} minutes', file=sys.stderr, flush=True)
+            if ended:
+                break
             time.sleep(1)
-            with open(log, errors='replace') as told:
-                done = len(re.findall(r'^rt: \w+ (?:proved|is kept)', told.read(), re.M))
-            show(f'  {done} of {count} crates, {time.time() - began:.0f} s')
     finally:
         # Whoever gives up does not leave it at work.
         run.terminate()
         run.wait()
-    show('')
     if run.returncode:
-        with open(log, errors='replace') as told:
-            print(''.join(told.readlines()[-30:]), end='', file=sys.stderr)
+        with open(log, errors='replace') as said:
+            print(''.join(said.readlines()[-30:]), end='', file=sys.stderr)
     return run.returncode == 0
 
 

@@ -15,9 +15,6 @@ COPIES = {
     ("fixtures/src/tapes", "FLOOD"): "flood.tape",
     ("fixtures/src/tapes", "HARVEST"): "harvest.tape",
     ("fixtures/src/tapes", "OVERSET"): "overset.tape",
-    ("setting_tests/src/texts/wire", "CODES"): "wire/codes.toml",
-    ("setting_tests/src/texts/wire", "WIDTHS"): "wire/widths.toml",
-    ("setting_tests/src/texts/wire", "RIVER"): "wire/river.txt",
 }
 
 constants = {}

@@ -1,15 +1,28 @@
 #!/usr/bin/env bash
 # Three stations over rows in memory agree on a story and cast it, from the sources and before any proof: about a minute.
 set -euo pipefail
-cd "$(dirname "$0")/../crates/taste"
-examples=../../examples
+cd "$(dirname "$0")"
+top=$(cd .. && pwd)
 
 kept=$(mktemp -d)
 trap 'kill "$run" 2> /dev/null || true; rm -rf "$kept"' EXIT
 
+# A program of its own, in a repository of its own, that rehearses and no more: with it alone a build takes a minute.
+mkdir -p "$kept/crates/taste/src"
+cp taste/main.rt.txt "$kept/crates/taste/src/main.rt"
+cp "$top/HANDLES" "$kept"
+cat "$top/crates.txt" - > "$kept/crates.txt" <<< 'taste: inputs streams rehearse_command'
+for crate in "$top"/crates/*/; do
+    name=$(basename "$crate")
+    mkdir "$kept/crates/$name"
+    cp -r "$crate/src" "$kept/crates/$name"
+done
+cd "$kept/crates/taste"
+
 echo "Three stations agree on a story and cast it. Nothing is proved here: examples/first_circuit.sh proves."
+examples=$top/examples
 rt try --data codes.toml="$examples/codes.toml" --data widths.toml="$examples/widths.toml" \
-    --data story.script="$examples/story.script" > "$kept/printed" 2> "$kept/told" &
+    --data story.script="$examples/story.script" > "$kept/printed" 2> "$kept/told" < /dev/null &
 run=$!
 
 # One line, written over, until the program has run.

@@ -9,7 +9,6 @@ import stage
 
 WIRE = os.path.join(stage.EXAMPLES, 'wire')
 SVG = '{http://www.w3.org/2000/svg}'
-BROWSERS = ('chromium', 'chromium-browser', 'google-chrome')
 # a line that is loose, one with a frame that means nothing, and one that is never cut
 FAULTS = bytes([1, 3, 1, 4, 1, 3, 50, 1, 4, 2, 3])
 TOLD = 'fault: loose 14 at 3 line 1\n'
@@ -70,6 +69,16 @@ def faults(at):
         stage.wants(f'>{words}</text>' in text, words)
 
 
+def the_longest_tape(at):
+    """A tape of 16,384 frames, the flood story again and again with ignored frames behind it, is set and drawn: each line, each frame."""
+    tape = at.read('flood.tape') * 2340 + bytes([63] * 4)
+    at.write('longest.tape', tape)
+    at.ends('check codes.toml widths.toml longest.tape', 0, ''.join(f'{number:04} {stage.GALLEY[5:]}' for number in range(1, 2341)))
+    text = drawn(at, 'draw codes.toml widths.toml longest.tape', 0)
+    trees.fromstring(text)
+    stage.wants(positions(text) == list(range(16384)), 'each frame is drawn once and in its order')
+
+
 def names(at):
     """The names of a tape, a table and widths are told, and none reads as markup."""
     for name in ('codes', 'widths'):
@@ -87,16 +96,15 @@ def a_page(at):
     stage.wants(positions(text) == list(range(len(tape))), 'each frame is drawn once and in its order')
     for drawing in re.findall(r'<svg id=.*?</svg>', text, re.DOTALL):
         trees.fromstring(drawing)
-    try:
-        import html5lib
-    except ImportError:
-        raise stage.Skipped('there is no html5lib') from None
+    html5lib = stage.html5lib()
+    if html5lib is None:
+        raise stage.Skipped('there is no html5lib')
     html5lib.HTMLParser(strict=True).parse(text)
 
 
 def a_browser(at):
     """A browser opens the page, and finds its lines."""
-    browser = next((found for name in BROWSERS if (found := shutil.which(name))), None)
+    browser = next((found for name in stage.BROWSERS if (found := shutil.which(name))), None)
     if browser is None:
         raise stage.Skipped('there is no browser')
     at.write('faults.tape', FAULTS)
@@ -128,4 +136,4 @@ def a_chart(at):
     at.ends('chart codes.toml codes.toml', 1, '', 'widths: missing measure\n')
 
 
-PLAYS = [a_story, faults, names, a_page, a_browser, a_chart]
+PLAYS = [a_story, faults, the_longest_tape, names, a_page, a_browser, a_chart]

@@ -14,6 +14,7 @@ HEAD = 'frame  holes     times  lacks    unshift       shift\n'
 
 def the_bench():
     """The bench of reels, which has this module's name."""
+    sys.path.append(os.path.join(stage.TOP, 'bench'))
     at = importlib.util.spec_from_file_location('bench_reels', os.path.join(stage.TOP, 'bench', 'reels.py'))
     bench = importlib.util.module_from_spec(at)
     at.loader.exec_module(bench)

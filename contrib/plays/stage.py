@@ -1,15 +1,19 @@
 """What the plays of the built program stand on: a folder with the files of the examples, runs of the program, and how a play ends."""
+import importlib
 import os
 import random
 import shutil
 import signal
 import socket
 import subprocess
+import sys
 import time
 
 TOP = os.path.dirname(os.path.dirname(os.path.dirname(os.path.abspath(__file__))))
 EXAMPLES = os.path.join(TOP, 'examples')
 FILES = ('codes.toml', 'widths.toml', 'flood.tape', 'harvest.tape', 'overset.tape', 'story.script')
+# What opens a page.
+BROWSERS = ('chromium', 'chromium-browser', 'google-chrome')
 # How long it is waited for what has to come, in seconds: on a machine that is busy with other work too.
 SECONDS = 300
 
@@ -69,6 +73,11 @@ class Stage:
             shutil.copy(os.path.join(EXAMPLES, name), folder)
         self.port = free_port()
         self.configure('one.toml', 'station1.db')
+
+    def bare_folder(self):
+        """A folder in this one with nothing in it."""
+        os.mkdir(self.path('bare'))
+        return self.path('bare')
 
     def path(self, name):
         """Where a file of the folder stands."""
@@ -198,6 +207,21 @@ def wants(holds, what):
     """Something holds."""
     if not holds:
         raise Wrong(what)
+
+
+def html5lib():
+    """The library that reads HTML as browsers do, of this Python or of the one that Debian's packages are for; None where there is none."""
+    for place in ([], ['/usr/lib/python3/dist-packages']):
+        sys.path.extend(place)
+        try:
+            return importlib.import_module('html5lib')
+        except ImportError:
+            continue
+    return None
+
+
+def has_html5lib():
+    return html5lib() is not None
 
 
 def as_nobody():

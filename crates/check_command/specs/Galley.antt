@@ -34,13 +34,11 @@ abbrev pub WritesGalley : Option (List ℕ) → Option (List ℕ) → Option (Li
 WritesGalley table widths tape old new = IfSome table (λ ts. IfSome widths (λ ws. IfSome tape (λ xs. IsGalleyOf ts ws xs old new)))
 
 -- without a listing, the galley of an order's three texts was written
-abbrev pub Checks : {R S T : Type 0} → (R → Option (List ℕ)) → (S → Option (List ℕ)) → (T → Option (List ℕ)) → CheckOrder R S T
-    → Option (List ℕ) → Option (List ℕ) → Type 0
-Checks in_table in_widths in_tape order old new =
-    order.listing ≡ false → WritesGalley (in_table order.table) (in_widths order.widths) (in_tape order.tape) old new
+abbrev pub Checks : {R : Type 0} → (R → Option (List ℕ)) → CheckOrder R → Option (List ℕ) → Option (List ℕ) → Type 0
+Checks remaining order old new =
+    order.listing ≡ false → WritesGalley (remaining order.table) (remaining order.widths) (remaining order.tape) old new
 
 -- `check` ends by a fault of an input, the output or memory; or well, and then it has written what it was asked for
-pub record CheckEnds {R S T : Type 0} (in_table : R → Option (List ℕ)) (in_widths : S → Option (List ℕ)) (in_tape : T → Option (List ℕ)) (order : CheckOrder R S T)
-    (old new : Option (List ℕ)) (end : End) : Type 0 where
-  pub done : end ≡ Done → Checks in_table in_widths in_tape order old new
+pub record CheckEnds {R : Type 0} (remaining : R → Option (List ℕ)) (order : CheckOrder R) (old new : Option (List ℕ)) (end : End) : Type 0 where
+  pub done : end ≡ Done → Checks remaining order old new
   pub ends : IsOfInput end

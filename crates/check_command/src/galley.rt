@@ -16,11 +16,11 @@ use tape_frames::{Tape, holes};
 
 /// What `check` is asked: where its three files are, what they are read from, and whether its galley has a listing before it.
 #[derive(Drop)]
-pub struct CheckOrder<'a, R: Read + Drop, S: Read + Drop, T: Read + Drop> {
+pub struct CheckOrder<'a, R: Read + Drop> {
     pub paths: &'a TapePaths<'a>,
     pub table: R,
-    pub widths: S,
-    pub tape: T,
+    pub widths: R,
+    pub tape: R,
     pub listing: bool,
 }
 
@@ -50,12 +50,12 @@ fn put_galley<'a, W: Write>(
 }
 
 /// Reads the three files, and writes the listing of the tape, if it is asked for, and its galley, up to the first fault.
-fn checked<'a, R: Read + Drop, S: Read + Drop, T: Read + Drop, W: Write>(
+fn checked<'a, R: Read + Drop, W: Write>(
     alloc: Global,
-    order: CheckOrder<'a, R, S, T>,
+    order: CheckOrder<'a, R>,
     out: &mut W,
 ) -> Result<(), Fault<'a>>
-    ensures { Gives result (λ _. Checks R.remaining S.remaining T.remaining order.entry (W.contents out.old) (W.contents out.new)) }
+    ensures { Gives result (λ _. Checks R.remaining order.entry (W.contents out.old) (W.contents out.new)) }
 {
     let CheckOrder {
         paths,
@@ -77,13 +77,13 @@ fn checked<'a, R: Read + Drop, S: Read + Drop, T: Read + Drop, W: Write>(
 ///
 /// The table is read and taken before the widths are read, and the widths before the tape. The first fault ends it.
 /// The listing is written before the tape is set, so a tape that does not set leaves the listing and no galley.
-pub fn check<R: Read + Drop, S: Read + Drop, T: Read + Drop, W: Write, E: Write>(
+pub fn check<R: Read + Drop, W: Write, E: Write>(
     alloc: Global,
-    order: CheckOrder<'_, R, S, T>,
+    order: CheckOrder<'_, R>,
     out: &mut W,
     err: &mut E,
 ) -> End
-    ensures { CheckEnds R.remaining S.remaining T.remaining order.entry (W.contents out.old) (W.contents out.new) result }
+    ensures { CheckEnds R.remaining order.entry (W.contents out.old) (W.contents out.new) result }
 {
     let outcome = checked(alloc, order, out);
     if outcome.is_err() {

@@ -1,2 +1,3 @@
-pub mod KeyFile
 pub mod Circuit
+pub mod KeyFile
+pub mod Keys

@@ -1,32 +1,14 @@
-//! The tests of a whole circuit, of what its members send, are offered and release, step by step, in one run, and in random scripts; and of
-//! a day of one.
+//! The tests of stations and circuits: datagrams and their faults; votes and proposals; what one station answers, refuses and finds saved
+//! after a restart; what the members of a circuit send, are offered and release, step by step and in one run; and a day of two of them.
 #![tactic(auto)]
 
 #[cfg(test)]
-mod agreeing;
+mod circuits;
 #[cfg(test)]
-mod agreement;
-#[cfg(test)]
-mod bodies;
-#[cfg(test)]
-mod failing;
-#[cfg(test)]
-mod longest;
-#[cfg(test)]
-mod members;
-#[cfg(test)]
-mod passing;
+mod datagrams;
 #[cfg(test)]
 mod played_day;
 #[cfg(test)]
-mod refusing;
+mod stations;
 #[cfg(test)]
-mod scripts;
-#[cfg(test)]
-mod stories;
-#[cfg(test)]
-mod telling;
-#[cfg(test)]
-mod upgrading;
-#[cfg(test)]
-mod versions;
+mod voting;

@@ -2,9 +2,8 @@
 
 use days::release_of_two;
 use fixtures::GivenEntry::Flood;
-use fixtures::{FLOOD, OVERSET, WIDTHS};
+use fixtures::{FLOOD, OVERSET, WIDTHS, is_given, setting};
 use line_check::Setting;
-use station_fixtures::{is_given, setting};
 use std::alloc::Global;
 use tape_frames::Tape;
 

@@ -1,9 +1,19 @@
-//! The tests of `answer`, `check` and `rehearse`, of configurations, and of the texts of faults: whole printed texts.
+//! What no play of the commands shows: readers and writers that fail, the fields of a configuration, and faults that can't be caused at will.
 #![tactic(auto)]
 
 #[cfg(test)]
-mod configured;
+mod configurations;
 #[cfg(test)]
-mod printed;
+mod failing;
 #[cfg(test)]
-mod told;
+mod faults;
+#[cfg(test)]
+mod readers;
+#[cfg(test)]
+mod running;
+#[cfg(test)]
+mod sealing;
+#[cfg(test)]
+mod setting;
+#[cfg(test)]
+mod writers;

@@ -45,8 +45,8 @@ fn run_check<F: RowFiles, R: Read + Drop, W: Write + Drop, E: Write + Drop>(
     let paths = *paths;
     let order = CheckOrder {
         paths: &paths,
-        table: InputFile::at(rt, paths.table),
-        widths: InputFile::at(rt, paths.widths),
+        table: Story::of_file(rt, paths.table),
+        widths: Story::of_file(rt, paths.widths),
         tape: Story::at(rt, paths.tape, input),
         listing,
     };
@@ -69,8 +69,8 @@ fn run_draw<F: RowFiles, R: Read + Drop, W: Write + Drop, E: Write + Drop>(
     let paths = *paths;
     let order = DrawOrder {
         paths: &paths,
-        table: InputFile::at(rt, paths.table),
-        widths: InputFile::at(rt, paths.widths),
+        table: Story::of_file(rt, paths.table),
+        widths: Story::of_file(rt, paths.widths),
         tape: Story::at(rt, paths.tape, input),
         page,
     };

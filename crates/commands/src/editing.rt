@@ -9,7 +9,6 @@ use inputs::{StoryPaths, TapePaths};
 use rows_files::RowFiles;
 use std::alloc::Global;
 use std::io::{Read, Write};
-use streams::InputFile;
 use tape_frames::Version;
 use text_words::{LigatureError, ligatures_of};
 
@@ -53,7 +52,7 @@ pub(crate) fn run_punch<F: RowFiles, R: Read + Drop, W: Write + Drop, E: Write +
     let paths = *paths;
     let order = PunchOrder {
         paths: &paths,
-        table: InputFile::at(rt, paths.table),
+        table: Story::of_file(rt, paths.table),
         text: Story::at(rt, paths.story, input),
         ligatures: &ligatures,
         room,
@@ -76,7 +75,7 @@ pub(crate) fn run_spell<F: RowFiles, R: Read + Drop, W: Write + Drop, E: Write +
     } = console;
     let order = SpellOrder {
         paths,
-        table: InputFile::at(rt, paths.table),
+        table: Story::of_file(rt, paths.table),
         tape: Story::at(rt, paths.story, input),
         form: if plain { Form::Plain } else { Form::Punchable },
     };
@@ -98,8 +97,8 @@ pub(crate) fn run_fit<F: RowFiles, R: Read + Drop, W: Write + Drop, E: Write + D
     } = console;
     let order = FitOrder {
         paths,
-        table: InputFile::at(rt, paths.table),
-        widths: InputFile::at(rt, paths.widths),
+        table: Story::of_file(rt, paths.table),
+        widths: Story::of_file(rt, paths.widths),
         story: Story::at(rt, paths.tape, input),
         given: if text { Given::Text } else { Given::Tape },
     };

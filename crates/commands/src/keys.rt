@@ -3,10 +3,9 @@
 ghost use Rattle.std.specs.Prelude.{◌≡◌, Ok, None, IfOk, IfSome, IfNone, IsSome};
 ghost use Rattle.configuration.specs.Stations.{IsCircuit};
 
-use circuit_keys::circuit_keys;
+use circuit_keys::{circuit_keys, read_key_file};
 use command_ends::Fault;
 use configuration::Config;
-use key_files::read_key_file;
 use seals::Keys;
 
 /// The keys of the circuit of a configuration, from the file that it names: none where it names none, since its wire is plain then.

@@ -18,6 +18,7 @@ use configuration::{Config, ConfigInput, Resolver, read_config};
 use driver::Machine;
 use folders::{Folders, NoFolders};
 use gone_out::{Known, Origin};
+use host_process::TimedLines;
 use log_terms::Loudness;
 use plant_status::StationId;
 use rows_files::{RefusedRows, RowFiles, close_rows};
@@ -26,7 +27,6 @@ use run_command::{Terms, run_station};
 use station::Station;
 use std::alloc::Global;
 use std::io::Write;
-use timed_lines::TimedLines;
 use wire::{Address, Wire};
 
 /// The table by which texts become tapes that are offered in a plant, where they may be.

@@ -1,10 +1,10 @@
-//! The tape or the text that a command is given.
+//! The files that a command is given, of which one may be its standard input.
 
 use std::io;
 use std::io::Read;
 use streams::InputFile;
 
-/// A tape or a text: of a file, or of standard input.
+/// A file that a command reads, or its standard input.
 #[derive(Drop)]
 pub(crate) enum Story<'a, R: Read> {
     File(InputFile),
@@ -12,6 +12,11 @@ pub(crate) enum Story<'a, R: Read> {
 }
 
 impl<'a, R: Read> Story<'a, R> {
+    /// The file at the path.
+    pub fn of_file(rt: &HostRuntime, path: &str) -> Story<'a, R> {
+        Story::File(InputFile::at(rt, path))
+    }
+
     /// That at the path, where `-` is the input.
     pub fn at(rt: &HostRuntime, path: &str, input: &'a mut R) -> Story<'a, R> {
         if path == "-" {

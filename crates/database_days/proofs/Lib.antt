@@ -1,3 +1,4 @@
+mod Databases
 mod Deciding
 mod Finding
 mod FindingGroups

@@ -2,7 +2,7 @@
 
 use crate::examples::read_files;
 use code_table::CodeTable;
-use database_circuits::play_in_databases;
+use database_days::play_in_databases;
 use fixtures::FLOOD;
 use line_check::galley;
 use rows_saved::{MemoryRows, Rows};
@@ -16,7 +16,7 @@ use world::{Founders, OfferLog, Played, ReleaseLog, Step, World, play_in_memory}
 type Withdrawn = (u8, u32);
 
 /// A circuit of three at this version. Member 1 is offered the flood story for number 12, and these datagrams come, in order; these
-/// members go over to version 2; one withdraws a number, and then these datagrams come. So many datagrams, offers and
+/// members are upgraded to version 2; one withdraws a number, and then these datagrams come. So many datagrams, offers and
 /// releases are logged.
 #[derive(Clone, Copy)]
 struct StoreStory {
@@ -46,7 +46,7 @@ const NEW: StoreStory = StoreStory {
     ..OLD
 };
 
-/// Member 2 votes for the story and goes over; member 3, which goes over too, withdraws the number, and hears of the
+/// Member 2 votes for the story and is upgraded; member 3, which is upgraded too, withdraws the number, and hears of the
 /// vote: it proposes the story in its ballot, and releases it. Member 1, which stays, reads nothing of that.
 const OUTLIVED: StoreStory = StoreStory {
     before: &[1, 3, 4],
@@ -67,7 +67,7 @@ fn deliver(steps: &mut Vec<Step>, datagrams: &[usize]) -> Option<()> {
     Some(())
 }
 
-/// Adds that these members go over.
+/// Adds that these members are upgraded.
 fn upgrade(steps: &mut Vec<Step>, members: &[u8]) -> Option<()> {
     for member in members {
         steps.push(Step::Upgrade { member: *member }).ok()?;

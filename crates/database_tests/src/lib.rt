@@ -9,5 +9,3 @@ mod examples;
 mod rows;
 #[cfg(test)]
 mod stops;
-#[cfg(test)]
-mod tables;

@@ -1,14 +1,15 @@
-//! The tests over databases in memory: saved rows, which are made, taken up again, damaged and upgraded, beside those that
-//! need no database, and what `rows` prints.
+//! The tests over databases in memory: saved rows, which are made, taken up again, damaged and upgraded, and what `rows` prints; beside
+//! them rows that refuse a save.
 
+mod arming;
 mod damages;
 pub mod databases;
 pub mod deeds;
 mod entries;
 pub mod identities;
-mod known;
+pub mod known;
 mod listings;
-pub mod memory;
 pub mod samples;
 pub mod sessions;
+pub mod statements;
 mod upgrades;

@@ -14,14 +14,14 @@ use tape_drawing::DrawingForm;
 
 /// A chart that is asked for: where its files lie, what reads them, and as what it is written. Clauses see the texts.
 #[derive(Drop)]
-pub struct ChartingOrder<'a, R: Read + Drop, S: Read + Drop> {
+pub struct ChartingOrder<'a, R: Read + Drop> {
     pub paths: &'a SettingPaths<'a>,
     pub table: R,
-    pub widths: S,
+    pub widths: R,
     pub page: DrawingForm,
 }
 
-impl<'a, R: Read + Drop, S: Read + Drop> Model for ChartingOrder<'a, R, S> {
+impl<'a, R: Read + Drop> Model for ChartingOrder<'a, R> {
     ghost use Rattle.draw_command.specs.Charting.{ToChart};
 
     ghost Value = { ToChart };
@@ -30,15 +30,15 @@ impl<'a, R: Read + Drop, S: Read + Drop> Model for ChartingOrder<'a, R, S> {
       table_name = o.paths.now.table.now;
       widths_name = o.paths.now.widths.now;
       table = R.remaining o.table;
-      widths = S.remaining o.widths;
+      widths = R.remaining o.widths;
       page = o.page;
     } };
 }
 
 /// The text of the chart that is asked for.
-fn chart_text<'a, R: Read + Drop, S: Read + Drop>(
+fn chart_text<'a, R: Read + Drop>(
     alloc: Global,
-    order: ChartingOrder<'a, R, S>,
+    order: ChartingOrder<'a, R>,
 ) -> Result<Vec<u8>, Fault<'a>>
     ensures { Gives result (λ text. IsCharted order.entry text.items) }
 {
@@ -62,9 +62,9 @@ fn chart_text<'a, R: Read + Drop, S: Read + Drop>(
 
 /// Charts what is asked for, up to the first fault.
 #[tactic(auto, using(crate::proofs::ChartEnds::unwritten))]
-fn charted<'a, R: Read + Drop, S: Read + Drop, W: Write>(
+fn charted<'a, R: Read + Drop, W: Write>(
     alloc: Global,
-    order: ChartingOrder<'a, R, S>,
+    order: ChartingOrder<'a, R>,
     out: &mut W,
 ) -> Result<(), Fault<'a>>
     ensures { ChartsBy order.entry result (W.contents out.old) (W.contents out.new) }
@@ -77,9 +77,9 @@ fn charted<'a, R: Read + Drop, S: Read + Drop, W: Write>(
 ///
 /// The table is read and taken before the widths are read. The first fault ends it. Nothing is written before both are
 /// taken; where the output can't be written, it has a prefix of the chart.
-pub fn chart<R: Read + Drop, S: Read + Drop, W: Write, E: Write>(
+pub fn chart<R: Read + Drop, W: Write, E: Write>(
     alloc: Global,
-    order: ChartingOrder<'_, R, S>,
+    order: ChartingOrder<'_, R>,
     out: &mut W,
     err: &mut E,
 ) -> End

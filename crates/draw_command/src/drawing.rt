@@ -16,15 +16,15 @@ use tape_drawing::{DrawingForm, DrawingOrder, Names, draw_tape};
 
 /// A drawing that is asked for: where its files lie, what reads them, and as what it is written. Clauses see the texts.
 #[derive(Drop)]
-pub struct DrawOrder<'a, R: Read + Drop, S: Read + Drop, T: Read + Drop> {
+pub struct DrawOrder<'a, R: Read + Drop> {
     pub paths: &'a TapePaths<'a>,
     pub table: R,
-    pub widths: S,
-    pub tape: T,
+    pub widths: R,
+    pub tape: R,
     pub page: DrawingForm,
 }
 
-impl<'a, R: Read + Drop, S: Read + Drop, T: Read + Drop> Model for DrawOrder<'a, R, S, T> {
+impl<'a, R: Read + Drop> Model for DrawOrder<'a, R> {
     ghost use Rattle.draw_command.specs.Drawing.{ToDraw};
     ghost use Rattle.tape_drawing.specs.Document.{called};
 
@@ -33,8 +33,8 @@ impl<'a, R: Read + Drop, S: Read + Drop, T: Read + Drop> Model for DrawOrder<'a,
     ghost view = { λ o. record {
       called = called o.paths.now.tape.now o.paths.now.table.now o.paths.now.widths.now;
       table = R.remaining o.table;
-      widths = S.remaining o.widths;
-      tape = T.remaining o.tape;
+      widths = R.remaining o.widths;
+      tape = R.remaining o.tape;
       page = o.page;
     } };
 }
@@ -63,9 +63,9 @@ fn put_tape<'a, W: Write>(
 }
 
 /// Draws the tape that is asked for, and answers its first fault, if it has one.
-fn put_drawing<'a, R: Read + Drop, S: Read + Drop, T: Read + Drop, W: Write>(
+fn put_drawing<'a, R: Read + Drop, W: Write>(
     alloc: Global,
-    order: DrawOrder<'a, R, S, T>,
+    order: DrawOrder<'a, R>,
     out: &mut W,
 ) -> Result<Option<SetFault>, Fault<'a>>
     ensures ok { IfOk result (λ fault. WasDrawn order.entry fault (W.contents out.old) (W.contents out.new)) }
@@ -97,9 +97,9 @@ fn put_drawing<'a, R: Read + Drop, S: Read + Drop, T: Read + Drop, W: Write>(
 
 /// Draws the tape that is asked for, up to the first fault. That of a tape that does not set comes once it is drawn.
 #[tactic(auto, using(crate::proofs::Ends::sets, crate::proofs::Ends::does_not_set, crate::proofs::Ends::broke_off))]
-fn drawn<'a, R: Read + Drop, S: Read + Drop, T: Read + Drop, W: Write>(
+fn drawn<'a, R: Read + Drop, W: Write>(
     alloc: Global,
-    order: DrawOrder<'a, R, S, T>,
+    order: DrawOrder<'a, R>,
     out: &mut W,
 ) -> Result<(), Fault<'a>>
     ensures { DrawsBy order.entry result (W.contents out.old) (W.contents out.new) }
@@ -115,9 +115,9 @@ fn drawn<'a, R: Read + Drop, S: Read + Drop, T: Read + Drop, W: Write>(
 /// The table is read and taken before the widths are read, and the widths before the tape. The first fault ends it. A
 /// tape that does not set is drawn whole, and then its first fault ends the command. Nothing is written before all
 /// three are taken; where the output can't be written, it has a front of the drawing.
-pub fn draw<R: Read + Drop, S: Read + Drop, T: Read + Drop, W: Write, E: Write>(
+pub fn draw<R: Read + Drop, W: Write, E: Write>(
     alloc: Global,
-    order: DrawOrder<'_, R, S, T>,
+    order: DrawOrder<'_, R>,
     out: &mut W,
     err: &mut E,
 ) -> End

@@ -31,20 +31,20 @@ pub enum Given {
 
 /// A story of which it is to be told how it fits: where its files lie, what reads them, and how it is given. Clauses see the texts.
 #[derive(Drop)]
-pub struct FitOrder<'a, R: Read + Drop, S: Read + Drop, T: Read + Drop> {
+pub struct FitOrder<'a, R: Read + Drop> {
     pub paths: &'a TapePaths<'a>,
     pub table: R,
-    pub widths: S,
-    pub story: T,
+    pub widths: R,
+    pub story: R,
     pub given: Given,
 }
 
-impl<'a, R: Read + Drop, S: Read + Drop, T: Read + Drop> Model for FitOrder<'a, R, S, T> {
+impl<'a, R: Read + Drop> Model for FitOrder<'a, R> {
     ghost use Rattle.editor_commands.specs.Fitted.{ToFit};
 
     ghost Value = { ToFit };
 
-    ghost view = { λ o. record { table = R.remaining o.table; widths = S.remaining o.widths; story = T.remaining o.story; given = o.given } };
+    ghost view = { λ o. record { table = R.remaining o.table; widths = R.remaining o.widths; story = R.remaining o.story; given = o.given } };
 }
 
 /// The tape of a story.
@@ -90,9 +90,9 @@ fn put_report<'a, W: Write>(
 }
 
 /// Writes the report of a story, and answers how many of its lines do not set.
-fn fitted<'a, R: Read + Drop, S: Read + Drop, T: Read + Drop, W: Write>(
+fn fitted<'a, R: Read + Drop, W: Write>(
     alloc: Global,
-    order: FitOrder<'a, R, S, T>,
+    order: FitOrder<'a, R>,
     out: &mut W,
 ) -> Result<u64, EditorFault<'a>>
     ensures ok { IfOk result (λ faults. WasFitted order.entry faults (W.contents out.old) (W.contents out.new)) }
@@ -126,9 +126,9 @@ fn end_by(faults: u64) -> End
 /// it, and nothing was written then. A line that does not set does not keep the others from being told: the report is whole,
 /// and then it ends the command as a fault of an input does.
 #[tactic(auto, using(crate::proofs::FitEnds::broken))]
-pub fn fit<R: Read + Drop, S: Read + Drop, T: Read + Drop, W: Write, E: Write>(
+pub fn fit<R: Read + Drop, W: Write, E: Write>(
     alloc: Global,
-    order: FitOrder<'_, R, S, T>,
+    order: FitOrder<'_, R>,
     out: &mut W,
     err: &mut E,
 ) -> End

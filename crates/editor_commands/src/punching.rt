@@ -18,26 +18,26 @@ use text_tape::PunchedBy;
 
 /// A tape that is to be punched: where its files lie, what reads them, and by what else it is punched. Clauses see the texts.
 #[derive(Drop)]
-pub struct PunchOrder<'a, R: Read + Drop, S: Read + Drop> {
+pub struct PunchOrder<'a, R: Read + Drop> {
     pub paths: &'a StoryPaths<'a>,
     pub table: R,
-    pub text: S,
+    pub text: R,
     pub ligatures: &'a [Name],
     pub room: Version,
 }
 
-impl<'a, R: Read + Drop, S: Read + Drop> Model for PunchOrder<'a, R, S> {
+impl<'a, R: Read + Drop> Model for PunchOrder<'a, R> {
     ghost use Rattle.editor_commands.specs.Punched.{ToPunch};
 
     ghost Value = { ToPunch };
 
-    ghost view = { λ o. record { table = R.remaining o.table; text = S.remaining o.text; ligatures = o.ligatures.now; room = o.room } };
+    ghost view = { λ o. record { table = R.remaining o.table; text = R.remaining o.text; ligatures = o.ligatures.now; room = o.room } };
 }
 
 /// Writes the tape of a text, up to the first fault.
-fn write_tape<'a, R: Read + Drop, S: Read + Drop, W: Write>(
+fn write_tape<'a, R: Read + Drop, W: Write>(
     alloc: Global,
-    order: PunchOrder<'a, R, S>,
+    order: PunchOrder<'a, R>,
     out: &mut W,
 ) -> Result<(), EditorFault<'a>>
     ensures ok { OnOk result (WasPunched order.entry (W.contents out.old) (W.contents out.new)) }
@@ -66,9 +66,9 @@ fn write_tape<'a, R: Read + Drop, S: Read + Drop, W: Write>(
 /// The table is read and taken before the text is read. The first fault ends it, and then nothing was written, unless it is
 /// the output that can't be written.
 #[tactic(auto, using(crate::proofs::Ends::punched_whole, crate::proofs::Ends::punching_broken))]
-pub fn punch<R: Read + Drop, S: Read + Drop, W: Write, E: Write>(
+pub fn punch<R: Read + Drop, W: Write, E: Write>(
     alloc: Global,
-    order: PunchOrder<'_, R, S>,
+    order: PunchOrder<'_, R>,
     out: &mut W,
     err: &mut E,
 ) -> End

@@ -28,19 +28,19 @@ pub enum Form {
 
 /// A tape that is to be spelled: where its files lie, what reads them, and how it is written. Clauses see the texts.
 #[derive(Drop)]
-pub struct SpellOrder<'a, R: Read + Drop, S: Read + Drop> {
+pub struct SpellOrder<'a, R: Read + Drop> {
     pub paths: &'a StoryPaths<'a>,
     pub table: R,
-    pub tape: S,
+    pub tape: R,
     pub form: Form,
 }
 
-impl<'a, R: Read + Drop, S: Read + Drop> Model for SpellOrder<'a, R, S> {
+impl<'a, R: Read + Drop> Model for SpellOrder<'a, R> {
     ghost use Rattle.editor_commands.specs.SpelledAs.{ToSpell};
 
     ghost Value = { ToSpell };
 
-    ghost view = { λ o. record { table = R.remaining o.table; tape = S.remaining o.tape; form = o.form } };
+    ghost view = { λ o. record { table = R.remaining o.table; tape = R.remaining o.tape; form = o.form } };
 }
 
 /// The text of a tape in a form.
@@ -59,9 +59,9 @@ fn text_of<'a>(
 }
 
 /// Writes the text of a tape, up to the first fault.
-fn write_text<'a, R: Read + Drop, S: Read + Drop, W: Write>(
+fn write_text<'a, R: Read + Drop, W: Write>(
     alloc: Global,
-    order: SpellOrder<'a, R, S>,
+    order: SpellOrder<'a, R>,
     out: &mut W,
 ) -> Result<(), EditorFault<'a>>
     ensures ok { OnOk result (WasSpelled order.entry (W.contents out.old) (W.contents out.new)) }
@@ -85,9 +85,9 @@ fn write_text<'a, R: Read + Drop, S: Read + Drop, W: Write>(
 /// The table is read and taken before the tape is read. The first fault ends it, and then nothing was written, unless it is
 /// the output that can't be written.
 #[tactic(auto, using(crate::proofs::Ends::spelled_whole, crate::proofs::Ends::spelling_broken))]
-pub fn spell<R: Read + Drop, S: Read + Drop, W: Write, E: Write>(
+pub fn spell<R: Read + Drop, W: Write, E: Write>(
     alloc: Global,
-    order: SpellOrder<'_, R, S>,
+    order: SpellOrder<'_, R>,
     out: &mut W,
     err: &mut E,
 ) -> End

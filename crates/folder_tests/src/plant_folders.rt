@@ -1,7 +1,7 @@
 //! The folders of a plant, of the host: what is written among the releases, and what leaves the offers.
 
-use folders::{FolderFault, Folders, Leaving, NamedFile, PASSAGE, Place, Stamp};
-use host_folders::{HostFolders, Misplaced, PlantPaths, why_misplaced};
+use folders::{FolderFault, Folders, Leaving, NamedFile, Place, Stamp};
+use host_folders::HostFolders;
 use std::alloc::Global;
 use std::fs;
 
@@ -10,8 +10,6 @@ const FOLDER: &str = "circuitd_folders";
 const OFFERS: &str = "circuitd_folders/offers";
 
 const RELEASES: &str = "circuitd_folders/releases";
-
-const OLD_RELEASES: &str = "circuitd_folders/old";
 
 const OFFER: &str = "circuitd_folders/offers/12.tape";
 
@@ -161,39 +159,6 @@ fn is_released<F: Folders>(rt: &HostRuntime, folders: &mut F, release: &PutRelea
         && count(rt, RELEASES).saturating_sub(release.stands.len()) == release.left
 }
 
-/// Copies the files of the folder of releases to another, which then takes its place.
-fn replace_releases(rt: &HostRuntime) -> bool {
-    if fs::rename(rt, RELEASES, OLD_RELEASES).is_err() || fs::create_dir(rt, RELEASES).is_err() {
-        return false;
-    }
-    let Ok(entries) = fs::read_dir(rt, OLD_RELEASES) else {
-        return false;
-    };
-    for entry in entries {
-        let Ok(entry) = entry else {
-            return false;
-        };
-        let name = entry.file_name();
-        match format!(in rt.alloc(); "{RELEASES}/{name}") {
-            Ok(path) if fs::copy(rt, entry.path(), path.as_str()).is_ok() => {}
-            _ => return false,
-        }
-    }
-    true
-}
-
-/// Whether a release is the file that was written where the folder is replaced by a copy of itself after a look, and nothing of the copy's is
-/// left under another name.
-fn is_the_file_written<F: Folders>(rt: &HostRuntime, folders: &mut F) -> bool {
-    folders.list(rt.alloc(), MOST).is_ok()
-        && count(rt, RELEASES) == 2
-        && replace_releases(rt)
-        && are_put(rt, folders, &[Paper::Tape, Paper::Galley])
-        && stands(rt, Paper::Tape)
-        && stands(rt, Paper::Galley)
-        && count(rt, RELEASES) == 2
-}
-
 /// More names than lie in a folder here.
 const MOST: usize = 64;
 
@@ -267,38 +232,6 @@ fn keeps_all<F: Folders>(rt: &HostRuntime, folders: &mut F) -> bool {
         && count(rt, "circuitd_folders/offers/lost") == 5
 }
 
-/// A name that is so long that the text beside its file can't have one.
-const LONG_NAME: &str = "\
-aaaaaaaaaaaaaaaaaaaaaaaaaaaaaaaaaaaaaaaaaaaaaaaaaaaaaaaaaaaaaaaaaaaaaaaaaaaaaaaaaaaa\
-aaaaaaaaaaaaaaaaaaaaaaaaaaaaaaaaaaaaaaaaaaaaaaaaaaaaaaaaaaaaaaaaaaaaaaaaaaaaaaaaaaaa\
-aaaaaaaaaaaaaaaaaaaaaaaaaaaaaaaaaaaaaaaaaaaaaaaaaaaaaaaaaaaaaaaaaaaaaaaaaaaaaaaaaaaa";
-
-/// Whether a file beside which no text can be written stays where it is.
-fn stays_without_its_text<F: Folders>(rt: &HostRuntime, folders: &mut F) -> bool {
-    let Ok(path) = format!(in rt.alloc(); "{OFFERS}/{LONG_NAME}") else {
-        return false;
-    };
-    if fs::write(rt, path.as_str(), b"long").is_err() {
-        return false;
-    }
-    let Ok(listing) = folders.list(rt.alloc(), MOST) else {
-        return false;
-    };
-    let Some(found) = listing.files.iter().find(|found| found.stamp.length == 4) else {
-        return false;
-    };
-    let leaving = Leaving {
-        name: LONG_NAME,
-        stamp: found.stamp,
-        to: Place::Refused,
-    };
-    matches!(
-        folders.set_aside(rt.alloc(), leaving, Some("no number\n")),
-        Err(FolderFault::NameTooLong)
-    ) && holds(rt, path.as_str(), b"long")
-        && fs::remove_file(rt, path.as_str()).is_ok()
-}
-
 /// How many names a look finds that takes one name in each turn, and how many turns it takes; nothing where it fails.
 fn in_turns<F: Folders>(rt: &HostRuntime, folders: &mut F) -> Option<(usize, usize)> {
     let mut found: usize = 0;
@@ -353,29 +286,20 @@ fn is_read<F: Folders>(rt: &HostRuntime, folders: &mut F) -> bool {
 enum FoldersTask<'a> {
     /// A release is put, after a look.
     Release(&'a PutRelease),
-    /// The folder of releases is replaced by a copy of itself.
-    Replaced,
     /// Offers are set aside, and read.
     Offers,
     /// They are looked at over several turns.
     Turns,
-    /// Nothing.
-    Nothing,
 }
 
 /// Whether it goes as it has to with these folders.
 fn goes<F: Folders>(rt: &HostRuntime, folders: &mut F, task: FoldersTask<'_>) -> bool {
     match task {
         FoldersTask::Release(release) => is_released(rt, folders, release),
-        FoldersTask::Replaced => is_the_file_written(rt, folders),
         FoldersTask::Offers => {
-            stays_without_its_text(rt, folders)
-                && keeps_all(rt, folders)
-                && stays_where_replaced(rt, folders)
-                && is_read(rt, folders)
+            keeps_all(rt, folders) && stays_where_replaced(rt, folders) && is_read(rt, folders)
         }
         FoldersTask::Turns => looks_in_turns(rt, folders),
-        FoldersTask::Nothing => true,
     }
 }
 
@@ -383,14 +307,6 @@ fn goes<F: Folders>(rt: &HostRuntime, folders: &mut F, task: FoldersTask<'_>) ->
 fn goes_on_host(rt: &HostRuntime, task: FoldersTask<'_>) -> bool {
     match folders_of(rt) {
         Some(mut folders) => goes(rt, &mut folders, task),
-        None => false,
-    }
-}
-
-/// Whether they are refused to another as long as they are held.
-fn are_held_alone(rt: &HostRuntime) -> bool {
-    match folders_of(rt) {
-        Some(_folders) => folders_of(rt).is_none(),
         None => false,
     }
 }
@@ -405,93 +321,10 @@ fn first_amiss(rt: &HostRuntime) -> Option<usize> {
     None
 }
 
-/// Whether a start settles what starts before left: an offer on its way gets its name again, and what was not whole is gone.
-fn settles_leftovers(rt: &HostRuntime) -> bool {
-    let Ok(passage) = format!(in rt.alloc(); "{OFFERS}/{PASSAGE}") else {
-        return false;
-    };
-    let Ok(way) = format!(in rt.alloc(); "{passage}/12.tape") else {
-        return false;
-    };
-    lay_out(rt)
-        && fs::create_dir(rt, passage.as_str()).is_ok()
-        && fs::write(rt, way.as_str(), b"on its way").is_ok()
-        && fs::write(rt, "circuitd_folders/releases/.1.part", b"").is_ok()
-        && fs::write(rt, "circuitd_folders/releases/.circuitd-1-2-3.part", b"").is_ok()
-        && goes_on_host(rt, FoldersTask::Nothing)
-        && holds(rt, OFFER, b"on its way")
-        && count(rt, OFFERS) == 1
-        && count(rt, RELEASES) == 0
-}
-
-/// A station's files at these paths.
-const PLANT: PlantPaths<'static> = PlantPaths {
-    configuration: "circuitd_folders/station.toml",
-    table: "circuitd_folders/codes.toml",
-    widths: "widths.toml",
-    rows: "circuitd_folders/station.db",
-    offers: OFFERS,
-    releases: RELEASES,
-};
-
-/// Where files and folders lie, and why the plant is not run there.
-const PLANTS: &[(PlantPaths<'static>, Option<Misplaced>)] = &[
-    (PLANT, None),
-    (
-        PlantPaths {
-            rows: "circuitd_folders/offers/station.db",
-            ..PLANT
-        },
-        Some(Misplaced::Holds("the row file")),
-    ),
-    (
-        PlantPaths {
-            offers: ".",
-            ..PLANT
-        },
-        Some(Misplaced::Holds("the widths")),
-    ),
-    (
-        PlantPaths {
-            releases: "circuitd_folders/releases/../offers",
-            ..PLANT
-        },
-        Some(Misplaced::OneFolder),
-    ),
-    (
-        PlantPaths {
-            releases: "circuitd_folders/offers/lost",
-            ..PLANT
-        },
-        Some(Misplaced::IsPlace("lost")),
-    ),
-    (
-        PlantPaths {
-            releases: "circuitd_folders/none",
-            ..PLANT
-        },
-        None,
-    ),
-];
-
-/// The place of the first of the plants that is judged otherwise; nothing where there is none.
-fn first_misjudged(rt: &HostRuntime) -> Option<usize> {
-    for (place, (plant, reason)) in PLANTS.iter().enumerate() {
-        if why_misplaced(rt, plant) != *reason {
-            return Some(place);
-        }
-    }
-    None
-}
-
 #[test]
 fn folders_of_the_host(rt: HostRuntime) {
     assert_eq!(rt; first_amiss(&rt), None);
-    assert!(rt; lay_out(&rt) && goes_on_host(&rt, FoldersTask::Replaced));
     assert!(rt; lay_out(&rt) && goes_on_host(&rt, FoldersTask::Turns));
     assert!(rt; lay_out(&rt) && goes_on_host(&rt, FoldersTask::Offers));
-    assert_eq!(rt; first_misjudged(&rt), None);
-    assert!(rt; are_held_alone(&rt));
-    assert!(rt; settles_leftovers(&rt));
     assert!(rt; fs::remove_dir_all(&rt, FOLDER).is_ok());
 }

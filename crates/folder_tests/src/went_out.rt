@@ -1,4 +1,5 @@
-//! What went out at a plant, in the file `.released` of the host: over starts, damages, and folders that are replaced.
+//! What went out at a plant, in the file `.released` of the host: over starts, damages, and folders that are replaced. Each start goes through
+//! all circuit numbers some times, so no story has more starts than it needs.
 
 use ballots::{Member, Number};
 use folders::{FolderFault, Folders, WentOut};
@@ -7,21 +8,20 @@ use host_folders::HostFolders;
 use std::alloc::Global;
 use std::fs;
 
-const FOLDER: &str = "circuitd_gone_out";
+// Within the folder of a story.
+const OFFERS: &str = "offers";
 
-const OFFERS: &str = "circuitd_gone_out/offers";
+const SENT: &str = "offers/sent";
 
-const SENT: &str = "circuitd_gone_out/offers/sent";
+const RELEASES: &str = "releases";
 
-const RELEASES: &str = "circuitd_gone_out/releases";
+const AWAY: &str = "away";
 
-const AWAY: &str = "circuitd_gone_out/away";
+const RELEASED: &str = "releases/.released";
 
-const RELEASED: &str = "circuitd_gone_out/releases/.released";
+const SECOND: &str = "releases/.released.2";
 
-const SECOND: &str = "circuitd_gone_out/releases/.released.2";
-
-const THIRD: &str = "circuitd_gone_out/releases/.released.3";
+const THIRD: &str = "releases/.released.3";
 
 // Parts of a file, as docs/FORMATS.md has them: of member 1 of 3 in circuit 1, with records of 41, 42 and 43.
 const HEAD: &[u8] = b"GONE\0\0\0\x01\0\x01\x01\x03\x8b\xd1\x1e\x13";
@@ -59,7 +59,7 @@ struct WantedStart {
 /// What is done, and what has to come of it.
 #[derive(Clone, Copy)]
 enum WentOutAct {
-    /// A file is written at a path, of these parts.
+    /// A file is written, of these parts.
     Lay(&'static str, &'static [&'static [u8]]),
     /// A start answers this.
     Start(WantedStart),
@@ -71,7 +71,7 @@ enum WentOutAct {
     Settle,
     /// It is not, for this fault.
     Refused(FolderFault),
-    /// What stands at a path is moved to another.
+    /// What stands under a name is moved to another.
     Move(&'static str, &'static str),
     /// A folder is made.
     Make(&'static str),
@@ -86,143 +86,111 @@ enum WentOutAct {
 /// What processes do, one after the other, each act by act.
 type Runs = &'static [&'static [WentOutAct]];
 
-/// A first start without rows.
-const EMPTY: WentOutAct = WentOutAct::Start(WantedStart {
-    known: &[],
-    numbers: &[],
-    missing: Some(&[]),
-    set_aside: false,
-});
-
-/// A later start that finds 41.
-const KEPT: WentOutAct = WentOutAct::Start(WantedStart {
-    known: &[41, 42, 43],
-    numbers: &[41],
-    missing: None,
-    set_aside: false,
-});
-
-/// One that finds 41 and 42.
-const BOTH: WentOutAct = WentOutAct::Start(WantedStart {
-    numbers: &[41, 42],
-    ..WANTED
-});
-
-/// One that finds 42 alone.
-const WITHOUT_BAD: WentOutAct = WentOutAct::Start(WantedStart {
-    numbers: &[42],
-    ..WANTED
-});
-
-/// A later start.
-const WANTED: WantedStart = WantedStart {
+/// A later start, at which 41, 42 and 43 have a row.
+const LATER: WantedStart = WantedStart {
     known: &[41, 42, 43],
     numbers: &[],
     missing: None,
     set_aside: false,
 };
 
-/// A first start in place of another station's file: 42 has a row.
-const IN_PLACE: WentOutAct = WentOutAct::Start(WantedStart {
-    known: &[42],
-    numbers: &[42],
-    missing: Some(&[42]),
-    set_aside: true,
+/// One that finds no number.
+const NONE: WentOutAct = WentOutAct::Start(LATER);
+
+/// One that finds 41.
+const KEPT: WentOutAct = WentOutAct::Start(WantedStart {
+    numbers: &[41],
+    ..LATER
 });
 
-const CASES: &[Runs] = &[
-    // The first start, without rows; what is noted is written at a look, and once; the next start knows it.
+/// One that finds 41 and 42.
+const BOTH: WentOutAct = WentOutAct::Start(WantedStart {
+    numbers: &[41, 42],
+    ..LATER
+});
+
+/// One that finds 43.
+const LAST_ALONE: WentOutAct = WentOutAct::Start(WantedStart {
+    numbers: &[43],
+    ..LATER
+});
+
+/// The first start, in place of a file in which nothing can be read, which is set aside: of 41 a tape lies among the releases, of 42 a second
+/// text lies among what was sent, of 43 nothing does.
+const FIRST_START: &[Runs] = &[&[&[
+    WentOutAct::Make(SENT),
+    WentOutAct::Lay("releases/41.tape", &[]),
+    WentOutAct::Lay("releases/43.txt", &[]),
+    WentOutAct::Lay("offers/sent/42.text.2", &[]),
+    WentOutAct::Lay(RELEASED, &[BAD_HEAD, BAD]),
+    WentOutAct::Start(WantedStart {
+        numbers: &[41, 42, 43],
+        missing: Some(&[43]),
+        set_aside: true,
+        ..LATER
+    }),
+    WentOutAct::Holds(SECOND, &[BAD_HEAD, BAD]),
+    WentOutAct::Holds(RELEASED, &[HEAD, FIRST, NEXT, LAST]),
+]]];
+
+/// The first start without rows, in place of another station's file, which is set aside. What is noted is written at a look, and once. The
+/// next start knows it.
+const EMPTY_START: &[Runs] = &[&[
     &[
-        &[
-            EMPTY,
-            WentOutAct::Holds(RELEASED, &[HEAD]),
-            WentOutAct::Note(&[41]),
-            WentOutAct::Holds(RELEASED, &[HEAD]),
-            WentOutAct::Look,
-            WentOutAct::Holds(RELEASED, &[HEAD, FIRST]),
-            WentOutAct::Note(&[42, 41]),
-            WentOutAct::Settle,
-            WentOutAct::Settle,
-            WentOutAct::Holds(RELEASED, &[HEAD, FIRST, NEXT]),
-        ],
-        &[BOTH, WentOutAct::Holds(RELEASED, &[HEAD, FIRST, NEXT])],
-    ],
-    // The first start with rows: of 41 a tape lies among the releases, of 42 a second text lies among what was sent, of 43 nothing does.
-    &[
-        &[
-            WentOutAct::Make(SENT),
-            WentOutAct::Lay("circuitd_gone_out/releases/41.tape", &[]),
-            WentOutAct::Lay("circuitd_gone_out/releases/43.txt", &[]),
-            WentOutAct::Lay("circuitd_gone_out/offers/sent/42.text.2", &[]),
-            WentOutAct::Start(WantedStart {
-                known: &[41, 42, 43],
-                numbers: &[41, 42, 43],
-                missing: Some(&[43]),
-                set_aside: false,
-            }),
-            WentOutAct::Holds(RELEASED, &[HEAD, FIRST, NEXT, LAST]),
-        ],
-        &[WentOutAct::Start(WantedStart {
-            numbers: &[41, 42, 43],
-            ..WANTED
-        })],
-    ],
-    // A record that is cut short is cut off before the next is added; what was noted before the start is known is written too.
-    &[&[
-        WentOutAct::Lay(RELEASED, &[HEAD, FIRST, CUT]),
-        WentOutAct::Note(&[42]),
-        KEPT,
-        WentOutAct::Holds(RELEASED, &[HEAD, FIRST, NEXT]),
-        WentOutAct::Note(&[43]),
+        WentOutAct::Lay(SECOND, &[CUT]),
+        WentOutAct::Lay(RELEASED, &[OTHER_HEAD, OTHER]),
+        WentOutAct::Start(WantedStart {
+            known: &[],
+            numbers: &[],
+            missing: Some(&[]),
+            set_aside: true,
+        }),
+        WentOutAct::Holds(SECOND, &[CUT]),
+        WentOutAct::Holds(THIRD, &[OTHER_HEAD, OTHER]),
+        WentOutAct::Holds(RELEASED, &[HEAD]),
+        WentOutAct::Note(&[41]),
+        WentOutAct::Holds(RELEASED, &[HEAD]),
+        WentOutAct::Look,
+        WentOutAct::Holds(RELEASED, &[HEAD, FIRST]),
+        WentOutAct::Note(&[42, 41]),
         WentOutAct::Settle,
-        WentOutAct::Holds(RELEASED, &[HEAD, FIRST, NEXT, LAST]),
-    ]],
-    // A bad record is passed over.
+        WentOutAct::Settle,
+        WentOutAct::Holds(RELEASED, &[HEAD, FIRST, NEXT]),
+    ],
+    &[BOTH, WentOutAct::Holds(RELEASED, &[HEAD, FIRST, NEXT])],
+]];
+
+const DAMAGES: &[Runs] = &[
+    // A bad record is passed over. One that is cut short is cut off before the next is added. What was noted before the start is known is
+    // written too.
     &[&[
-        WentOutAct::Lay(RELEASED, &[HEAD, BAD, NEXT]),
-        WITHOUT_BAD,
+        WentOutAct::Lay(RELEASED, &[HEAD, BAD, LAST, CUT]),
+        WentOutAct::Note(&[42]),
+        LAST_ALONE,
+        WentOutAct::Holds(RELEASED, &[HEAD, BAD, LAST, NEXT]),
         WentOutAct::Note(&[41]),
         WentOutAct::Settle,
-        WentOutAct::Holds(RELEASED, &[HEAD, BAD, NEXT, FIRST]),
+        WentOutAct::Holds(RELEASED, &[HEAD, BAD, LAST, NEXT, FIRST]),
     ]],
-    // A head that is damaged is written anew, and the bad records are gone.
+    // A head that is damaged is written anew, and the bad records are gone. Then another folder stands in place of the releases: there the
+    // file is made with all that is known.
     &[&[
         WentOutAct::Lay(RELEASED, &[BAD_HEAD, FIRST, BAD]),
         KEPT,
         WentOutAct::Holds(RELEASED, &[HEAD, FIRST]),
-    ]],
-    // The file of another station is set aside, and so is one in which nothing can be read.
-    &[
-        &[
-            WentOutAct::Lay(RELEASED, &[OTHER_HEAD, OTHER]),
-            IN_PLACE,
-            WentOutAct::Holds(SECOND, &[OTHER_HEAD, OTHER]),
-            WentOutAct::Holds(RELEASED, &[HEAD, NEXT]),
-        ],
-        &[
-            WentOutAct::Lay(RELEASED, &[BAD_HEAD, BAD]),
-            IN_PLACE,
-            WentOutAct::Holds(THIRD, &[BAD_HEAD, BAD]),
-            WentOutAct::Holds(SECOND, &[OTHER_HEAD, OTHER]),
-            WentOutAct::Holds(RELEASED, &[HEAD, NEXT]),
-        ],
-    ],
-    // Another folder stands in place of the releases: there the file is made with all that is known.
-    &[&[
-        EMPTY,
-        WentOutAct::Note(&[41]),
-        WentOutAct::Look,
         WentOutAct::Move(RELEASES, AWAY),
         WentOutAct::Make(RELEASES),
         WentOutAct::Note(&[42]),
         WentOutAct::Look,
         WentOutAct::Holds(RELEASED, &[HEAD, FIRST, NEXT]),
     ]],
+];
+
+const REPLACED: &[Runs] = &[
     // Another file stands in its place: what that one lacks is added. Where it is another station's, it is set aside.
     &[&[
-        EMPTY,
-        WentOutAct::Note(&[41]),
-        WentOutAct::Look,
+        WentOutAct::Lay(RELEASED, &[HEAD, FIRST]),
+        KEPT,
         WentOutAct::Lay(AWAY, &[HEAD, LAST]),
         WentOutAct::Move(AWAY, RELEASED),
         WentOutAct::Note(&[42]),
@@ -233,13 +201,11 @@ const CASES: &[Runs] = &[
         WentOutAct::Look,
         WentOutAct::Holds(SECOND, &[OTHER_HEAD]),
         WentOutAct::Holds(RELEASED, &[HEAD, FIRST, NEXT, LAST]),
-        WentOutAct::Remove(RELEASED),
-        WentOutAct::Settle,
-        WentOutAct::Holds(RELEASED, &[HEAD, FIRST, NEXT, LAST]),
     ]],
-    // What is refused is written once the folder serves again.
+    // What is refused is written once the folder serves again, and where the file was taken away it is made anew.
     &[&[
-        EMPTY,
+        WentOutAct::Lay(RELEASED, &[HEAD]),
+        NONE,
         WentOutAct::Move(RELEASES, AWAY),
         WentOutAct::Note(&[41]),
         WentOutAct::Refused(FolderFault::Missing),
@@ -256,10 +222,43 @@ const CASES: &[Runs] = &[
     ]],
 ];
 
-/// Two empty folders.
-fn lay_out(rt: &HostRuntime) -> bool {
-    let _ = fs::remove_dir_all(rt, FOLDER);
-    fs::create_dir_all(rt, OFFERS).is_ok() && fs::create_dir_all(rt, RELEASES).is_ok()
+/// Where a story plays.
+#[derive(Clone, Copy)]
+struct Site<'a> {
+    rt: &'a HostRuntime,
+    folder: &'static str,
+}
+
+impl<'a> Site<'a> {
+    /// The path of what stands there under a name.
+    fn path(self, name: &str) -> Option<String> {
+        format!(in self.rt.alloc(); "{}/{name}", self.folder).ok()
+    }
+
+    /// Makes two empty folders, and nothing else.
+    fn lay_out(self) -> Option<()> {
+        let _ = fs::remove_dir_all(self.rt, self.folder);
+        fs::create_dir_all(self.rt, self.path(OFFERS)?.as_str()).ok()?;
+        fs::create_dir_all(self.rt, self.path(RELEASES)?.as_str()).ok()
+    }
+
+    /// Writes a file of these parts.
+    fn lay(self, name: &str, parts: &[&[u8]]) -> Option<()> {
+        let bytes = joined(self.rt.alloc(), parts)?;
+        fs::write(self.rt, self.path(name)?.as_str(), bytes.as_slice()).ok()
+    }
+
+    /// Whether a file holds these parts.
+    fn holds(self, name: &str, parts: &[&[u8]]) -> Option<bool> {
+        let bytes = joined(self.rt.alloc(), parts)?;
+        Some(fs::read(self.rt, self.path(name)?.as_str()).ok()? == bytes)
+    }
+
+    /// Moves what stands under a name to another.
+    fn move_to(self, from: &str, to: &str) -> Option<()> {
+        let to = self.path(to)?;
+        fs::rename(self.rt, self.path(from)?.as_str(), to.as_str()).ok()
+    }
 }
 
 /// These parts, one behind the other.
@@ -269,22 +268,6 @@ fn joined(alloc: Global, parts: &[&[u8]]) -> Option<Vec<u8>> {
         bytes.extend_from_slice(part).ok()?;
     }
     Some(bytes)
-}
-
-/// Whether a file is written of these parts.
-fn is_laid(rt: &HostRuntime, path: &str, parts: &[&[u8]]) -> bool {
-    match joined(rt.alloc(), parts) {
-        Some(bytes) => fs::write(rt, path, bytes.as_slice()).is_ok(),
-        None => false,
-    }
-}
-
-/// Whether a file holds these parts.
-fn holds(rt: &HostRuntime, path: &str, parts: &[&[u8]]) -> bool {
-    match (joined(rt.alloc(), parts), fs::read(rt, path)) {
-        (Some(bytes), Ok(read)) => read == bytes,
-        _ => false,
-    }
 }
 
 /// The station whose file it is.
@@ -307,10 +290,13 @@ fn set_of(alloc: Global, wanted: &[u32]) -> Option<Numbers> {
 
 /// Whether a set has just these numbers.
 fn are(numbers: &Numbers, wanted: &[u32]) -> bool {
+    for value in wanted {
+        match Number::new(*value) {
+            Some(number) if numbers.contains(number) => {}
+            _ => return false,
+        }
+    }
     numbers.len() as usize == wanted.len()
-        && wanted.iter().all(
-            |value| matches!(Number::new(*value), Some(number) if numbers.contains(number)),
-        )
 }
 
 /// Whether it is what was wanted.
@@ -324,91 +310,103 @@ fn is_wanted(went: &WentOut, wanted: &WantedStart) -> bool {
 }
 
 /// Whether a start answers what is wanted.
-fn starts<F: Folders>(rt: &HostRuntime, folders: &mut F, wanted: &WantedStart) -> bool {
-    let (Some(own), Some(known)) = (own(), set_of(rt.alloc(), wanted.known)) else {
-        return false;
-    };
-    match folders.went_out(rt.alloc(), &own, &known) {
-        Ok(Some(went)) => is_wanted(&went, wanted),
-        _ => false,
-    }
+fn starts<F: Folders>(alloc: Global, folders: &mut F, wanted: &WantedStart) -> Option<bool> {
+    let known = set_of(alloc, wanted.known)?;
+    let went = folders.went_out(alloc, &own()?, &known).ok()??;
+    Some(is_wanted(&went, wanted))
 }
 
-/// Whether these numbers are noted.
-fn notes<F: Folders>(rt: &HostRuntime, folders: &mut F, values: &[u32]) -> bool {
-    let mut numbers = Vec::new(rt.alloc());
+/// Notes these numbers.
+fn note<F: Folders>(alloc: Global, folders: &mut F, values: &[u32]) -> Option<()> {
+    let mut numbers = Vec::new(alloc);
     for value in values {
-        match Number::new(*value) {
-            Some(number) if numbers.push(number).is_ok() => {}
-            _ => return false,
-        }
+        numbers.push(Number::new(*value)?).ok()?;
     }
-    folders.note_gone(rt.alloc(), &numbers).is_ok()
+    folders.note_gone(alloc, &numbers).ok()
 }
 
 /// Whether it goes as it has to with these folders.
-fn goes<F: Folders>(rt: &HostRuntime, folders: &mut F, act: &WentOutAct) -> bool {
+fn goes<F: Folders>(site: Site<'_>, folders: &mut F, act: &WentOutAct) -> Option<bool> {
+    let (rt, alloc) = (site.rt, site.rt.alloc());
     match act {
-        WentOutAct::Lay(path, parts) => is_laid(rt, path, parts),
-        WentOutAct::Start(wanted) => starts(rt, folders, wanted),
-        WentOutAct::Note(values) => notes(rt, folders, values),
-        WentOutAct::Look => folders.list(rt.alloc(), 64).is_ok(),
-        WentOutAct::Settle => folders.settle(rt.alloc()).is_ok(),
+        WentOutAct::Lay(name, parts) => site.lay(name, parts)?,
+        WentOutAct::Start(wanted) => return starts(alloc, folders, wanted),
+        WentOutAct::Note(values) => note(alloc, folders, values)?,
+        WentOutAct::Look => return Some(folders.list(alloc, 64).is_ok()),
+        WentOutAct::Settle => return Some(folders.settle(alloc).is_ok()),
         WentOutAct::Refused(fault) => {
-            matches!(folders.settle(rt.alloc()), Err(found) if found == *fault)
+            return Some(matches!(folders.settle(alloc), Err(found) if found == *fault));
         }
-        WentOutAct::Move(from, to) => fs::rename(rt, *from, *to).is_ok(),
-        WentOutAct::Make(path) => fs::create_dir(rt, *path).is_ok(),
-        WentOutAct::Clear(path) => fs::remove_dir(rt, *path).is_ok(),
-        WentOutAct::Remove(path) => fs::remove_file(rt, *path).is_ok(),
-        WentOutAct::Holds(path, parts) => holds(rt, path, parts),
+        WentOutAct::Move(from, to) => site.move_to(from, to)?,
+        WentOutAct::Make(name) => fs::create_dir(rt, site.path(name)?.as_str()).ok()?,
+        WentOutAct::Clear(name) => fs::remove_dir(rt, site.path(name)?.as_str()).ok()?,
+        WentOutAct::Remove(name) => fs::remove_file(rt, site.path(name)?.as_str()).ok()?,
+        WentOutAct::Holds(name, parts) => return site.holds(name, parts),
     }
+    Some(true)
 }
 
 /// The place of the first of these acts that does not go as it has to; nothing where there is none.
-fn first_not<F: Folders>(rt: &HostRuntime, folders: &mut F, acts: &[WentOutAct]) -> Option<usize> {
-    acts.iter().position(|act| !goes(rt, folders, act))
-}
-
-/// The same with folders of the host, of a process of their own: here alone they have their whole type.
-fn first_not_on_host(rt: &HostRuntime, acts: &[WentOutAct]) -> Option<usize> {
-    let offers = String::from_str(rt.alloc(), OFFERS).ok()?;
-    let releases = String::from_str(rt.alloc(), RELEASES).ok()?;
-    match HostFolders::open(rt, offers, releases) {
-        Ok(mut folders) => first_not(rt, &mut folders, acts),
-        Err(_) => Some(0),
-    }
-}
-
-/// Which act does not go as it has to.
-#[derive(Clone, Copy, PartialEq, Eq, Debug)]
-struct Amiss {
-    case: usize,
-    run: usize,
-    act: usize,
-}
-
-/// The first act that does not go as it has to; nothing where there is none.
-fn first_amiss(rt: &HostRuntime) -> Option<Amiss> {
-    for (case, runs) in CASES.iter().enumerate() {
-        if !lay_out(rt) {
-            return Some(Amiss {
-                case,
-                run: 0,
-                act: 0,
-            });
-        }
-        for (run, acts) in runs.iter().enumerate() {
-            if let Some(act) = first_not_on_host(rt, acts) {
-                return Some(Amiss { case, run, act });
-            }
+fn first_not<F: Folders>(site: Site<'_>, folders: &mut F, acts: &[WentOutAct]) -> Option<usize> {
+    for (place, act) in acts.iter().enumerate() {
+        if goes(site, folders, act) != Some(true) {
+            return Some(place);
         }
     }
     None
 }
 
+/// The same with folders of the host, of a process of their own: here alone they have their whole type.
+fn first_not_on_host(site: Site<'_>, acts: &[WentOutAct]) -> Option<usize> {
+    let (Some(offers), Some(releases)) = (site.path(OFFERS), site.path(RELEASES)) else {
+        return Some(0);
+    };
+    match HostFolders::open(site.rt, offers, releases) {
+        Ok(mut folders) => first_not(site, &mut folders, acts),
+        Err(_) => Some(0),
+    }
+}
+
+/// The first act that does not go as it has to in these stories, which play in this folder, by its story, process and place; nothing where
+/// there is none.
+fn first_amiss(
+    rt: &HostRuntime,
+    folder: &'static str,
+    stories: &[Runs],
+) -> Option<(usize, usize, usize)> {
+    let site = Site { rt, folder };
+    for (story, runs) in stories.iter().enumerate() {
+        if site.lay_out().is_none() {
+            return Some((story, 0, 0));
+        }
+        for (run, acts) in runs.iter().enumerate() {
+            if let Some(act) = first_not_on_host(site, acts) {
+                return Some((story, run, act));
+            }
+        }
+    }
+    if fs::remove_dir_all(rt, folder).is_err() {
+        return Some((stories.len(), 0, 0));
+    }
+    None
+}
+
 #[test]
-fn what_went_out_is_kept(rt: HostRuntime) {
-    assert_eq!(rt; first_amiss(&rt), None);
-    assert!(rt; fs::remove_dir_all(&rt, FOLDER).is_ok());
+fn first_start(rt: HostRuntime) {
+    assert_eq!(rt; first_amiss(&rt, "circuitd_first_start", FIRST_START), None);
+}
+
+#[test]
+fn start_without_rows(rt: HostRuntime) {
+    assert_eq!(rt; first_amiss(&rt, "circuitd_empty_start", EMPTY_START), None);
+}
+
+#[test]
+fn damaged_files(rt: HostRuntime) {
+    assert_eq!(rt; first_amiss(&rt, "circuitd_damages", DAMAGES), None);
+}
+
+#[test]
+fn files_that_are_replaced(rt: HostRuntime) {
+    assert_eq!(rt; first_amiss(&rt, "circuitd_replaced", REPLACED), None);
 }

@@ -1,6 +1,6 @@
 //! The addresses of a circuit, as they are seen from this host.
 
-use config_check::{HostPlace, Oddity, Reach, is_even, oddity_of, place_of, reach_of};
+use crate::{HostPlace, Oddity, Reach, is_even, oddity_of, place_of, reach_of};
 use configuration::Config;
 use std::io;
 use std::io::Write;

@@ -2,7 +2,7 @@
 
 use code_table::CodeTable;
 use command_ends::Fault;
-use config_check::{elevate_frame, fitting_frame};
+use crate::{elevate_frame, fitting_frame};
 use configuration::Config;
 use inputs::{read_table, read_widths};
 use std::fs;

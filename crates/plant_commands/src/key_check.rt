@@ -3,7 +3,7 @@
 use crate::files::put_fault;
 use command_ends::Fault;
 use configuration::Config;
-use key_files::{KeyFault, read_key_file};
+use circuit_keys::{KeyFault, read_key_file};
 use std::io::Write;
 
 /// Writes what is wrong with the file of keys, where the configuration names one; whether nothing is.

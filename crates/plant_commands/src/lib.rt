@@ -3,11 +3,21 @@
 
 mod addresses;
 mod checking;
+mod count;
 mod files;
+mod fitting;
 mod folders_check;
 mod key_check;
+mod oddity;
+mod place;
+mod reach;
 mod stopping;
 
 pub use checking::check_config;
+pub use count::is_even;
+pub use fitting::{elevate_frame, fitting_frame};
 pub use folders_check::MisplacedText;
+pub use oddity::{Oddity, oddity_of};
+pub use place::{HostPlace, place_of};
+pub use reach::{Reach, reach_of};
 pub use stopping::stop;

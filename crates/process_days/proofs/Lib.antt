@@ -1,5 +1,6 @@
-mod Storing
-pub mod GoingOn
-mod Names
 mod Filed
 mod LetIn
+mod Names
+mod Storing
+pub mod Coming
+pub mod GoingOn

@@ -1,2 +1,3 @@
-pub mod Telling
+pub mod Keyed
 pub mod Seeing
+pub mod Telling

@@ -44,13 +44,13 @@ fn push(alloc: Global, tapes: &mut Vec<Surveyed>, path: &str, tape: Tape) -> Res
 
 impl Survey {
     /// A survey of no tape yet. The table is read and taken before the widths are read.
-    pub fn read<'a, R: Read, S: Read>(
+    pub fn read<'a, R: Read>(
         alloc: Global,
         paths: &SettingPaths<'a>,
         table: &mut R,
-        widths: &mut S,
+        widths: &mut R,
     ) -> Result<Survey, Fault<'a>>
-        ensures ok { IfOk result (λ s. IsBegun (R.remaining table.old) (S.remaining widths.old) s) }
+        ensures ok { IfOk result (λ s. IsBegun (R.remaining table.old) (R.remaining widths.old) s) }
         ensures ends { IfErr result (λ e. IsOfInput (end_of e)) }
     {
         let table = read_table(alloc, table, paths.table)?;

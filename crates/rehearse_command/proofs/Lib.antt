@@ -1,3 +1,4 @@
+pub mod DatagramListing
 pub mod Listing
-pub mod Shown
 pub mod RehearsalEnds
+pub mod Shown

@@ -2,8 +2,8 @@
 use Rattle.std.specs.Prelude.{ℕ, Option, Some, None}
 use Rattle.world.specs.declared.step.Step.{Step}
 use Rattle.world.specs.declared.step.Step.TheVariants as steps
-use Rattle.script_lines.specs.declared.script.Order.{Order}
-use Rattle.script_lines.specs.declared.script.Order.TheVariants as orders
+use Rattle.rehearse_command.specs.declared.script.Order.{Order}
+use Rattle.rehearse_command.specs.declared.script.Order.TheVariants as orders
 
 -- the step that is ordered at a moment; the lines that set the stage or the moment order none
 abbrev pub step_of : Order → ℕ → Option Step

@@ -16,7 +16,7 @@ use Rattle.world.specs.Setups.{StationCircuit, StationState}
 use Rattle.world.specs.Founding.{Given, IsCircuitOf}
 use Rattle.world.specs.Reach.{StandsFor}
 use Rattle.world.specs.Taking.{actor, step_value, EndsAs}
-use Rattle.step_lines.specs.Datagrams.{datagrams_text}
+use Rattle.rehearse_command.specs.Datagrams.{datagrams_text}
 use Rattle.rehearse_command.specs.Lines.{outcome_line, released_text}
 use Rattle.rehearse_command.specs.declared.scene_lines.ShownStep.{ShownStep}
 

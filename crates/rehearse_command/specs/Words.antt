@@ -7,7 +7,7 @@ use Rattle.refusals.specs.declared.refusal.StepRefusal.TheVariants as steps
 use Rattle.world.specs.declared.step.Outcome.{Outcome}
 use Rattle.world.specs.declared.step.Outcome.TheVariants as outcomes
 use Rattle.refusals.specs.RefusalWords.{refusal_text}
-use Rattle.step_lines.specs.Notes.{note_text}
+use Rattle.rehearse_command.specs.Notes.{note_text}
 
 -- a store that refuses stops a station, for memory or otherwise
 abbrev pub stopped_by : RowsFault → List ℕ

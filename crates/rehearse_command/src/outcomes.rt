@@ -3,11 +3,11 @@
 ghost use Rattle.std.specs.Prelude.{◌≡◌, Some};
 ghost use Rattle.rehearse_command.specs.Words.{outcome_text, refused_text};
 
+use crate::NoteText;
 use refusals::RefusalText;
 use rows_saved::RowsFault;
 use station::StepRefusal;
 use std::fmt;
-use step_lines::NoteText;
 use world::Outcome;
 
 /// Why a member did not take a step. Two refusals stop it.

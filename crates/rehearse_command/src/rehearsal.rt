@@ -9,11 +9,11 @@ ghost use Rattle.rehearse_command.specs.Orders.{step_of};
 ghost use Rattle.rehearse_command.specs.Rehearsals.{BeginsIn, BeginsOn, HasRehearsed, inputs, PlaysLine, PlaysOn, PlaysScript, PlaysStaged, RehearsesUpTo, ShowsStep, StandsNew, StopsOn, StopsStaged, TurnsOn};
 
 use crate::scene_lines::{ShownStep, put_scene};
+use crate::{Order, ScriptFault, is_ignored, order_of};
 use code_table::CodeTable;
 use command_ends::{End, Fault, end_with};
 use inputs::{ScriptPaths, read_table, read_text, read_widths};
 use rows_saved::MemoryRows;
-use script_lines::{Order, ScriptFault, is_ignored, order_of};
 use std::alloc::{AllocError, Global};
 use std::io::{Read, Write};
 use std::mem::ManuallyDrop;
@@ -313,20 +313,20 @@ fn play_all<'a, W: Write>(
 
 /// What `rehearse` is asked: where its three files are, and what they are read from.
 #[derive(Drop)]
-pub struct RehearsalOrder<'a, R: Read + Drop, S: Read + Drop, T: Read + Drop> {
+pub struct RehearsalOrder<'a, R: Read + Drop> {
     pub paths: &'a ScriptPaths<'a>,
     pub table: R,
-    pub widths: S,
-    pub script: T,
+    pub widths: R,
+    pub script: R,
 }
 
 /// The same, from the three files.
-fn rehearsed<'a, R: Read + Drop, S: Read + Drop, T: Read + Drop, W: Write>(
+fn rehearsed<'a, R: Read + Drop, W: Write>(
     alloc: Global,
-    order: RehearsalOrder<'a, R, S, T>,
+    order: RehearsalOrder<'a, R>,
     out: &mut W,
 ) -> Result<(), Fault<'a>>
-    ensures { RehearsesUpTo (inputs (R.remaining order.entry.table) (S.remaining order.entry.widths)) result
+    ensures { RehearsesUpTo (inputs (R.remaining order.entry.table) (R.remaining order.entry.widths)) result
         (W.contents out.old) (W.contents out.new) }
 {
     let RehearsalOrder {
@@ -356,13 +356,13 @@ fn rehearsed<'a, R: Read + Drop, S: Read + Drop, T: Read + Drop, W: Write>(
 /// Whatever the lines are, what is written is what a circuit did, step by step, whose members are set up by these texts
 /// and begin in one version, and its releases agree: no two of one number differ, and each released entry was offered for
 /// its number.
-pub fn rehearse<R: Read + Drop, S: Read + Drop, T: Read + Drop, W: Write, E: Write>(
+pub fn rehearse<R: Read + Drop, W: Write, E: Write>(
     alloc: Global,
-    order: RehearsalOrder<'_, R, S, T>,
+    order: RehearsalOrder<'_, R>,
     out: &mut W,
     err: &mut E,
 ) -> End
-    ensures { HasRehearsed (inputs (R.remaining order.entry.table) (S.remaining order.entry.widths)) result
+    ensures { HasRehearsed (inputs (R.remaining order.entry.table) (R.remaining order.entry.widths)) result
         (W.contents out.old) (W.contents out.new) }
 {
     let outcome = rehearsed(alloc, order, out);

@@ -9,11 +9,11 @@ ghost use Rattle.rehearse_command.specs.Lines.{outcome_line, released_text};
 ghost use Rattle.rehearse_command.specs.Scenes.{shown_text};
 
 use crate::outcomes::OutcomeText;
+use crate::{put_datagrams, release_line};
 use release_texts::{PrintedRelease, entry_text, put_line, put_release, put_set};
 use station::Datagram;
 use std::alloc::{AllocError, Global};
 use std::io::Write;
-use step_lines::{put_datagrams, release_line};
 use streams::PutFault;
 use tape_frames::Entry;
 use world::{Outcome, ReleaseLog, Seen};

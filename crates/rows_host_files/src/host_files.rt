@@ -18,7 +18,7 @@ use acceptor_store::{FileFault, SqliteRows};
 use command_ends::Fault;
 use gone_out::Known;
 use rows_files::{Mark, NewRows, RefusedRows, RowFiles};
-use rows_known::known_rows;
+use crate::known_rows;
 use rows_saved::Identity;
 use sqlite::{FileFrom, FileStore, Wary};
 use sqlite_disk::Disk;

@@ -2,11 +2,14 @@
 #![tactic(auto)]
 
 mod causes;
+mod collecting;
 mod database;
 mod host_files;
+mod known;
 mod life;
 mod look;
 mod making;
 
 pub use host_files::HostFiles;
+pub use known::known_rows;
 pub use rows_files::{RefusedRows, RowFiles, RowsCause};

@@ -1,34 +1,39 @@
-//! The tests of `run`: what a station that stays up does with what lies among the offers of its plant, and with what it releases.
+//! The tests of `serve` and `run`: what a station prints and sends, what it does with what lies among the offers of its plant and with what it
+//! releases, and how a run ends, over wires and folders of the tests and over sockets.
 #![tactic(auto)]
 
 #[cfg(test)]
+mod agreeing;
+#[cfg(test)]
 mod bursts;
+#[cfg(test)]
+mod changed;
+#[cfg(test)]
+mod desk;
+#[cfg(test)]
+mod driving;
+#[cfg(test)]
+mod failing;
 #[cfg(test)]
 mod layouts;
 #[cfg(test)]
-mod memory;
-#[cfg(test)]
-mod missing;
-#[cfg(test)]
 mod night;
-#[cfg(test)]
-mod offering;
 #[cfg(test)]
 mod order;
 #[cfg(test)]
-mod plant;
+mod printing;
 #[cfg(test)]
-mod refusing;
-#[cfg(test)]
-mod renamed;
-#[cfg(test)]
-mod replaced;
+mod running;
 #[cfg(test)]
 mod saves;
 #[cfg(test)]
-mod stage;
+mod sending;
 #[cfg(test)]
-mod texts;
+mod serving;
+#[cfg(test)]
+mod sockets;
+#[cfg(test)]
+mod stage;
 #[cfg(test)]
 mod waiting;
 #[cfg(test)]

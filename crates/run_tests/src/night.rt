@@ -5,7 +5,7 @@ use folders::{FileRequest, FolderFault, OfferKind, PassedOver};
 use log_terms::Loudness;
 use plant_log::{LogEvent, Told, Trouble};
 use refusals::StepRefusal;
-use station_fixtures::ballot;
+use fixtures::ballot;
 use std::alloc::Global;
 use std::str;
 
@@ -81,28 +81,51 @@ impl NightLog {
     }
 }
 
-/// How many lines a day of one offer that waits costs, where so much is told that begins so.
-fn day_of(alloc: Global, loudness: Loudness, begins: &str) -> Option<usize> {
-    let mut log = NightLog::new(alloc, loudness);
+/// How much is told, how the lines of a day of one offer that waits begin, and how many they are at least and at most.
+#[derive(Clone, Copy)]
+struct DayRow {
+    loudness: Loudness,
+    begins: &'static str,
+    least: usize,
+    most: usize,
+}
+
+/// As ever two lines and one an hour; with all, each ballot; and nothing where faults alone are told.
+const DAYS: &[DayRow] = &[
+    DayRow {
+        loudness: Loudness::Usual,
+        begins: "12 began 2.1\n12 gave-up 32.1\n12 gave-up ",
+        least: 24,
+        most: 26,
+    },
+    DayRow {
+        loudness: Loudness::All,
+        begins: "12 began 1.1\n12 began 2.1\n",
+        least: 40_001,
+        most: usize::MAX,
+    },
+    DayRow {
+        loudness: Loudness::Faults,
+        begins: "",
+        least: 0,
+        most: 0,
+    },
+];
+
+/// Whether a day goes so.
+fn is_day(alloc: Global, row: &DayRow) -> Option<bool> {
+    let mut log = NightLog::new(alloc, row.loudness);
     log.wait(12)?;
     let lines = log.lines()?;
-    lines.starts_with(begins).then_some(lines.lines().count())
+    let count = lines.lines().count();
+    Some(lines.starts_with(row.begins) && row.least <= count && count <= row.most)
 }
 
 #[test]
 fn day_of_an_offer_that_waits(rt: HostRuntime) {
-    let usual = day_of(
-        rt.alloc(),
-        Loudness::Usual,
-        "12 began 2.1\n12 gave-up 32.1\n12 gave-up ",
-    );
-    assert!(rt;
-        usual.is_some_and(|lines| (24..=26).contains(&lines)),
-        "{usual:?}"
-    );
-    let all = day_of(rt.alloc(), Loudness::All, "12 began 1.1\n12 began 2.1\n");
-    assert!(rt; all.is_some_and(|lines| lines > 40_000), "{all:?}");
-    assert!(rt; day_of(rt.alloc(), Loudness::Faults, "") == Some(0));
+    for (place, row) in DAYS.iter().enumerate() {
+        assert!(rt; is_day(rt.alloc(), row) == Some(true), "{place}");
+    }
 }
 
 /// What is told of a number that is given up, released, and given up again; and of others meanwhile.
@@ -136,14 +159,21 @@ fn a_fifo(alloc: Global) -> Option<Vec<PassedOver>> {
     Some(others)
 }
 
-/// What goes on is tried at a moment: a file that can't be moved, releases that can't be written, and what a look could not read.
-fn go_on(alloc: Global, log: &mut NightLog, fault: FolderFault, now: u64) -> Option<()> {
+/// A fault of the tape of a number.
+fn trouble(number: u32, fault: FolderFault) -> Option<Trouble> {
     let request = FileRequest {
-        number: Number::new(12)?,
+        number: Number::new(number)?,
         kind: OfferKind::Tape,
     };
+    Some(Trouble { request, fault })
+}
+
+/// What goes on is tried at a moment: a file that can't be moved, one that can't be read, releases that can't be written, and what a look could
+/// not read.
+fn go_on(alloc: Global, log: &mut NightLog, fault: FolderFault, now: u64) -> Option<()> {
     let NightLog { told, err } = log;
-    told.cannot_move(&Trouble { request, fault }, now, err);
+    told.cannot_move(&trouble(12, fault)?, now, err);
+    told.cannot_read(&trouble(13, fault)?, now, err);
     told.cannot_write(fault, now, err);
     told.passed_over(a_fifo(alloc)?, now, err);
     told.listed(2, now, err);
@@ -152,11 +182,13 @@ fn go_on(alloc: Global, log: &mut NightLog, fault: FolderFault, now: u64) -> Opt
 
 /// What is told of it each hour, and at once where a fault is another.
 const EACH_HOUR: &str = "\
-folders: cannot move 12.tape: it is not allowed\nfolders: cannot write releases: it is not allowed\n\
-folders: cannot read a fifo: it is no plain file\nfolders: cannot read a name that is not UTF-8\n";
+folders: cannot move 12.tape: it is not allowed\nfolders: cannot read 13.tape: it is not allowed\n\
+folders: cannot write releases: it is not allowed\nfolders: cannot read a fifo: it is no plain file\n\
+folders: cannot read a name that is not UTF-8\n";
 
 const ANOTHER: &str = "\
-folders: cannot move 12.tape: the disk is full\nfolders: cannot write releases: the disk is full\n";
+folders: cannot move 12.tape: the disk is full\nfolders: cannot read 13.tape: the disk is full\n\
+folders: cannot write releases: the disk is full\n";
 
 /// How many lines of a day of it are told, tried each minute, of which the last are told as it is another fault.
 fn day_of_faults(alloc: Global) -> Option<usize> {
@@ -177,7 +209,7 @@ fn day_of_faults(alloc: Global) -> Option<usize> {
 
 #[test]
 fn day_of_faults_that_go_on(rt: HostRuntime) {
-    assert!(rt; day_of_faults(rt.alloc()) == Some(24 * 4 + 2));
+    assert!(rt; day_of_faults(rt.alloc()) == Some(24 * 5 + 3));
 }
 
 /// Lines of refusals that come each 100 milliseconds for 10 seconds: each second, whichever it is.

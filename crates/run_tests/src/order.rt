@@ -1,59 +1,62 @@
-//! In which order a run does what it does with its folders.
+//! In which order it is worked with the files of one number, and what leaves the offers when.
 
-use crate::plant::{PlantRun, RUN, machine_of, place_word, terms};
-use crate::stage::OfferHeld::{Flood, Harvest, Nothing};
-use crate::stage::OfferName::{Stop, Tape12};
+use crate::running::{PlantRun, RUN, is_true};
+use crate::stage::OfferHeld::{Flood, Harvest, Nothing, Why};
+use crate::stage::OfferName::{Seek14, Stop, Tape12, Tape14, Withdraw14};
 use crate::stage::StageAct;
-use crate::stage::StageChange::Laid;
-use folders::Act;
-use log_terms::Loudness;
-use run_command::run_station;
-use std::alloc::Global;
-use std::io::Write;
+use crate::stage::StageChange::{Laid, Strays};
 
-/// Writes a line for something that was done, unless a file was found; whether there was memory for it.
-fn put_act(act: &Act, text: &mut Vec<u8>) -> bool {
-    let (word, name) = match act {
-        Act::Saw(_) => return true,
-        Act::Read(named) => ("read", named.name.as_str()),
-        Act::Wrote(named) => ("wrote", named.name.as_str()),
-        Act::Noted(noted) => ("noted", noted.name.as_str()),
-        Act::SetAside(name, to) => (place_word(*to), name.as_str()),
-        Act::TakenAway(name) => ("gone", name.as_str()),
-    };
-    writeln!(text, "{word} {name}").is_ok()
-}
+/// The tape leaves the offers behind both files of its release, and another one of its number behind the text beside it.
+const LATE: PlantRun = PlantRun {
+    acts: &[
+        StageAct(1, Laid(Tape12, Flood)),
+        StageAct(10, Laid(Tape12, Harvest)),
+        StageAct(20, Laid(Stop, Nothing)),
+    ],
+    folders: "\
+read 12.tape\nwrote 12.tape 7\nwrote 12.galley 25\nsent 12.tape\n\
+read 12.tape\nlost 12.tape.txt: release 12 01020301030204\nlost 12.tape\n",
+    err: "12 released\n12 sent\n12 lost\n",
+    ..RUN
+};
 
-/// What was done with the folders of a plant in a run of a circuit of one, in which a tape is laid there, then
-/// another one of its number, and then `stop`.
-fn done(alloc: Global) -> Option<Vec<u8>> {
-    let run = PlantRun {
-        acts: &[
-            StageAct(1, Laid(Tape12, Flood)),
-            StageAct(10, Laid(Tape12, Harvest)),
-            StageAct(20, Laid(Stop, Nothing)),
-        ],
-        ..RUN
-    };
-    let terms = terms(Loudness::Faults)?;
-    let mut machine = machine_of(alloc, &run)?;
-    let mut err = Vec::new(alloc);
-    run_station(&mut machine, terms, &mut err).ok()?;
-    let mut text = Vec::new(alloc);
-    for act in machine.outside.folders.acts() {
-        if !put_act(act, &mut text) {
-            return None;
-        }
-    }
-    Some(text)
-}
+/// Of three files of one number, which ask for three things, the tape is released; each of the others leaves by that.
+const THREE: PlantRun = PlantRun {
+    acts: &[
+        StageAct(1, Laid(Seek14, Nothing)),
+        StageAct(1, Laid(Withdraw14, Why)),
+        StageAct(1, Laid(Tape14, Flood)),
+        StageAct(20, Laid(Stop, Nothing)),
+    ],
+    folders: "\
+read 14.tape\nwrote 14.tape 7\nwrote 14.galley 25\nsent 14.tape\nread 14.seek\n\
+lost 14.withdraw.txt: release 14 01020301030204\nlost 14.withdraw\nsent 14.seek\n",
+    err: "14 released\n14 sent\n14 lost\n14 sent\n",
+    ..RUN
+};
 
-/// The tape leaves the offers behind both files of its release, and the other one behind the text beside it.
-const ORDER: &str = "\
-read 12.tape\nwrote 12.tape\nwrote 12.galley\nsent 12.tape\n\
-read 12.tape\nnoted 12.tape.txt\nlost 12.tape\n";
+/// A story that a look finds goes out before the files that it finds whose names ask for nothing.
+const BEFORE_STRAYS: PlantRun = PlantRun {
+    acts: &[
+        StageAct(1, Strays(4)),
+        StageAct(1, Laid(Tape12, Flood)),
+        StageAct(20, Laid(Stop, Nothing)),
+    ],
+    folders: "\
+read 12.tape\nwrote 12.tape 7\nwrote 12.galley 25\nsent 12.tape\n\
+refused story1.txt: no number\nrefused story1\nrefused story2.txt: no number\nrefused story2\n\
+refused story3.txt: no number\nrefused story3\nrefused story4.txt: no number\nrefused story4\n",
+    err: "\
+12 released\n12 sent\nrefused story1: no number\nrefused story2: no number\n\
+refused story3: no number\nrefused story4: no number\n",
+    ..RUN
+};
+
+const RUNS: &[PlantRun] = &[LATE, THREE, BEFORE_STRAYS];
 
 #[test]
-fn order(rt: HostRuntime) {
-    assert!(rt; done(rt.alloc()).is_some_and(|text| text.as_slice() == ORDER.as_bytes()));
+fn in_order(rt: HostRuntime) {
+    for (place, run) in RUNS.iter().enumerate() {
+        assert!(rt; is_true(rt.alloc(), run), "{place}");
+    }
 }

@@ -1,17 +1,16 @@
 //! When a release goes into the folders of a plant: once the save of its step is stored, and not before.
 
-use crate::plant::{count_filed, terms};
+use crate::running::{count_filed, terms, ticking};
 use crate::stage::OfferHeld::{Flood, Nothing};
 use crate::stage::OfferName::{Stop, Tape12};
 use crate::stage::StageChange::Laid;
 use crate::stage::{OffersStage, StageAct};
-use crate::wires::Ticking;
 use command_ends::{End, end_with};
 use driver::Machine;
 use log_terms::Loudness;
 use rows_saved::{Balky, Grouped};
 use run_command::run_station;
-use station_fixtures::{rows_with, station_over};
+use fixtures::{rows_with, station_over};
 use std::alloc::Global;
 use tape_frames::Version;
 
@@ -32,11 +31,7 @@ fn came_to(alloc: Global, is_refused: bool) -> Option<(End, usize)> {
     let mut machine = Machine {
         alloc,
         station: station_over(alloc, 1, 1, Grouped::new(alloc, rows))?,
-        wire: Ticking {
-            moment: 0,
-            tick: 25,
-            until: 15_000,
-        },
+        wire: ticking(alloc, 60),
         outside: OffersStage::new(alloc, ACTS),
     };
     let mut err = Vec::new(alloc);

@@ -1,7 +1,7 @@
 //! Folders in memory in which something happens at some look.
 
 use ballots::Number;
-use fixtures::{FLOOD, HARVEST, LIGATURE, OVERSET};
+use fixtures::{FLOOD, HARVEST, LIGATURE};
 use folders::{
     FolderFault, Folders, Leaving, Listing, MemoryFolders, NamedFile, PassedOver, Stamp, Unwritten,
     WentOut,
@@ -13,43 +13,21 @@ use std::alloc::{AllocError, Global};
 #[derive(Clone, Copy)]
 pub enum OfferName {
     Tape12,
-    Text12,
-    Tape13,
-    Tape14,
     Seek12,
+    Tape14,
     Seek14,
-    /// A range of numbers that is asked for.
-    Range,
     Withdraw14,
     Stop,
-    /// Names of no number: with a zero in front, with none, above the last.
-    ZeroTape,
-    StoryTape,
-    GreatSeek,
-    /// A name that would end a line of the log.
-    TwoLines,
-    /// Names of what is still being handed over.
-    DottedTape,
-    PartTape,
 }
 
 fn text_of(name: OfferName) -> &'static str {
     match name {
         OfferName::Tape12 => "12.tape",
-        OfferName::Text12 => "12.text",
-        OfferName::Tape13 => "13.tape",
-        OfferName::Tape14 => "14.tape",
         OfferName::Seek12 => "12.seek",
+        OfferName::Tape14 => "14.tape",
         OfferName::Seek14 => "14.seek",
-        OfferName::Range => "12-14.seek",
         OfferName::Withdraw14 => "14.withdraw",
         OfferName::Stop => "stop",
-        OfferName::ZeroTape => "012.tape",
-        OfferName::StoryTape => "story.tape",
-        OfferName::GreatSeek => "1000000.seek",
-        OfferName::TwoLines => "12 lost\n13.tape",
-        OfferName::DottedTape => ".13.tape",
-        OfferName::PartTape => "13.tape.part",
     }
 }
 
@@ -59,35 +37,22 @@ pub enum OfferHeld {
     Nothing,
     /// A word.
     Why,
-    /// The flood story as a text, and the same with a last line in which a letter has no code.
-    FloodText,
-    LastLine,
     /// The tapes of the examples.
     Flood,
     Harvest,
     Ligature,
-    Overset,
     /// So many of the first three frames of the flood story.
     Start(usize),
-    /// A frame, and one that is none.
-    BadFrame,
-    /// One frame more than a tape has at most.
-    TooLong,
 }
 
 fn bytes_of(held: OfferHeld) -> &'static [u8] {
     match held {
         OfferHeld::Nothing => &[],
         OfferHeld::Why => b"why",
-        OfferHeld::FloodText => b"ab a b\n",
-        OfferHeld::LastLine => b"ab a b\nab?\n",
         OfferHeld::Flood => FLOOD,
         OfferHeld::Harvest => HARVEST,
         OfferHeld::Ligature => LIGATURE,
-        OfferHeld::Overset => OVERSET,
         OfferHeld::Start(count) => FLOOD.get(..count).unwrap_or(&[]),
-        OfferHeld::BadFrame => &[1, 64],
-        OfferHeld::TooLong => &[1; 16_385],
     }
 }
 
@@ -108,14 +73,10 @@ pub enum StageChange {
     LaidAt(FoldersCall, OfferName, OfferHeld),
     /// A file is taken from the offers.
     Taken(OfferName),
-    /// A text of so many letters in one line is laid among the offers.
-    Letters(OfferName, usize),
     /// The flood story is laid among the offers for each of so many numbers, from 1 on.
     Burst(u32),
-    /// So many files are laid among the offers whose names ask for nothing.
+    /// The same in so many files whose names ask for nothing.
     Strays(u32),
-    /// The same of files that are left alone.
-    Left(u32),
     /// The folder of releases is full, or no longer.
     Full(bool),
     /// Nothing can be set aside, or it can again.
@@ -134,13 +95,13 @@ pub struct StageAct(pub usize, pub StageChange);
 #[derive(Drop)]
 pub struct OffersStage {
     pub folders: MemoryFolders,
-    pub acts: &'static [StageAct],
-    pub looks: usize,
+    acts: &'static [StageAct],
+    looks: usize,
     /// What is laid before the next of which calls.
-    pub next: Option<(FoldersCall, OfferName, OfferHeld)>,
-    pub is_stuck: bool,
-    pub is_unread: bool,
-    pub has_fifo: bool,
+    next: Option<(FoldersCall, OfferName, OfferHeld)>,
+    is_stuck: bool,
+    is_unread: bool,
+    has_fifo: bool,
 }
 
 impl OffersStage {
@@ -156,19 +117,15 @@ impl OffersStage {
         }
     }
 
-    /// Lays the flood story among the offers for each number up to this.
-    fn lay_all(&mut self, alloc: Global, last: u32) -> Result<(), AllocError> {
+    /// Lays the flood story among the offers for each number up to this, in files whose names begin and end so.
+    fn lay_all(
+        &mut self,
+        alloc: Global,
+        last: u32,
+        (begin, end): (&str, &str),
+    ) -> Result<(), AllocError> {
         for number in 1..=last {
-            let name = format!(in alloc; "{number}.tape")?;
-            self.folders.lay(alloc, &name, FLOOD, 0)?;
-        }
-        Ok(())
-    }
-
-    /// Lays so many files whose names ask for nothing, with this end.
-    fn lay_strays(&mut self, alloc: Global, count: u32, end: &str) -> Result<(), AllocError> {
-        for number in 0..count {
-            let name = format!(in alloc; "story{number}{end}")?;
+            let name = format!(in alloc; "{begin}{number}{end}")?;
             self.folders.lay(alloc, &name, FLOOD, 0)?;
         }
         Ok(())
@@ -192,22 +149,6 @@ impl OffersStage {
             .lay_within_read(alloc, text_of(name), bytes_of(held), changed)
     }
 
-    /// Lays a text of so many letters.
-    fn lay_letters(
-        &mut self,
-        alloc: Global,
-        name: OfferName,
-        count: usize,
-    ) -> Result<(), AllocError> {
-        let mut text = Vec::new(alloc);
-        for _ in 0..count {
-            if text.push(b'a').is_err() {
-                return Err(AllocError);
-            }
-        }
-        self.folders.lay(alloc, text_of(name), text.as_slice(), 0)
-    }
-
     /// Lays what is laid before this call, or within it.
     fn lay_before(&mut self, alloc: Global, call: FoldersCall) -> Result<(), AllocError> {
         let laid = self.next;
@@ -227,10 +168,8 @@ impl OffersStage {
 
     fn act(&mut self, alloc: Global, what: StageChange) -> Result<(), AllocError> {
         match what {
-            StageChange::Letters(name, count) => self.lay_letters(alloc, name, count),
-            StageChange::Burst(last) => self.lay_all(alloc, last),
-            StageChange::Strays(count) => self.lay_strays(alloc, count, ""),
-            StageChange::Left(count) => self.lay_strays(alloc, count, ".part"),
+            StageChange::Burst(last) => self.lay_all(alloc, last, ("", ".tape")),
+            StageChange::Strays(last) => self.lay_all(alloc, last, ("story", "")),
             StageChange::Taken(name) => {
                 let _ = self.folders.remove(alloc, text_of(name));
                 Ok(())

@@ -1,43 +1,11 @@
-//! What waits: a file that grows, a release while the disk is full, an offer while no majority is there.
+//! What waits: a release while the disk is full, a file that can't be moved, an offer while no majority is there, a search of what is not there.
 
-use crate::plant::{PlantRun, RUN, is_true};
-use crate::stage::OfferHeld::{Flood, Ligature, Nothing, Start};
+use crate::running::{PlantRun, RUN, is_true};
+use crate::stage::OfferHeld::{Flood, Nothing};
 use crate::stage::OfferName::{Seek12, Stop, Tape12};
 use crate::stage::StageAct;
 use crate::stage::StageChange::{Fifo, Full, Laid, Stuck, Unread};
 use command_ends::End;
-
-/// A file that grows is not taken before it stood still for half a second.
-const GROWING: &[PlantRun] = &[
-    PlantRun {
-        acts: &[
-            StageAct(1, Laid(Tape12, Start(1))),
-            StageAct(2, Laid(Tape12, Start(2))),
-            StageAct(3, Laid(Tape12, Start(3))),
-            StageAct(4, Laid(Tape12, Flood)),
-            StageAct(5, Laid(Stop, Nothing)),
-        ],
-        ..RUN
-    },
-    PlantRun {
-        acts: &[
-            StageAct(1, Laid(Tape12, Start(1))),
-            StageAct(2, Laid(Tape12, Start(2))),
-            StageAct(3, Laid(Tape12, Flood)),
-            StageAct(8, Laid(Stop, Nothing)),
-        ],
-        folders: "wrote 12.tape 7\nwrote 12.galley 25\nsent 12.tape\n",
-        err: "12 released\n12 sent\n",
-        ..RUN
-    },
-];
-
-#[test]
-fn growing(rt: HostRuntime) {
-    for (place, run) in GROWING.iter().enumerate() {
-        assert!(rt; is_true(rt.alloc(), run), "{place}");
-    }
-}
 
 /// A release that can't be written is written later, and the file that asked for it stays until then.
 const FULL_DISK: &[PlantRun] = &[
@@ -47,6 +15,7 @@ const FULL_DISK: &[PlantRun] = &[
             StageAct(1, Laid(Tape12, Flood)),
             StageAct(20, Laid(Stop, Nothing)),
         ],
+        folders: "read 12.tape\n",
         err: "folders: cannot write releases: the disk is full\n12 released\n",
         ..RUN
     },
@@ -57,7 +26,7 @@ const FULL_DISK: &[PlantRun] = &[
             StageAct(10, Full(false)),
             StageAct(20, Laid(Stop, Nothing)),
         ],
-        folders: "wrote 12.tape 7\nwrote 12.galley 25\nsent 12.tape\n",
+        folders: "read 12.tape\nwrote 12.tape 7\nwrote 12.galley 25\nsent 12.tape\n",
         err: "folders: cannot write releases: the disk is full\n12 released\n12 sent\n",
         ..RUN
     },
@@ -78,15 +47,10 @@ const MOVED_LATER: PlantRun = PlantRun {
         StageAct(8, Stuck(false)),
         StageAct(20, Laid(Stop, Nothing)),
     ],
-    folders: "wrote 12.tape 7\nwrote 12.galley 25\nsent 12.tape\n",
+    folders: "read 12.tape\nwrote 12.tape 7\nwrote 12.galley 25\nsent 12.tape\n",
     err: "12 released\nfolders: cannot move 12.tape: it is not allowed\n12 sent\n",
     ..RUN
 };
-
-#[test]
-fn moved_later(rt: HostRuntime) {
-    assert!(rt; is_true(rt.alloc(), &MOVED_LATER));
-}
 
 /// Offers that can't be listed are told once, and again when they could be meanwhile; and so is what is no plain file.
 const TOLD_ONCE: PlantRun = PlantRun {
@@ -106,28 +70,13 @@ folders: cannot read a\\nfifo: it is no plain file\nfolders: cannot read a\\nfif
     ..RUN
 };
 
-#[test]
-fn told_once(rt: HostRuntime) {
-    assert!(rt; is_true(rt.alloc(), &TOLD_ONCE));
-}
-
-/// A file that was written anew once it was taken up is no longer the one that was: it is taken up again, and loses the number.
-const WRITTEN_ANEW: PlantRun = PlantRun {
-    acts: &[
-        StageAct(1, Full(true)),
-        StageAct(1, Laid(Tape12, Flood)),
-        StageAct(7, Laid(Tape12, Ligature)),
-        StageAct(10, Full(false)),
-        StageAct(40, Laid(Stop, Nothing)),
-    ],
-    folders: "wrote 12.tape 7\nwrote 12.galley 25\nlost 12.tape\nlost 12.tape.txt: release 12 01020301030204\n",
-    err: "folders: cannot write releases: the disk is full\n12 released\n12 lost\n",
-    ..RUN
-};
+const FAILING: &[PlantRun] = &[MOVED_LATER, TOLD_ONCE];
 
 #[test]
-fn written_anew(rt: HostRuntime) {
-    assert!(rt; is_true(rt.alloc(), &WRITTEN_ANEW));
+fn folders_that_fail(rt: HostRuntime) {
+    for (place, run) in FAILING.iter().enumerate() {
+        assert!(rt; is_true(rt.alloc(), run), "{place}");
+    }
 }
 
 /// Where nobody answers one ballot follows the other; the run goes on until the network fails.
@@ -136,14 +85,10 @@ const ALONE: PlantRun = PlantRun {
     acts: &[StageAct(1, Laid(Seek12, Nothing))],
     quarters: 4,
     end: End::Socket,
+    folders: "read 12.seek\n",
     err: "12 began 1.1\n12 began 2.1\nsocket: receive failed\n",
     ..RUN
 };
-
-#[test]
-fn alone(rt: HostRuntime) {
-    assert!(rt; is_true(rt.alloc(), &ALONE));
-}
 
 /// After 32 ballots a file is given up, and begun again after a pause.
 const GIVEN_UP: PlantRun = PlantRun {
@@ -151,6 +96,7 @@ const GIVEN_UP: PlantRun = PlantRun {
     acts: &[StageAct(1, Laid(Seek12, Nothing))],
     quarters: 50,
     end: End::Socket,
+    folders: "read 12.seek\n",
     err: "\
 12 began 1.1\n12 began 2.1\n12 began 3.1\n12 began 4.1\n12 began 5.1\n12 began 6.1\n\
 12 began 7.1\n12 began 8.1\n12 began 9.1\n12 began 10.1\n12 began 11.1\n12 began 12.1\n\
@@ -161,7 +107,52 @@ const GIVEN_UP: PlantRun = PlantRun {
     ..RUN
 };
 
+const UNANSWERED: &[PlantRun] = &[ALONE, GIVEN_UP];
+
 #[test]
-fn given_up(rt: HostRuntime) {
-    assert!(rt; is_true(rt.alloc(), &GIVEN_UP));
+fn unanswered(rt: HostRuntime) {
+    for (place, run) in UNANSWERED.iter().enumerate() {
+        assert!(rt; is_true(rt.alloc(), run), "{place}");
+    }
+}
+
+/// A search finds what was voted for; where there is nothing, it is made again after a pause that grows, and given back after ten times.
+const SOUGHT: &[PlantRun] = &[
+    PlantRun {
+        has_voted: true,
+        acts: &[
+            StageAct(1, Laid(Seek12, Nothing)),
+            StageAct(20, Laid(Stop, Nothing)),
+        ],
+        folders: "read 12.seek\nwrote 12.tape 7\nwrote 12.galley 25\nsent 12.seek\n",
+        err: "12 released\n12 sent\n",
+        ..RUN
+    },
+    PlantRun {
+        acts: &[
+            StageAct(1, Laid(Seek12, Nothing)),
+            StageAct(20, Laid(Stop, Nothing)),
+        ],
+        folders: "read 12.seek\n",
+        err: "12 nothing 1.1\n12 nothing 2.1\n12 nothing 3.1\n",
+        ..RUN
+    },
+    PlantRun {
+        acts: &[
+            StageAct(1, Laid(Seek12, Nothing)),
+            StageAct(1030, Laid(Stop, Nothing)),
+        ],
+        quarters: 1100,
+        folders: "read 12.seek\ndone 12.seek.txt: nothing\ndone 12.seek\n",
+        err: "12 nothing 1.1\n12 nothing 2.1\n12 nothing 3.1\n12 nothing 4.1\n12 nothing 5.1\n12 nothing 6.1\n\
+12 nothing 7.1\n12 nothing 8.1\n12 nothing 9.1\n12 nothing 10.1\ndone 12.seek: nothing, ten times\n",
+        ..RUN
+    },
+];
+
+#[test]
+fn sought(rt: HostRuntime) {
+    for (place, run) in SOUGHT.iter().enumerate() {
+        assert!(rt; is_true(rt.alloc(), run), "{place}");
+    }
 }

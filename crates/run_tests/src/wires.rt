@@ -1,79 +1,153 @@
-//! Wires of the tests.
+//! The wires of the tests: one over which comes what a test says, and one to the two other stations of a circuit.
 
 use ballots::Member;
 use rows_saved::MemoryRows;
 use station::{Answer, Datagram, Station};
-use station_fixtures::{rows_with, station_over};
+use fixtures::{rows_with, station_over};
 use std::alloc::Global;
 use std::collections::VecDeque;
+use std::io::Write;
 use tape_frames::Version;
 use wire::{Arrival, Wire};
 
-/// A wire on which nothing comes, whose clock goes on by so many milliseconds whenever it is asked. It fails once it shows a moment, so
-/// that each run ends.
-#[derive(Drop)]
-pub struct Ticking {
-    pub moment: u64,
+/// What a wire of the tests does.
+#[derive(Clone, Copy)]
+pub struct WireManner {
+    /// Whether it takes nothing of what is sent.
+    pub is_deaf: bool,
+    /// Whether what comes waits in memory.
+    pub keeps: bool,
+    /// These bytes come over and over, behind all else.
+    pub flood: &'static [u8],
+    /// By how many milliseconds its clock goes on whenever it is asked.
     pub tick: u64,
+    /// How many times the clock is asked at first while it stands still.
+    pub still: u32,
+    /// The moment from which on it fails to receive, in milliseconds.
     pub until: u64,
-}
-
-impl Wire for Ticking {
-    fn receive(&mut self) -> Arrival {
-        if self.moment < self.until {
-            Arrival::Nothing
-        } else {
-            Arrival::Failed
-        }
-    }
-
-    fn send(&mut self, _to: Member, _bytes: &[u8]) -> bool {
-        true
-    }
-
-    fn now(&mut self) -> u64 {
-        self.moment = self.moment.saturating_add(self.tick);
-        self.moment
-    }
-}
-
-/// A wire on which datagrams come without an end that are no packets. Some found no place, as it tells once.
-#[derive(Drop)]
-pub struct Flooded {
-    pub alloc: Global,
-    pub moment: u64,
-    pub left: u32,
+    /// How many datagrams found no place in memory. It tells this once.
     pub lost: Option<u64>,
 }
 
-impl Wire for Flooded {
-    fn fetch(&mut self) -> bool {
-        true
-    }
+/// A wire that gives what comes and takes what is sent, and whose clock stands still.
+pub const WHOLE: WireManner = WireManner {
+    is_deaf: false,
+    keeps: false,
+    flood: &[],
+    tick: 0,
+    still: 0,
+    until: u64::MAX,
+    lost: None,
+};
 
-    /// It fails after so many, so that each run ends.
-    fn receive(&mut self) -> Arrival {
-        let Some(left) = self.left.checked_sub(1) else {
-            return Arrival::Failed;
-        };
-        self.left = left;
-        match vec![in self.alloc; 0u8; 3] {
-            Ok(bytes) => Arrival::Datagram(bytes),
-            Err(_) => Arrival::Failed,
+/// A wire to which these datagrams come, and then nothing, or a flood. It keeps what it was asked to send.
+#[derive(Drop)]
+pub struct Scripted {
+    alloc: Global,
+    pub manner: WireManner,
+    /// The moment that its clock showed last, in milliseconds.
+    pub moment: u64,
+    coming: VecDeque<Vec<u8>>,
+    /// How many datagrams came.
+    pub came: usize,
+    /// How many it was asked to send.
+    pub sent: usize,
+    /// A line for each of these: the addressee, and the bytes in hex. Where what comes waits in memory, it has a line too for each that came.
+    pub log: Vec<u8>,
+}
+
+impl Scripted {
+    pub fn new(alloc: Global, manner: WireManner) -> Scripted {
+        Scripted {
+            alloc,
+            manner,
+            moment: 0,
+            coming: VecDeque::new(alloc),
+            came: 0,
+            sent: 0,
+            log: Vec::new(alloc),
         }
     }
 
-    fn send(&mut self, _to: Member, _bytes: &[u8]) -> bool {
+    /// Keeps a line for a datagram that is sent. Returns whether there was memory for it.
+    fn note(&mut self, to: Member, bytes: &[u8]) -> bool {
+        let to = to.get();
+        match hex::encode(self.alloc, bytes) {
+            Ok(digits) => writeln!(&mut self.log, "{to} {digits}").is_ok(),
+            Err(_) => false,
+        }
+    }
+
+    /// Lets the datagram of these hexadecimal digits come after the others. Returns whether there was memory for it.
+    fn bring(&mut self, digits: &[u8]) -> bool {
+        match hex::decode(self.alloc, digits) {
+            Ok(datagram) => self.coming.push_back(datagram).is_ok(),
+            Err(_) => false,
+        }
+    }
+
+    /// Lets each of these come after the others.
+    pub fn bring_all(&mut self, coming: &[&[u8]]) -> bool {
+        for digits in coming {
+            if !self.bring(digits) {
+                return false;
+            }
+        }
         true
     }
 
+    /// A datagram comes.
+    fn give(&mut self, bytes: Vec<u8>) -> Arrival {
+        self.came = self.came.saturating_add(1);
+        if self.manner.keeps {
+            let _ = writeln!(&mut self.log, "came");
+        }
+        Arrival::Datagram(bytes)
+    }
+
+    /// The flood comes, if there is one.
+    fn give_flood(&mut self) -> Arrival {
+        if self.manner.flood.is_empty() {
+            return Arrival::Nothing;
+        }
+        match Vec::from_slice(self.alloc, self.manner.flood) {
+            Ok(bytes) => self.give(bytes),
+            Err(_) => Arrival::Failed,
+        }
+    }
+}
+
+impl Wire for Scripted {
+    fn fetch(&mut self) -> bool {
+        self.manner.keeps && (self.coming.len() > 0 || !self.manner.flood.is_empty())
+    }
+
+    fn receive(&mut self) -> Arrival {
+        if self.manner.until <= self.moment {
+            return Arrival::Failed;
+        }
+        match self.coming.pop_front() {
+            Some(bytes) => self.give(bytes),
+            None => self.give_flood(),
+        }
+    }
+
+    fn send(&mut self, to: Member, bytes: &[u8]) -> bool {
+        self.sent = self.sent.saturating_add(1);
+        self.note(to, bytes) && !self.manner.is_deaf
+    }
+
     fn now(&mut self) -> u64 {
-        self.moment = self.moment.saturating_add(1);
+        if self.manner.still > 0 {
+            self.manner.still -= 1;
+        } else {
+            self.moment = self.moment.saturating_add(self.manner.tick);
+        }
         self.moment
     }
 
     fn lost(&mut self, _now: u64) -> Option<u64> {
-        self.lost.take()
+        self.manner.lost.take()
     }
 }
 

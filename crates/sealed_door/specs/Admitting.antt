@@ -17,8 +17,8 @@ use Rattle.seals.specs.declared.head.SealFault.TheVariants as faults
 use Rattle.seals.specs.declared.label.Label.{Label}
 use Rattle.seals.specs.declared.opening.Keys.{Keys}
 use Rattle.seals.specs.declared.opening.Piece.{Piece}
-use Rattle.gathering.specs.Parts.{Parts, IsSealedAs}
-use Rattle.gathering.specs.Places.{Gathers}
+use Rattle.seals.specs.Parts.{Parts, IsSealedAs}
+use Rattle.seals.specs.Places.{Gathers}
 use Rattle.sealed_door.specs.declared.door.SealedDoor.{SealedDoor}
 
 -- the packet names these as its sender and its addressee, in its seventh byte and its eighth

@@ -3,15 +3,14 @@
 ghost use Rattle.std.specs.Prelude.{◌≡◌, [], IfOk, IfSome, IfNone};
 ghost use Rattle.seals.specs.Opening.{IsPart};
 ghost use Rattle.wire.specs.Doors.{BringsAlike, BringsOnly};
-ghost use Rattle.gathering.specs.Parts.{IsSealedAs};
+ghost use Rattle.seals.specs.Parts.{IsSealedAs};
 ghost use Rattle.sealed_door.specs.Admitting.{AdmitsAlone, AdmitsPart, AdmitsSealed, BringsSealed, IsNamed, KeepsDoor, reason_of, sends_sealed};
 
 use crate::naming::is_from_to;
 use crate::sending::send_parts;
 use ballots::Member;
-use gathering::Gathering;
+use seals::{Gathering, Keys, Label, MOST_DATAGRAM, Piece, SealFault, open};
 use pace::Incoming;
-use seals::{Keys, Label, MOST_DATAGRAM, Piece, SealFault, open};
 use std::alloc::{AllocError, Global};
 use std::net::SocketAddr;
 use wire::{Address, Brought, Door, Reason, Socket, comes_from, has_mark, place_of};

@@ -1,4 +1,6 @@
-pub mod Sealing
-pub mod Reading
-pub mod Opening
 pub mod Laws
+pub mod Opening
+pub mod Parts
+pub mod Places
+pub mod Reading
+pub mod Sealing

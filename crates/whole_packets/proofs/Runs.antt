@@ -10,8 +10,8 @@ use Rattle.seals.specs.declared.label.Label.{Label}
 use Rattle.seals.specs.declared.opening.Keys.{Keys}
 use Rattle.seals.specs.declared.opening.Piece.{Piece}
 use Rattle.seals.specs.declared.opening.KeyPlace.{KeyPlace}
-use Rattle.gathering.specs.Parts.{Parts, IsSealedAs, IsWhole}
-use Rattle.gathering.specs.Places.{Knows, Gathers}
+use Rattle.seals.specs.Parts.{Parts, IsSealedAs, IsWhole}
+use Rattle.seals.specs.Places.{Knows, Gathers}
 use Rattle.whole_packets.specs.Orders.{AreOf, GivesWhatWasSealed}
 
 -- of this packet those parts are there that came, and not all

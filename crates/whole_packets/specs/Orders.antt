@@ -6,7 +6,7 @@ use Rattle.seals.specs.declared.label.Label.{Label}
 use Rattle.seals.specs.declared.opening.Keys.{Keys}
 use Rattle.seals.specs.declared.opening.Piece.{Piece}
 use Rattle.seals.specs.declared.opening.KeyPlace.{KeyPlace}
-use Rattle.gathering.specs.Parts.{IsSealedAs}
+use Rattle.seals.specs.Parts.{IsSealedAs}
 
 -- each piece is a part of this packet, with this label and under the key at this place
 abbrev pub AreOf : KeyPlace → Label → List ℕ → List Piece → Type 0

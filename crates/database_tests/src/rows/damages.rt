@@ -53,6 +53,7 @@ const CHANGES: &[Damage] = &[
         RowsFault::Damaged { number: 1_000_000 },
     ),
     // No station, or another.
+    ("UPDATE station SET layout = 9", RowsFault::WrongSchema),
     ("UPDATE station SET layout = 3", RowsFault::WrongSchema),
     ("UPDATE station SET layout = 0", RowsFault::WrongSchema),
     ("UPDATE station SET member = 4", RowsFault::WrongSchema),

@@ -1,18 +1,31 @@
-//! Rows in databases: made, saved, taken up again, and refused.
+//! Rows in databases of layout 1: made, saved, taken up again, and refused.
 
 use crate::rows::deeds::RowsDeed;
 use crate::rows::identities::OTHER;
-use crate::rows::memory::TWO;
-use crate::rows::samples::{PROMISED, RowSample, VOTED, VoteChoice};
-use crate::rows::sessions::{
-    MADE, MADE_TWO, OPENED, OpenManner, Session, SessionListing, first_amiss,
-};
+use crate::rows::samples::{PROMISED, VOTED};
+use crate::rows::sessions::{MADE, OPENED, OpenManner, Session, SessionListing, first_amiss};
 use rows_saved::RowsFault;
 
-/// What the two rows of `TWO` are listed as.
-pub const BOTH: SessionListing = SessionListing::Rows(&[(3, PROMISED), (12, VOTED)]);
+/// Two rows are saved.
+pub const PUT_TWO: &[RowsDeed] = &[
+    RowsDeed::Put(12, VOTED, None),
+    RowsDeed::Put(3, PROMISED, None),
+];
 
-pub const READ: &[RowsDeed] = &[RowsDeed::Get(12, Some(VOTED))];
+/// Two rows are saved and read back, and none is there under 4.
+pub const TWO: &[RowsDeed] = &[
+    RowsDeed::Put(12, VOTED, None),
+    RowsDeed::Put(3, PROMISED, None),
+    RowsDeed::Get(12, Some(VOTED)),
+    RowsDeed::Get(3, Some(PROMISED)),
+    RowsDeed::Get(4, None),
+];
+
+/// One of them is read, and copied.
+pub const READ: &[RowsDeed] = &[RowsDeed::Copy(12, VOTED)];
+
+/// What the two are listed as.
+pub const BOTH: SessionListing = SessionListing::Rows(&[(3, PROMISED), (12, VOTED)]);
 
 /// The rows are made, and two are saved.
 pub const SAVED: Session = Session {
@@ -20,23 +33,6 @@ pub const SAVED: Session = Session {
     listing: BOTH,
     ..MADE
 };
-
-/// The rows are taken up, whoever's they are, and the two are there.
-const AGAIN: Session = Session {
-    manner: OpenManner::Open(None),
-    deeds: READ,
-    listing: BOTH,
-    ..MADE
-};
-
-/// Of two rows that are saved and read, one is copied.
-const COPIED: &[Session] = &[
-    SAVED,
-    Session {
-        deeds: &[RowsDeed::Copy(12, VOTED)],
-        ..AGAIN
-    },
-];
 
 /// The rows are taken up for their station, for another, and for any.
 const TAKEN_UP: &[Session] = &[
@@ -51,33 +47,11 @@ const TAKEN_UP: &[Session] = &[
         refusal: Some(RowsFault::WrongStation),
         ..MADE
     },
-    AGAIN,
-];
-
-/// They are made once.
-const MADE_ONCE: &[Session] = &[
-    SAVED,
     Session {
-        refusal: Some(RowsFault::Store),
+        manner: OpenManner::Open(None),
+        deeds: READ,
+        listing: BOTH,
         ..MADE
-    },
-    AGAIN,
-];
-
-/// Beside a table of the other layout, without a station, none is made, and its row stays.
-const BESIDE_ANOTHER: &[Session] = &[
-    Session {
-        statements: "CREATE TABLE acceptor_entry (packed BLOB); INSERT INTO acceptor_entry VALUES (x'3f')",
-        refusal: Some(RowsFault::Store),
-        ..MADE
-    },
-    Session {
-        found: &[(
-            "UPDATE acceptor_entry SET packed = packed WHERE packed = x'3f'",
-            1,
-        )],
-        refusal: Some(RowsFault::Store),
-        ..MADE_TWO
     },
 ];
 
@@ -98,7 +72,6 @@ const BELOW_100: &str =
 const STOPPED: &[Session] = &[
     Session {
         statements: BELOW_100,
-        manner: OpenManner::Open(None),
         deeds: &[
             RowsDeed::Put(12, PROMISED, None),
             RowsDeed::Put(100, PROMISED, Some(RowsFault::Store)),
@@ -106,29 +79,11 @@ const STOPPED: &[Session] = &[
             RowsDeed::Put(12, PROMISED, Some(RowsFault::Store)),
         ],
         listing: SessionListing::Refused(RowsFault::Store),
-        ..MADE
+        ..OPENED
     },
     Session {
-        manner: OpenManner::Open(None),
         deeds: &[RowsDeed::Get(12, Some(PROMISED))],
         listing: SessionListing::Rows(&[(12, PROMISED)]),
-        ..MADE
-    },
-];
-
-/// A promise of 1.1 beside a vote at it for the frame 63.
-const LAST: RowSample = RowSample {
-    vote: Some(((1, 1), VoteChoice::Last)),
-    ..PROMISED
-};
-
-/// A row of the last number that a statement saved.
-const STATED: &[Session] = &[
-    MADE,
-    Session {
-        statements: "INSERT INTO acceptor_row VALUES (999999, 1, 1, 1, 1, x'3f')",
-        deeds: &[RowsDeed::Get(999_999, Some(LAST))],
-        listing: SessionListing::Rows(&[(999_999, LAST)]),
         ..OPENED
     },
 ];
@@ -147,18 +102,7 @@ const LONGEST: &[Session] = &[
     },
 ];
 
-/// A statement saved it.
-const LONGEST_STATED: &[Session] = &[
-    MADE,
-    Session {
-        frames: 4096,
-        deeds: &[RowsDeed::GetLong(12, 4096)],
-        listing: SessionListing::Count(1),
-        ..OPENED
-    },
-];
-
-/// With one frame more it is none of layout 1.
+/// With one frame more, which a statement saved, it is none of layout 1.
 const TOO_LONG: &[Session] = &[
     MADE,
     Session {
@@ -168,29 +112,7 @@ const TOO_LONG: &[Session] = &[
     },
 ];
 
-/// Nor is a tape that is as long as a tape can be.
-const FAR_TOO_LONG: &[Session] = &[
-    MADE,
-    Session {
-        frames: 16_384,
-        refusal: Some(RowsFault::Damaged { number: 12 }),
-        ..OPENED
-    },
-];
-
-const STORIES: &[&[Session]] = &[
-    COPIED,
-    TAKEN_UP,
-    MADE_ONCE,
-    BESIDE_ANOTHER,
-    EMPTY,
-    STOPPED,
-    STATED,
-    LONGEST,
-    LONGEST_STATED,
-    TOO_LONG,
-    FAR_TOO_LONG,
-];
+const STORIES: &[&[Session]] = &[TAKEN_UP, EMPTY, STOPPED, LONGEST, TOO_LONG];
 
 #[test]
 fn in_a_database(rt: HostRuntime) {

@@ -13,8 +13,6 @@ use tape_frames::Version;
 pub enum RowsDeed {
     /// A row is saved under this number, or the save is refused so.
     Put(u32, RowSample, Option<RowsFault>),
-    /// Such a row is saved under each number up to this.
-    PutEach(u32, RowSample),
     /// A row is read under this number; the blank one with `None`.
     Get(u32, Option<RowSample>),
     /// The row under this number is read, and copied.
@@ -25,7 +23,7 @@ pub enum RowsDeed {
     PutLong(u32, usize),
     /// The row under this number has that tape, and so has a copy of it.
     GetLong(u32, usize),
-    /// The rows go over to version 2, or that is refused so; they are at this version then.
+    /// The rows are upgraded to version 2, or that is refused so; they are at this version then.
     Upgrade(Option<RowsFault>, Version),
 }
 
@@ -52,16 +50,6 @@ fn puts_long<R: Rows>(alloc: Global, rows: &mut R, number: u32, frames: usize) -
         return None;
     }
     Some(rows.put(number, &row).is_ok())
-}
-
-/// Whether such a row is saved under each number up to this.
-fn puts_each<R: Rows>(alloc: Global, rows: &mut R, last: u32, sample: &RowSample) -> bool {
-    for number in 1..=last {
-        if refusal_of(alloc, rows, number, sample) != Some(None) {
-            return false;
-        }
-    }
-    true
 }
 
 /// Whether the row that was read is the one of this deed.
@@ -92,7 +80,6 @@ fn is_done<R: Rows>(alloc: Global, rows: &mut R, deed: &RowsDeed) -> bool {
         RowsDeed::Put(number, sample, refusal) => {
             refusal_of(alloc, rows, *number, sample) == Some(*refusal)
         }
-        RowsDeed::PutEach(last, sample) => puts_each(alloc, rows, *last, sample),
         RowsDeed::PutLong(number, frames) => puts_long(alloc, rows, *number, *frames) == Some(true),
         RowsDeed::Upgrade(refusal, version) => {
             rows.upgrade().err() == *refusal && rows.version() == *version
@@ -106,15 +93,10 @@ fn is_done<R: Rows>(alloc: Global, rows: &mut R, deed: &RowsDeed) -> bool {
 
 /// Whether each deed answers as it has to.
 pub fn are_done<R: Rows>(alloc: Global, rows: &mut R, deeds: &[RowsDeed]) -> bool {
-    done(alloc, rows, deeds) == deeds.len()
-}
-
-/// The place of the first deed that answers otherwise; how many there are where none does.
-pub fn done<R: Rows>(alloc: Global, rows: &mut R, deeds: &[RowsDeed]) -> usize {
-    for (place, deed) in deeds.iter().enumerate() {
+    for deed in deeds {
         if !is_done(alloc, rows, deed) {
-            return place;
+            return false;
         }
     }
-    deeds.len()
+    true
 }

@@ -1,14 +1,13 @@
 //! Rows in databases of layout 2, which were made in it.
 
-use crate::rows::databases::{BOTH, READ};
+use crate::rows::databases::{BOTH, READ, TWO};
 use crate::rows::deeds::RowsDeed;
 use crate::rows::identities::OTHER;
-use crate::rows::memory::TWO;
 use crate::rows::samples::{PROMISED, VOTED, WITHDRAWN};
 use crate::rows::sessions::{
     MADE_TWO, OPENED_TWO, OpenManner, Session, SessionListing, first_amiss,
 };
-use crate::tables::statements::{FindsRows, IN_LAYOUT_TWO, VOTE_OF_12};
+use crate::rows::statements::{FindsRows, IN_LAYOUT_TWO, VOTE_OF_12};
 use rows_saved::RowsFault;
 use tape_frames::Version;
 
@@ -52,7 +51,7 @@ AND vote_round = 1 AND vote_owner = 1 AND length = 0 AND packed = x''",
     IN_LAYOUT_TWO,
 ];
 
-/// A withdrawal is saved in place of a promise.
+/// A withdrawal is saved in place of a promise, and a promise under the last number of all.
 const WITHDRAWAL: &[Session] = &[
     Session {
         deeds: &[
@@ -66,8 +65,11 @@ const WITHDRAWAL: &[Session] = &[
     },
     Session {
         found: STANDING,
-        deeds: &[RowsDeed::Get(3, Some(WITHDRAWN))],
-        listing: SessionListing::Rows(&[(3, WITHDRAWN), (12, VOTED)]),
+        deeds: &[
+            RowsDeed::Get(3, Some(WITHDRAWN)),
+            RowsDeed::Put(999_999, PROMISED, None),
+        ],
+        listing: SessionListing::Rows(&[(3, WITHDRAWN), (12, VOTED), (999_999, PROMISED)]),
         ..OPENED_TWO
     },
 ];
@@ -86,18 +88,7 @@ const LONGEST: &[Session] = &[
     },
 ];
 
-/// A statement saved it.
-const LONGEST_STATED: &[Session] = &[
-    MADE_TWO,
-    Session {
-        frames: 16_384,
-        deeds: &[RowsDeed::GetLong(12, 16_384)],
-        listing: SessionListing::Count(1),
-        ..OPENED_TWO
-    },
-];
-
-/// With one frame more it is none.
+/// With one frame more, which a statement saved, it is none.
 const TOO_LONG: &[Session] = &[
     MADE_TWO,
     Session {
@@ -107,24 +98,7 @@ const TOO_LONG: &[Session] = &[
     },
 ];
 
-/// The tables are made once.
-const MADE_ONCE: &[Session] = &[
-    MADE_TWO,
-    Session {
-        refusal: Some(RowsFault::Store),
-        ..MADE_TWO
-    },
-    OPENED_TWO,
-];
-
-const STORIES: &[&[Session]] = &[
-    TAKEN_UP,
-    WITHDRAWAL,
-    LONGEST,
-    LONGEST_STATED,
-    TOO_LONG,
-    MADE_ONCE,
-];
+const STORIES: &[&[Session]] = &[TAKEN_UP, WITHDRAWAL, LONGEST, TOO_LONG];
 
 #[test]
 fn in_a_database_of_layout_two(rt: HostRuntime) {

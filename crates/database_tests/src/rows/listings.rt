@@ -1,12 +1,10 @@
 //! What `rows` and `upgrade` print, and where they stop.
 
-use crate::rows::databases::BOTH;
+use crate::rows::databases::{BOTH, PUT_TWO};
 use crate::rows::deeds::RowsDeed;
-use crate::rows::memory::PUT_TWO;
 use crate::rows::samples::{PROMISED, VOTED, WITHDRAWN};
 use crate::rows::sessions::{
-    MADE, OPENED, OPENED_TWO, OpenManner, Print, Session, SessionCommand, SessionListing,
-    first_amiss,
+    MADE, OPENED, OPENED_TWO, Print, Session, SessionCommand, SessionListing, first_amiss,
 };
 use command_ends::End;
 use rows_saved::RowsFault;
@@ -25,15 +23,15 @@ const TWO_ROWS: Print = Print {
     ..NO_ROWS
 };
 
-/// A front of the second, where the writer fails.
-const FRONT: Print = Print {
+/// A prefix of the second, where the writer fails.
+const PREFIX: Print = Print {
     room: 0,
     end: End::Input,
     fault: "cannot write\n",
     ..TWO_ROWS
 };
 
-/// None is printed, then two, these the same once more, and the fronts that a writer has room for.
+/// None is printed, then two, these the same once more, and the prefixes that a writer has room for.
 const PRINTED: &[Session] = &[
     Session {
         prints: &[NO_ROWS],
@@ -45,12 +43,12 @@ const PRINTED: &[Session] = &[
         prints: &[
             TWO_ROWS,
             TWO_ROWS,
-            FRONT,
-            Print { room: 1, ..FRONT },
-            Print { room: 24, ..FRONT },
-            Print { room: 25, ..FRONT },
-            Print { room: 35, ..FRONT },
-            Print { room: 52, ..FRONT },
+            PREFIX,
+            Print { room: 1, ..PREFIX },
+            Print { room: 24, ..PREFIX },
+            Print { room: 25, ..PREFIX },
+            Print { room: 35, ..PREFIX },
+            Print { room: 52, ..PREFIX },
             Print {
                 room: 53,
                 ..TWO_ROWS
@@ -60,41 +58,29 @@ const PRINTED: &[Session] = &[
     },
 ];
 
-/// The column gives back a text where a number was saved.
-const DAMAGING: &str =
-    "CREATE TABLE station (one INTEGER PRIMARY KEY, layout INTEGER, circuit INTEGER, member INTEGER, members INTEGER);
-INSERT INTO station VALUES (1, 1, 7, 2, 3);
-CREATE TABLE acceptor_row (number INTEGER PRIMARY KEY, promised_round TEXT, promised_owner INTEGER, vote_round INTEGER, vote_owner INTEGER, tape BLOB)";
-
-/// Rows are printed, and refused once one is saved that is not read back.
-const DAMAGED: &[Session] = &[
-    Session {
-        statements: DAMAGING,
-        prints: &[NO_ROWS],
-        ..OPENED
-    },
-    Session {
-        deeds: &[RowsDeed::Put(12, PROMISED, None)],
-        listing: SessionListing::Refused(RowsFault::Damaged { number: 12 }),
-        prints: &[Print {
-            text: "",
-            end: End::Store,
-            fault: "store: damaged 12\n",
-            ..NO_ROWS
-        }],
-        ..OPENED
-    },
-];
-
 /// The column gives back a text where a vote was saved.
-const DAMAGING_VOTES: &str =
+const DAMAGING: &str =
     "CREATE TABLE station (one INTEGER PRIMARY KEY, layout INTEGER, circuit INTEGER, member INTEGER, members INTEGER);
 INSERT INTO station VALUES (1, 1, 7, 2, 3);
 CREATE TABLE acceptor_row (number INTEGER PRIMARY KEY, promised_round INTEGER, promised_owner INTEGER, vote_round TEXT, vote_owner INTEGER, tape BLOB)";
 
+/// Of a row that is not read back the fault is told, and nothing is printed where it is the first.
+const DAMAGED: &[Session] = &[Session {
+    statements: DAMAGING,
+    deeds: &[RowsDeed::Put(12, VOTED, None)],
+    listing: SessionListing::Refused(RowsFault::Damaged { number: 12 }),
+    prints: &[Print {
+        text: "",
+        end: End::Store,
+        fault: "store: damaged 12\n",
+        ..NO_ROWS
+    }],
+    ..OPENED
+}];
+
 /// The rows before the first that is not read back are printed, and its fault is told, unless the writer failed before.
 const DAMAGED_LATER: &[Session] = &[Session {
-    statements: DAMAGING_VOTES,
+    statements: DAMAGING,
     deeds: &[
         RowsDeed::Put(3, PROMISED, None),
         RowsDeed::Put(12, VOTED, None),
@@ -109,45 +95,17 @@ const DAMAGED_LATER: &[Session] = &[Session {
             fault: "store: damaged 12\n",
             ..NO_ROWS
         },
-        Print { room: 34, ..FRONT },
-        Print { room: 24, ..FRONT },
+        Print { room: 34, ..PREFIX },
+        Print { room: 24, ..PREFIX },
     ],
     ..OPENED
 }];
 
-/// The table refuses the save of 100.
-const REFUSING: &str =
-    "CREATE TABLE station (one INTEGER PRIMARY KEY, layout INTEGER, circuit INTEGER, member INTEGER, members INTEGER);
-INSERT INTO station VALUES (1, 1, 7, 2, 3);
-CREATE TABLE acceptor_row (number INTEGER PRIMARY KEY CHECK (number < 100), promised_round INTEGER, promised_owner INTEGER, vote_round INTEGER, vote_owner INTEGER, tape BLOB)";
-
-/// A save is refused, and nothing is read after it.
-const REFUSED: &[Session] = &[Session {
-    statements: REFUSING,
-    manner: OpenManner::Open(None),
-    deeds: &[RowsDeed::Put(100, PROMISED, Some(RowsFault::Store))],
-    listing: SessionListing::Refused(RowsFault::Store),
-    prints: &[Print {
-        text: "",
-        end: End::Store,
-        fault: "store: refused\n",
-        ..NO_ROWS
-    }],
-    ..MADE
-}];
-
-/// What `upgrade` prints, and a front of it.
-const OVER: Print = Print {
+/// What `upgrade` prints.
+const UPGRADED: Print = Print {
     command: SessionCommand::Upgrade,
     text: "layout 2\n",
     ..NO_ROWS
-};
-
-const OVER_FRONT: Print = Print {
-    room: 8,
-    end: End::Input,
-    fault: "cannot write\n",
-    ..OVER
 };
 
 /// The listing of the two rows, and a withdrawal behind them.
@@ -156,32 +114,38 @@ const THREE_ROWS: Print = Print {
     ..NO_ROWS
 };
 
-/// The rows go over, also where that is not written, and are printed as before.
-const OVER_ONCE: &[Session] = &[
+/// The rows are upgraded, once and again, and are printed as before; then one more is saved.
+const AS_BEFORE: &[Session] = &[
     Session {
         deeds: PUT_TWO,
         listing: BOTH,
-        prints: &[TWO_ROWS, OVER, TWO_ROWS, OVER],
+        prints: &[TWO_ROWS, UPGRADED, TWO_ROWS, UPGRADED],
         ..MADE
     },
     Session {
         deeds: &[RowsDeed::Put(13, WITHDRAWN, None)],
         listing: SessionListing::Count(3),
-        prints: &[THREE_ROWS, OVER, THREE_ROWS],
+        prints: &[THREE_ROWS, UPGRADED, THREE_ROWS],
         ..OPENED_TWO
     },
 ];
 
-const OVER_UNWRITTEN: &[Session] = &[
+/// A prefix of it, where the writer fails.
+const CUT: Print = Print {
+    room: 8,
+    end: End::Input,
+    fault: "cannot write\n",
+    ..UPGRADED
+};
+
+/// The rows are upgraded also where that can't be written.
+const UNWRITTEN: &[Session] = &[
     Session {
-        prints: &[OVER_FRONT],
+        prints: &[CUT],
         ..MADE
     },
     Session {
-        prints: &[Print {
-            room: 0,
-            ..OVER_FRONT
-        }],
+        prints: &[Print { room: 0, ..CUT }],
         ..OPENED_TWO
     },
 ];
@@ -191,10 +155,10 @@ const BALKED: Print = Print {
     text: "",
     end: End::Store,
     fault: "store: refused\n",
-    ..OVER
+    ..UPGRADED
 };
 
-const OVER_REFUSED: &[Session] = &[
+const REFUSED: &[Session] = &[
     MADE,
     Session {
         statements: "CREATE TABLE acceptor_entry (number INTEGER PRIMARY KEY)",
@@ -218,10 +182,9 @@ const STORIES: &[&[Session]] = &[
     PRINTED,
     DAMAGED,
     DAMAGED_LATER,
+    AS_BEFORE,
+    UNWRITTEN,
     REFUSED,
-    OVER_ONCE,
-    OVER_UNWRITTEN,
-    OVER_REFUSED,
 ];
 
 #[test]

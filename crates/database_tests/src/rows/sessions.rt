@@ -4,8 +4,7 @@ use crate::rows::deeds::{RowsDeed, are_done};
 use crate::rows::identities::STATION;
 use crate::rows::known::is_known;
 use crate::rows::samples::{RowSample, is_row};
-use crate::tables::statements::{FindsRows, finds, save_long};
-use crate::tables::visitors::are_shown;
+use crate::rows::statements::{FindsRows, finds, save_long};
 use acceptor_store::SqliteRows;
 use ballots::{Number, Row};
 use command_ends::End;
@@ -33,8 +32,6 @@ pub enum SessionListing {
     Rows(&'static [(u32, RowSample)]),
     /// So many rows.
     Count(usize),
-    /// A row of each number from 1 on, so many, and so many of the first of them with a vote.
-    First { rows: u32, votes: u32 },
     /// Nothing: it is refused so.
     Refused(RowsFault),
 }
@@ -46,7 +43,7 @@ pub enum SessionCommand {
     Upgrade,
 }
 
-/// What a command prints to a writer that takes so many bytes: a front of the text, how it ends, and its fault.
+/// What a command prints to a writer that takes so many bytes: a prefix of the text, how it ends, and its fault.
 #[derive(Clone, Copy)]
 pub struct Print {
     pub command: SessionCommand,
@@ -58,7 +55,7 @@ pub struct Print {
 
 /// What is done to a database: statements, one that saves a tape of so many frames 63 under 12, if of any, and some that
 /// find so many rows each; then the rows made or taken up, at this version, which may be refused; and, where they are not,
-/// deeds, a listing, which numbers are known of it, what commands print, each time, and whether the rows 3 and 12 are shown until it is enough.
+/// deeds, a listing, which numbers are known of it, and what commands print, each time.
 #[derive(Clone, Copy)]
 pub struct Session {
     pub statements: &'static str,
@@ -70,7 +67,6 @@ pub struct Session {
     pub deeds: &'static [RowsDeed],
     pub listing: SessionListing,
     pub prints: &'static [Print],
-    pub shows: bool,
 }
 
 /// The rows are made at version 1, and none is saved.
@@ -84,7 +80,6 @@ pub const MADE: Session = Session {
     deeds: &[],
     listing: SessionListing::Rows(&[]),
     prints: &[],
-    shows: false,
 };
 
 /// The rows are taken up for the station, at version 1, and there is none.
@@ -119,7 +114,6 @@ fn is_listed(listed: Result<Vec<(Number, Row)>, RowsFault>, wanted: &SessionList
     match (listed, wanted) {
         (Ok(rows), SessionListing::Rows(wanted)) => are_rows(rows.as_slice(), wanted),
         (Ok(rows), SessionListing::Count(count)) => rows.len() == *count,
-        (Ok(rows), SessionListing::First { rows: count, .. }) => rows.len() == *count as usize,
         (Err(fault), SessionListing::Refused(wanted)) => fault == *wanted,
         _ => false,
     }
@@ -192,7 +186,6 @@ fn serves<S: Alter + Drop>(alloc: Global, rows: &mut SqliteRows<S>, session: &Se
         && is_listed(rows.all(), &session.listing)
         && is_known(alloc, rows, &session.listing)
         && are_printed(alloc, rows, session.prints)
-        && (!session.shows || are_shown(rows))
 }
 
 /// Runs the statements of a session, which have to find what they find.

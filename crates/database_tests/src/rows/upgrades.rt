@@ -1,4 +1,4 @@
-//! Rows in databases that go over from layout 1 to layout 2.
+//! Rows in databases that are upgraded from layout 1 to layout 2.
 
 use crate::rows::databases::{BOTH, READ, SAVED};
 use crate::rows::deeds::RowsDeed;
@@ -7,7 +7,7 @@ use crate::rows::samples::{PROMISED, VOTED, WITHDRAWN};
 use crate::rows::sessions::{
     MADE, OPENED, OPENED_TWO, OpenManner, Session, SessionListing, first_amiss,
 };
-use crate::tables::statements::{FindsRows, IN_LAYOUT_TWO};
+use crate::rows::statements::{FindsRows, IN_LAYOUT_TWO};
 use rows_saved::RowsFault;
 use tape_frames::Version;
 
@@ -29,9 +29,9 @@ AND vote_round = 1 AND vote_owner = 1 AND tape = x'010204'",
     IN_LAYOUT_TWO,
 ];
 
-/// Two rows go over, and are as before; once more, and nothing changes. They are taken up for their station, for another, and
+/// Two rows are upgraded, and are as before; once more, and nothing changes. They are taken up for their station, for another, and
 /// for any; what is then saved leaves the rows of layout 1 as they were, and of these none is read.
-const WENT_OVER: &[Session] = &[
+const UPGRADED: &[Session] = &[
     SAVED,
     Session {
         deeds: &[
@@ -80,16 +80,7 @@ const WENT_OVER: &[Session] = &[
     },
 ];
 
-/// Where there are no rows, none go over.
-const NO_ROWS: &[Session] = &[
-    Session {
-        deeds: &[RowsDeed::Upgrade(None, Version::Two)],
-        ..MADE
-    },
-    OPENED_TWO,
-];
-
-/// The longest tape of layout 1 goes over, and a longer one is then saved.
+/// The longest tape of layout 1 is upgraded, and a longer one is then saved.
 const LONGEST: &[Session] = &[
     Session {
         deeds: &[
@@ -111,41 +102,27 @@ const LONGEST: &[Session] = &[
     },
 ];
 
-/// An upgrade is refused, and nothing is answered after it.
-const REFUSED: &[RowsDeed] = &[
-    RowsDeed::Upgrade(STORE, Version::One),
-    RowsDeed::Refused(12, RowsFault::Store),
-    RowsDeed::Refused(4, RowsFault::Store),
-    RowsDeed::Put(3, PROMISED, STORE),
-    RowsDeed::Upgrade(STORE, Version::One),
-];
-
-const BALKED: Session = Session {
-    deeds: REFUSED,
-    listing: SessionListing::Refused(RowsFault::Store),
-    ..OPENED
-};
-
-/// The two rows are taken up again, in layout 1 and in layout 2.
-const AGAIN: Session = Session {
-    deeds: READ,
-    listing: BOTH,
-    ..OPENED
-};
-
-const OVER: Session = Session {
-    version: Version::Two,
-    ..AGAIN
-};
-
-/// A table of entries is there already; without it the rows go over.
-const TAKEN: &[Session] = &[
+/// A table of entries is there already: the upgrade is refused, and nothing is answered after it. The rows are taken up again in
+/// layout 1, and without that table they are upgraded.
+const REFUSED: &[Session] = &[
     SAVED,
     Session {
         statements: "CREATE TABLE acceptor_entry (number INTEGER PRIMARY KEY)",
-        ..BALKED
+        deeds: &[
+            RowsDeed::Upgrade(STORE, Version::One),
+            RowsDeed::Refused(12, RowsFault::Store),
+            RowsDeed::Refused(4, RowsFault::Store),
+            RowsDeed::Put(3, PROMISED, STORE),
+            RowsDeed::Upgrade(STORE, Version::One),
+        ],
+        listing: SessionListing::Refused(RowsFault::Store),
+        ..OPENED
     },
-    AGAIN,
+    Session {
+        deeds: READ,
+        listing: BOTH,
+        ..OPENED
+    },
     Session {
         statements: "DROP TABLE acceptor_entry",
         deeds: &[RowsDeed::Upgrade(None, Version::Two)],
@@ -154,31 +131,13 @@ const TAKEN: &[Session] = &[
     },
     Session {
         found: AS_THEY_WERE,
-        ..OVER
+        deeds: READ,
+        listing: BOTH,
+        ..OPENED_TWO
     },
 ];
 
-/// Tables that take no other layout, with two rows: the upgrade is refused once its entries are saved, and these are undone.
-const NO_OTHER: &str =
-    "CREATE TABLE station (one INTEGER PRIMARY KEY CHECK (one = 1), layout INTEGER NOT NULL CHECK (layout = 1), circuit INTEGER NOT NULL, member INTEGER NOT NULL, members INTEGER NOT NULL) STRICT;
-INSERT INTO station VALUES (1, 1, 7, 2, 3);
-CREATE TABLE acceptor_row (number INTEGER PRIMARY KEY, promised_round INTEGER NOT NULL, promised_owner INTEGER NOT NULL, vote_round INTEGER, vote_owner INTEGER, tape BLOB) STRICT;
-INSERT INTO acceptor_row VALUES (3, 1, 1, NULL, NULL, NULL), (12, 1, 3, 1, 1, x'010204')";
-
-/// No table of entries is left, or it could not be made here.
-const UNDONE: &[Session] = &[
-    Session {
-        statements: NO_OTHER,
-        ..BALKED
-    },
-    AGAIN,
-    Session {
-        statements: "CREATE TABLE acceptor_entry (number INTEGER PRIMARY KEY); DROP TABLE acceptor_entry",
-        ..BALKED
-    },
-];
-
-/// In a transaction no rows are taken up, so none go over; after it they do.
+/// In a transaction no rows are taken up, so none are upgraded; after it they are.
 const IN_A_TRANSACTION: &[Session] = &[
     SAVED,
     Session {
@@ -192,12 +151,16 @@ const IN_A_TRANSACTION: &[Session] = &[
         listing: BOTH,
         ..OPENED
     },
-    OVER,
+    Session {
+        deeds: READ,
+        listing: BOTH,
+        ..OPENED_TWO
+    },
 ];
 
-const STORIES: &[&[Session]] = &[WENT_OVER, NO_ROWS, LONGEST, TAKEN, UNDONE, IN_A_TRANSACTION];
+const STORIES: &[&[Session]] = &[UPGRADED, LONGEST, REFUSED, IN_A_TRANSACTION];
 
 #[test]
-fn rows_go_over(rt: HostRuntime) {
+fn rows_are_upgraded(rt: HostRuntime) {
     assert_eq!(rt; first_amiss(rt.alloc(), STORIES), None);
 }

@@ -1,12 +1,10 @@
 //! Databases over two disks in memory, one of which stops after so many calls.
 
-ghost use Rattle.std.specs.Prelude.{IsTrue};
-
 use acceptor_store::SqliteRows;
 use rows_files::opening_refusal;
 use rows_life::{begin_life, end_life, pair_on};
 use rows_saved::Rows;
-use sqlite::{Alter, Connection, FileStore, Files, Options};
+use sqlite::{Alter, Files};
 use sqlite_disk::{Crash, Disk, Fuse, Memory};
 use std::alloc::Global;
 
@@ -42,16 +40,6 @@ impl<S: Alter + Drop> Stored for SqliteRows<S> {
     }
 }
 
-/// A database over two disks in memory.
-pub type DiskDatabase = Connection<FileStore<Fuse<Memory>>>;
-
-/// A new disk that stops after so many calls.
-fn disk(alloc: Global, calls: u64) -> Fuse<Memory>
-    ensures { IsTrue (⟦<Fuse<Memory> as Disk>⟧.is_usable result) }
-{
-    Fuse::new(Memory::new(alloc), calls)
-}
-
 /// How many calls the log and the database's file take, where this one of them stops after so many.
 fn calls_of(side: Side, calls: u64) -> (u64, u64) {
     match side {
@@ -60,16 +48,12 @@ fn calls_of(side: Side, calls: u64) -> (u64, u64) {
     }
 }
 
-/// Opens a database over new disks, of which this one stops after so many calls; or what is left of them.
-pub fn opened(alloc: Global, side: Side, calls: u64) -> Result<DiskDatabase, Disks> {
+/// New disks, of which this one stops after so many calls.
+pub fn fresh(alloc: Global, side: Side, calls: u64) -> Disks {
     let (log_calls, database_calls) = calls_of(side, calls);
-    let disks = Files {
-        log: disk(alloc, log_calls),
-        db: disk(alloc, database_calls),
-    };
-    match Connection::open_files(alloc, disks, Options::new(1)) {
-        Ok(conn) => Ok(conn),
-        Err((_, left)) => Err(left.into_files()),
+    Files {
+        log: Fuse::new(Memory::new(alloc), log_calls),
+        db: Fuse::new(Memory::new(alloc), database_calls),
     }
 }
 
@@ -89,19 +73,13 @@ pub fn stopping(alloc: Global, disks: &Disks, side: Side, calls: u64) -> Option<
     Some(Files { log, db })
 }
 
-/// Begins a life over disks, and opens the database in it; or what is left of them.
-pub fn opened_in_life(alloc: Global, disks: Disks) -> Result<DiskDatabase, Disks> {
+/// The disks in a life that begins; or what is left of them where it does not.
+pub fn in_life(alloc: Global, disks: Disks) -> Result<Disks, Disks> {
     if !disks.may_be_used() {
         return Err(disks);
     }
     let (disks, begun) = begin_life(alloc, disks, 6);
-    if begun.is_err() || !disks.may_be_used() {
-        return Err(disks);
-    }
-    match Connection::open_files(alloc, disks, Options::new(1)) {
-        Ok(conn) => Ok(conn),
-        Err((_, left)) => Err(left.into_files()),
-    }
+    if begun.is_ok() { Ok(disks) } else { Err(disks) }
 }
 
 /// The disks after the good end of a life: they are closed only where that ended well.
@@ -111,11 +89,17 @@ pub fn ended(left: LeftDisks) -> LeftDisks {
     LeftDisks { disks, closed }
 }
 
-/// The disks after a crash, where the next start takes them: the file is at rest, or has the log of its life.
-pub fn taken(disks: Disks) -> Option<Disks> {
+/// The disks after a crash.
+pub fn crashed(disks: Disks) -> Disks {
     let mut disks = disks;
     disks.log.crash();
     disks.db.crash();
+    disks
+}
+
+/// The disks after a crash, where the next start takes them: the file is at rest, or has the log of its life.
+pub fn taken(disks: Disks) -> Option<Disks> {
+    let mut disks = crashed(disks);
     if !disks.may_be_used() {
         return None;
     }
@@ -123,30 +107,5 @@ pub fn taken(disks: Disks) -> Option<Disks> {
     match opening_refusal(file, log) {
         None => Some(disks),
         Some(_) => None,
-    }
-}
-
-/// Takes the disks out of a database.
-pub fn close(conn: DiskDatabase) -> LeftDisks {
-    match conn.close_files() {
-        Ok(disks) => LeftDisks {
-            disks,
-            closed: true,
-        },
-        Err((_, store)) => LeftDisks {
-            disks: store.close(),
-            closed: false,
-        },
-    }
-}
-
-/// Opens the database that stands on the disks after a crash; nothing where that is refused.
-pub fn reopened(alloc: Global, disks: Disks) -> Option<DiskDatabase> {
-    let mut disks = disks;
-    disks.log.crash();
-    disks.db.crash();
-    match Connection::open_files(alloc, disks, Options::new(1)) {
-        Ok(conn) => Some(conn),
-        Err(_) => None,
     }
 }

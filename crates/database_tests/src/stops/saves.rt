@@ -37,7 +37,7 @@ pub fn puts<R: Rows>(alloc: Global, rows: &mut R, numbered: &NumberedSample) -> 
     saves(rows, number, &row)
 }
 
-/// Whether the rows go over to version 2. Where that is refused, each read is refused from then on, or this answers nothing.
+/// Whether the rows are upgraded to version 2. Where that is refused, each read is refused from then on, or this answers nothing.
 pub fn upgrades<R: Rows>(rows: &mut R) -> Option<bool> {
     if rows.upgrade().is_ok() {
         return (rows.version() == Version::Two).then_some(true);

@@ -1,4 +1,4 @@
-//! Stops while two rows go over to the second layout: both are found, all in the one layout or all in the other.
+//! Stops while two rows are upgraded to the second layout: both are found, all in the one layout or all in the other.
 
 use crate::stops::disks::Side;
 use crate::stops::runs::{stops_around, stops_throughout};

@@ -3,15 +3,14 @@
 use crate::rows::identities::ALONE;
 use crate::rows::samples::{PROMISED, RowSample, VOTED, VoteChoice};
 use crate::stops::disks::{
-    DiskDatabase, Disks, LeftDisks, Side, Stored, close, ended, opened, opened_in_life, reopened,
-    stopping, taken,
+    Disks, LeftDisks, Side, Stored, crashed, ended, fresh, in_life, stopping, taken,
 };
 use crate::stops::saves::{NumberedSample, are_there, puts, settled, upgrades};
 use crate::stops::stations::{offered, served, sought};
 use acceptor_store::{SqliteRows, into_files};
 use fixtures::{FLOOD, LIGATURE};
 use rows_saved::{Rows, RowsFault, SavesAll};
-use sqlite::{Alter, Connection};
+use sqlite::{Alter, Connection, Options};
 use std::alloc::Global;
 use tape_frames::Version;
 
@@ -24,7 +23,7 @@ pub enum RowsWork {
     Put(Version),
     /// Two rows are saved together, one of them over another under its number.
     Group(Version),
-    /// Two rows are saved, and go over to version 2.
+    /// Two rows are saved, and are upgraded to version 2.
     Upgrade,
     /// A station over them is offered a tape.
     Offer,
@@ -171,7 +170,7 @@ fn is_all_or_none<R: Stored>(rows: &mut R, samples: &[NumberedSample], told: Wor
     is_told && are_there(rows, &samples[..listed])
 }
 
-/// Whether rows that are found after a work are at a version that it may have left: at version 2 where it went over, else at
+/// Whether rows that are found after a work are at a version that it may have left: at version 2 where it was upgraded, else at
 /// that they were made at, or at either where the upgrade of all of them was refused.
 fn is_at(found: Version, work: RowsWork, told: WorkTold) -> bool {
     if work != RowsWork::Upgrade {
@@ -309,10 +308,25 @@ enum DisksCame {
     Strange,
 }
 
-/// What comes of a task with a database over disks: here alone its rows have their whole type.
-fn over_disks(alloc: Global, conn: DiskDatabase, task: StopTask) -> DisksCame {
+/// What is left of a database that was closed whole, or not.
+fn left(disks: Disks, closed: bool) -> LeftDisks {
+    LeftDisks { disks, closed }
+}
+
+/// What comes of a task with the database on these disks, which is opened and, after a work, closed: here alone it has its whole type.
+fn over_disks(alloc: Global, disks: Disks, task: StopTask) -> DisksCame {
+    if !disks.may_be_used() {
+        return DisksCame::Unmade(disks);
+    }
+    let conn = match Connection::open_files(alloc, disks, Options::new(1)) {
+        Ok(conn) => conn,
+        Err((_, files)) => return DisksCame::Unmade(files.into_files()),
+    };
     match in_database(alloc, conn, task) {
-        RowsTaken::Ended(conn, told) => DisksCame::Ended(close(conn), told),
+        RowsTaken::Ended(conn, told) => match conn.close_files() {
+            Ok(disks) => DisksCame::Ended(left(disks, true), told),
+            Err((_, store)) => DisksCame::Ended(left(store.close(), false), told),
+        },
         RowsTaken::Unmade(conn) => DisksCame::Unmade(into_files(conn)),
         RowsTaken::Found(is_right) => DisksCame::Found(is_right),
         RowsTaken::Strange => DisksCame::Strange,
@@ -321,10 +335,7 @@ fn over_disks(alloc: Global, conn: DiskDatabase, task: StopTask) -> DisksCame {
 
 /// What comes of a work with rows that are made over new disks, of which this one stops after so many calls.
 fn worked(alloc: Global, side: Side, calls: u64, work: RowsWork) -> DisksCame {
-    match opened(alloc, side, calls) {
-        Ok(conn) => over_disks(alloc, conn, StopTask::Do(work)),
-        Err(disks) => DisksCame::Unmade(disks),
-    }
+    over_disks(alloc, fresh(alloc, side, calls), StopTask::Do(work))
 }
 
 /// The disks of rows that were saved, which are at rest.
@@ -341,8 +352,8 @@ fn at_rest(alloc: Global) -> Option<Disks> {
 /// What comes of a life over rows that were saved, whose disk stops after so many calls.
 fn lived(alloc: Global, side: Side, calls: u64) -> Option<DisksCame> {
     let disks = stopping(alloc, &at_rest(alloc)?, side, calls)?;
-    match opened_in_life(alloc, disks) {
-        Ok(conn) => match over_disks(alloc, conn, StopTask::Do(RowsWork::Live)) {
+    match in_life(alloc, disks) {
+        Ok(disks) => match over_disks(alloc, disks, StopTask::Do(RowsWork::Live)) {
             DisksCame::Ended(left, told) => Some(DisksCame::Ended(ended(left), told)),
             came => Some(came),
         },
@@ -350,15 +361,16 @@ fn lived(alloc: Global, side: Side, calls: u64) -> Option<DisksCame> {
     }
 }
 
+/// Whether the rows that are taken up on these disks are as they may be.
+fn finds(alloc: Global, disks: Disks, expected: Expected) -> bool {
+    let came = over_disks(alloc, disks, StopTask::Find(expected));
+    matches!(came, DisksCame::Found(true))
+}
+
 /// Whether the next start takes the disks after a crash, and what is found in the life that it begins is as it may be.
 fn lives_on(alloc: Global, disks: Disks, told: WorkTold) -> Option<bool> {
-    let conn = opened_in_life(alloc, taken(disks)?).ok()?;
-    let found = over_disks(
-        alloc,
-        conn,
-        StopTask::Find(Expected::Left(RowsWork::Live, told)),
-    );
-    Some(matches!(found, DisksCame::Found(true)))
+    let disks = in_life(alloc, taken(disks)?).ok()?;
+    Some(finds(alloc, disks, Expected::Left(RowsWork::Live, told)))
 }
 
 /// Where a life stopped whose disk stops after so many calls; nothing where the next start does not take what it left, or something
@@ -376,13 +388,7 @@ fn life_stop_at(alloc: Global, side: Side, calls: u64) -> Option<StopPlace> {
 
 /// Whether what is found on the disks after a crash is as it may be.
 fn is_found(alloc: Global, disks: Disks, expected: Expected) -> bool {
-    match reopened(alloc, disks) {
-        Some(conn) => matches!(
-            over_disks(alloc, conn, StopTask::Find(expected)),
-            DisksCame::Found(true)
-        ),
-        None => false,
-    }
+    finds(alloc, crashed(disks), expected)
 }
 
 /// Where a run stopped.

@@ -13,5 +13,5 @@ returns g c =
       | then-is_err w ↦ rw w.out-is w.flush.ensures.bytes
       | else-is_err w ↦ rw w.out-is (Keeps-refl now)
     ] in
-    rehearsed_so (inputs (g.R.Read.remaining c.args.order.table) (g.S.Read.remaining c.args.order.widths)) c.rehearsed-outcome.result c.end_with.result (g.W.Write.contents c.args.out.now) now
+    rehearsed_so (inputs (g.R.Read.remaining c.args.order.table) (g.R.Read.remaining c.args.order.widths)) c.rehearsed-outcome.result c.end_with.result (g.W.Write.contents c.args.out.now) now
     (g.W.Write.contents c.if-is_err.out) c.end_with.ensures keeps c.rehearsed-outcome.ensures

@@ -2,7 +2,7 @@
 use Rattle.std.proofs.Common.{◌++◌}
 use Rattle.std.specs.Prelude.{flat_map}
 use Rattle.streams.proofs.Writing.{stopped, then_wrote}
-use Rattle.step_lines.specs.Datagrams.{datagrams_text}
+use Rattle.rehearse_command.specs.Datagrams.{datagrams_text}
 use Rattle.rehearse_command.specs.Lines.{outcome_line, released_text}
 use Rattle.rehearse_command.proofs.scene_lines.put_scene.Goals as goal
 

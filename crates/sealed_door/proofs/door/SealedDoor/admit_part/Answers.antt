@@ -1,7 +1,7 @@
 -- What a part leaves where others lack.
 use Rattle.std.proofs.Common.{ℕ, Vec, Global, Option, subst}
 use Rattle.std.specs.Prelude.{option_map}
-use Rattle.gathering.specs.Places.{Gathers}
+use Rattle.seals.specs.Places.{Gathers}
 use Rattle.sealed_door.proofs.door.SealedDoor.admit_part.Goals as goal
 
 pub returns-in-Ok-None-clause-admits : goal.returns-in-Ok-None-clause-admits

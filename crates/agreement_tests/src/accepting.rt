@@ -1,4 +1,0 @@
-//! The tests of an acceptor.
-
-mod random_requests;
-mod runs;

@@ -1,4 +1,0 @@
-//! The tests of a learner.
-
-mod random_votes;
-mod votes;

@@ -1,4 +1,0 @@
-//! The tests of a proposer.
-
-mod proposals;
-mod random_promises;

@@ -1,5 +1,0 @@
-//! What a configuration gives, and the text of each of its faults.
-
-mod example;
-mod keys;
-mod stations;

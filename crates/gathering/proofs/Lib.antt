@@ -1,4 +1,0 @@
-pub mod Placing
-pub mod Counting
-pub mod Knowing
-pub mod Keeping

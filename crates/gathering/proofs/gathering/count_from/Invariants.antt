@@ -1,6 +1,0 @@
-use Rattle.std.proofs.Common.{◌≡◌, ◌≤◌, take}
-use Rattle.gathering.specs.Places.{count_from}
-use Rattle.gathering.proofs.gathering.count_from.Given as goal
-
-abbrev pub invariant-loop-slot : goal.invariant-loop-slot
-invariant-loop-slot l = (l.count ≡ count_from l.member (take l.slot-index l.slots)) × (l.count ≤ l.slot-index)

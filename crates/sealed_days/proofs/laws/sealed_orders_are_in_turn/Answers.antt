@@ -1,6 +1,0 @@
--- One event after the other.
-use Rattle.sealed_days.proofs.Coming.{orders_are_in_turn}
-use Rattle.sealed_days.proofs.laws.sealed_orders_are_in_turn.Goals as goal
-
-pub returns : goal.returns
-returns g c = orders_are_in_turn g.S.Socket.came

@@ -1,6 +1,0 @@
--- By the tag that the datagram bears.
-use Rattle.sealed_days.proofs.Coming.{packets_came}
-use Rattle.sealed_days.proofs.laws.sealed_packets_came.Goals as goal
-
-pub returns : goal.returns
-returns g c = packets_came g.S.Socket.came
