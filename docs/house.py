@@ -32,7 +32,8 @@ of `serve_command`, which ended in `put_entry` too, `hand_on` of `run_command`, 
 of the folders of the host, which ended in `fill` and `finish`. The Accept is the first vote for a number that was not released, under `run`, in layout 2,
 without a key.
 
-With --list the items behind each figure are printed as well. With --check it ends with 1 where a figure is above what it may be.
+With --list the items behind each figure are printed as well. With --check it ends with 1 where more clauses are repeated, more are long or
+more functions have many parameters than may be. The other figures are printed and bound nothing.
 """
 import collections
 import functools
@@ -43,9 +44,9 @@ import sys
 
 TOP = os.path.dirname(os.path.dirname(os.path.abspath(__file__)))
 
-# What the figures may be at most. They may go down, and never up.
-MOST_REPEATED, MOST_LONG, MOST_FUNCTIONS, MOST_TYPES = 259, 0, 0, 0
-MOST_CALLS, MOST_FILES, MOST_CRATES = 130, 48, 16
+# What the figures of clauses and parameters may be at most: they may go down, and never up. The others have no bound, since a page or a
+# shape may be worth more than a count.
+MOST_REPEATED, MOST_LONG, MOST_FUNCTIONS = 259, 0, 0
 MOST_CHARACTERS, MOST_PARAMETERS = 160, 4
 # names that several types may have
 ALLOWED = set()
@@ -571,10 +572,10 @@ def figures_of(sources):
         ("repeated clauses", sum(len(places) - 1 for _, places in repeated), MOST_REPEATED, told),
         (f"clauses of more than {MOST_CHARACTERS} characters", len(long), MOST_LONG, long),
         (f"functions of more than {MOST_PARAMETERS} parameters", len(wide), MOST_FUNCTIONS, wide),
-        ("names that several types have", len(shared), MOST_TYPES, ["\n    ".join([name, *places]) for name, places in shared.items()]),
-        ("functions on the walk", len(walk), MOST_CALLS, walk),
-        ("files on the walk", len(files), MOST_FILES, files),
-        ("crates on the walk", len(crates), MOST_CRATES, crates),
+        ("names that several types have", len(shared), None, ["\n    ".join([name, *places]) for name, places in shared.items()]),
+        ("functions on the walk", len(walk), None, walk),
+        ("files on the walk", len(files), None, files),
+        ("crates on the walk", len(crates), None, crates),
     ]
 
 
