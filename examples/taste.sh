@@ -1,5 +1,5 @@
 #!/usr/bin/env bash
-# Three stations over rows in memory agree on a story and cast it, from the sources and before any proof: about a minute.
+# From the sources and without a proof: an acceptor answers a Prepare, then three stations agree on a story and cast it. About a minute.
 set -euo pipefail
 cd "$(dirname "$0")"
 top=$(cd .. && pwd)
@@ -7,11 +7,11 @@ top=$(cd .. && pwd)
 kept=$(mktemp -d)
 trap 'kill "$run" 2> /dev/null || true; rm -rf "$kept"' EXIT
 
-# A program of its own, in a repository of its own, that rehearses and no more: with it alone a build takes a minute.
+# A program of its own, in a repository of its own, that answers and rehearses and no more: with these alone a build takes a minute.
 mkdir -p "$kept/crates/taste/src"
 cp taste/main.rt.txt "$kept/crates/taste/src/main.rt"
 cp "$top/HANDLES" "$kept"
-cat "$top/crates.txt" - > "$kept/crates.txt" <<< 'taste: inputs streams rehearse_command'
+cat "$top/crates.txt" - > "$kept/crates.txt" <<< 'taste: ballots tape_frames inputs streams command_ends answer_command rehearse_command'
 for crate in "$top"/crates/*/; do
     name=$(basename "$crate")
     mkdir "$kept/crates/$name"
@@ -19,9 +19,11 @@ for crate in "$top"/crates/*/; do
 done
 cd "$kept/crates/taste"
 
-echo "Three stations agree on a story and cast it. Nothing is proved here: examples/first_circuit.sh proves."
 examples=$top/examples
-rt try --data codes.toml="$examples/codes.toml" --data widths.toml="$examples/widths.toml" \
+prepare=544e0101000701020000000c0000000101
+echo "$prepare" > "$kept/prepare.hex"
+echo "This proves nothing: it builds a small program, and runs it."
+rt try --data prepare.hex="$kept/prepare.hex" --data codes.toml="$examples/codes.toml" --data widths.toml="$examples/widths.toml" \
     --data story.script="$examples/story.script" > "$kept/printed" 2> "$kept/told" < /dev/null &
 run=$!
 
@@ -40,13 +42,24 @@ if ! wait "$run"; then
     exit 1
 fi
 
-# What the stations print, with a sentence before each part of it.
-awk '
-    NR == 1 { print "\nAgreed: station 1 offers a story under number 12. It asks the others for promises, and then for votes." }
+# What is printed, with a sentence before each part of it.
+awk -v prepare="$prepare" '
+    NR == 1 {
+        print "\nAnswered: station 1 asks station 2 of circuit 7 to promise ballot 1.1 for number 12, by this datagram in hex:"
+        print " " prepare
+        print "Station 2 promises, by this one:"
+        print " " $0
+        print "\nAgreed: station 1 offers a story under number 12. It asks the others for promises, and then for votes."
+        next
+    }
     /^ release/ && !releases++ { print "\nCast: each station that hears of two votes releases the tape, its frames in hex, and casts it as one slug." }
     { print }
 ' "$kept/printed"
 
+if [ "$(head -n 1 "$kept/printed")" != 544e0102000702010000000c000000010100 ]; then
+    echo "The acceptor did not promise." >&2
+    exit 1
+fi
 tape=$(od -An -v -tx1 "$examples/flood.tape" | tr -d ' \n')
 if ! grep -qx " release 12 $tape" "$kept/printed"; then
     echo "No station released the flood story." >&2
