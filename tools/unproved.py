@@ -15,11 +15,16 @@ OUT = os.path.join(TOP, 'out', 'unproved')
 TRIED = ['-O0', '-fsanitize=address']
 BUILT = ['-O3', '-Xclang', '-fmerge-functions', '-mllvm', '-mergefunc-use-aliases']
 TARGET = 'x86_64-unknown-linux-gnu'
-# In place of the compiler: it keeps the module that it is handed, and how it was called, and then gives up.
+# In place of the compiler: of the module that is compiled with tests for broken memory, which is the program's, it keeps a copy and how it
+# was called, and then gives up; all else it hands on.
 KEEPER = """#!/bin/sh
-cp module.bc '{kept}/module.bc'
-printf '%s\\n' "$@" > '{kept}/words'
-exit 1
+case " $* " in
+*' -fsanitize=address '*)
+    cp module.bc '{kept}/module.bc'
+    printf '%s\\n' "$@" > '{kept}/words'
+    exit 1 ;;
+esac
+exec '{own}/toolchain/bin/clang' "$@"
 """
 
 
@@ -48,7 +53,7 @@ def copy_kit(old, new, kept):
     link_all(os.path.join(old, 'toolchain', 'bin'), os.path.join(new, 'toolchain', 'bin'), ('clang',))
     keeper = os.path.join(new, 'toolchain', 'bin', 'clang')
     with open(keeper, 'w', encoding='utf-8') as file:
-        file.write(KEEPER.format(kept=kept))
+        file.write(KEEPER.format(kept=kept, own=old))
     os.chmod(keeper, 0o755)
 
 
@@ -69,8 +74,10 @@ def compile_module(own, kept, made):
     subprocess.run([os.path.join(toolchain, 'bin', 'clang'), *words, *BUILT], cwd=kept, check=True)
     libraries = [os.path.join(own, 'c', name) for name in ('libos_c.a', 'liblibc_c.a')]
     os.makedirs(os.path.dirname(made), exist_ok=True)
-    subprocess.run([os.path.join(own, 'bin', 'rattle-link'), '--target', TARGET, '--toolchain', toolchain, '-o', made,
-                    os.path.join(kept, 'module.o'), *libraries], check=True, stdout=subprocess.DEVNULL)
+    linked = subprocess.run([os.path.join(own, 'bin', 'rattle-link'), '--target', TARGET, '--toolchain', toolchain, '-o', made,
+                             os.path.join(kept, 'module.o'), *libraries], stdout=subprocess.PIPE, stderr=subprocess.STDOUT, encoding='utf-8', check=False)
+    if linked.returncode:
+        sys.exit(linked.stdout)
     os.chmod(made, 0o755)
 
 
