@@ -299,7 +299,7 @@ class Source:
 
 
 def is_of_tests(crate):
-    return crate.endswith("_tests") or crate in ("fixtures", "station_fixtures")
+    return crate.endswith("_tests") or crate == "fixtures"
 
 
 def read_sources():

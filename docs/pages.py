@@ -96,7 +96,7 @@ def read_crates():
 
 
 def is_of_tests(name):
-    return name.endswith("_tests") or name in ("fixtures", "station_fixtures")
+    return name.endswith("_tests") or name == "fixtures"
 
 
 def reaches(below, name):
