@@ -1,8 +1,8 @@
 //! The file of keys on the host.
 
+use crate::SharedKeys;
 use crate::fault::{KeyFault, RefusedKey};
 use crate::taking::{check_keys, others_can};
-use crate::SharedKeys;
 use std::fs::File;
 use std::os::unix::fs::MetadataExt;
 use std::{fs, io};

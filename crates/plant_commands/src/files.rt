@@ -1,8 +1,8 @@
 //! The files that a configuration names.
 
+use crate::{elevate_frame, fitting_frame};
 use code_table::CodeTable;
 use command_ends::Fault;
-use crate::{elevate_frame, fitting_frame};
 use configuration::Config;
 use inputs::{read_table, read_widths};
 use std::fs;

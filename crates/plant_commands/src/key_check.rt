@@ -1,9 +1,9 @@
 //! The file of keys that a configuration names.
 
 use crate::files::put_fault;
+use circuit_keys::{KeyFault, read_key_file};
 use command_ends::Fault;
 use configuration::Config;
-use circuit_keys::{KeyFault, read_key_file};
 use std::io::Write;
 
 /// Writes what is wrong with the file of keys, where the configuration names one; whether nothing is.

@@ -11,6 +11,7 @@ ghost use Rattle.rows_host_files.specs.Taking.{AreOpened, HasMade, HasUpgraded};
 
 use crate::causes::refused_by;
 use crate::database::{RowsTask, close_database, done_over};
+use crate::known_rows;
 use crate::life::{begin_at, end_at};
 use crate::look::{test_begun, test_opening};
 use crate::making::Making;
@@ -18,7 +19,6 @@ use acceptor_store::{FileFault, SqliteRows};
 use command_ends::Fault;
 use gone_out::Known;
 use rows_files::{Mark, NewRows, RefusedRows, RowFiles};
-use crate::known_rows;
 use rows_saved::Identity;
 use sqlite::{FileFrom, FileStore, Wary};
 use sqlite_disk::Disk;

@@ -1,15 +1,14 @@
 //! Many files at once, and much traffic: nothing is lost, few are under way, and a look comes whatever waits.
 
-use crate::running::{PlantRun, RUN, count_filed, machine_of, station_of, terms};
+use crate::running::{PlantRun, RUN, count_filed, end_of, is_told, machine_of, station_of};
 use crate::stage::OfferHeld::Nothing;
 use crate::stage::OfferName::Stop;
 use crate::stage::StageChange::{Burst, Laid};
 use crate::stage::{OffersStage, StageAct};
 use crate::wires::{Scripted, Threesome, WHOLE, WireManner};
-use command_ends::{End, end_with};
+use command_ends::End;
 use driver::Machine;
-use log_terms::Loudness;
-use run_command::run_station;
+use rows_saved::MemoryRows;
 use std::alloc::Global;
 use std::str;
 
@@ -50,23 +49,32 @@ fn count(lines: &str) -> Option<RunTold> {
     Some(told)
 }
 
-/// A run of one of three stations at which forty stories are laid, and the others of which take in one datagram each in so many turns: what
-/// is told, and how many numbers each of the others released. Both files of each story have to be written.
-fn burst(alloc: Global, slowness: u32) -> Option<(RunTold, (usize, usize))> {
-    let run = PlantRun { members: 3, ..RUN };
-    let terms = terms(Loudness::All)?;
-    let mut machine = Machine {
+/// One of three stations, at which forty stories are laid. The others take in one datagram each in so many turns.
+type Burdened = Machine<MemoryRows, Threesome, OffersStage>;
+
+fn burdened(alloc: Global, slowness: u32) -> Option<Burdened> {
+    Some(Machine {
         alloc,
-        station: station_of(alloc, &run)?,
+        station: station_of(alloc, &PlantRun { members: 3, ..RUN })?,
         wire: Threesome::new(alloc, slowness)?,
         outside: OffersStage::new(alloc, FORTY),
-    };
-    let mut err = Vec::new(alloc);
-    let outcome = run_station(&mut machine, terms, &mut err);
-    if end_with(outcome, &mut err) != End::Done || count_filed(&machine.outside.folders) != 80 {
+    })
+}
+
+/// What such a station tells in a run that ends well. Both files of each story have to be written.
+fn told_by(machine: &mut Burdened) -> Option<RunTold> {
+    let mut err = Vec::new(machine.alloc);
+    let end = end_of(machine, &RUN, &mut err);
+    if end != End::Done || count_filed(&machine.outside.folders) != 80 {
         return None;
     }
-    let told = count(str::from_utf8(&err).ok()?)?;
+    count(str::from_utf8(&err).ok()?)
+}
+
+/// What is told in such a run, and how many numbers each of the others released.
+fn burst(alloc: Global, slowness: u32) -> Option<(RunTold, (usize, usize))> {
+    let mut machine = burdened(alloc, slowness)?;
+    let told = told_by(&mut machine)?;
     Some((told, machine.wire.released()?))
 }
 
@@ -100,11 +108,10 @@ fn unanswered(alloc: Global) -> Option<Vec<u8>> {
         quarters: 64,
         ..RUN
     };
-    let terms = terms(Loudness::All)?;
     let mut machine = machine_of(alloc, &run)?;
     machine.wire.manner.tick = 5;
     let mut err = Vec::new(alloc);
-    let _ = run_station(&mut machine, terms, &mut err);
+    let _ = end_of(&mut machine, &run, &mut err);
     Some(err)
 }
 
@@ -144,18 +151,18 @@ const FULL: WireManner = WireManner {
 
 /// Whether a run on such a wire sees soon the file that ends it, and tells that some found no place.
 fn hears(alloc: Global) -> Option<bool> {
-    let terms = terms(Loudness::All)?;
+    let run = PlantRun {
+        acts: &[StageAct(3, Laid(Stop, Nothing))],
+        err: "socket: 7 datagrams found no place in memory\n",
+        ..RUN
+    };
     let mut machine = Machine {
         alloc,
-        station: station_of(alloc, &RUN)?,
+        station: station_of(alloc, &run)?,
         wire: Scripted::new(alloc, FULL),
-        outside: OffersStage::new(alloc, &[StageAct(3, Laid(Stop, Nothing))]),
+        outside: OffersStage::new(alloc, run.acts),
     };
-    let mut err = Vec::new(alloc);
-    let outcome = run_station(&mut machine, terms, &mut err);
-    let end = end_with(outcome, &mut err);
-    let told = err.as_slice() == "socket: 7 datagrams found no place in memory\n".as_bytes();
-    Some(end == End::Done && told && machine.wire.came < 1_000)
+    Some(is_told(&mut machine, &run) && machine.wire.came < 1_000)
 }
 
 #[test]

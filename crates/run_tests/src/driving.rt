@@ -5,9 +5,9 @@ use crate::desk::{CountingDesk, DeskCounts, DeskWish};
 use crate::wires::{Scripted, WHOLE, WireManner};
 use command_ends::{End, end_with};
 use driver::{Driver, NewerLayouts};
+use fixtures::{rows_with, rows_with_vote, station_over};
 use rows_saved::{Balky, Grouped, MemoryRows};
 use station::Station;
-use fixtures::{rows_with, rows_with_vote, station_over};
 use std::alloc::Global;
 use tape_frames::Version;
 
@@ -42,6 +42,21 @@ fn station_of(alloc: Global, run: &DrivenRun) -> Option<Station<Grouped<Balky<Me
     station_over(alloc, run.me, run.members, Grouped::new(alloc, rows))
 }
 
+/// How a station comes to the end of a run on a wire, and what its desk was told.
+fn run_on(
+    station: &mut Station<Grouped<Balky<MemoryRows>>>,
+    wire: &mut Scripted,
+    run: &DrivenRun,
+) -> (End, DeskCounts) {
+    let alloc = wire.alloc;
+    let mut newer = NewerLayouts::new();
+    let mut told = Vec::new(alloc);
+    let desk = CountingDesk::new(run.wishes, run.looks);
+    let mut driver = Driver::new(station, wire, desk, &mut newer);
+    let outcome = driver.run(alloc, &mut told, false);
+    (end_with(outcome, &mut told), driver.sink().counts)
+}
+
 /// How a run ends, what its desk was told, and what was sent, and came where it waits in memory.
 fn driven(alloc: Global, run: &DrivenRun) -> Option<(End, DeskCounts, Vec<u8>)> {
     let mut station = station_of(alloc, run)?;
@@ -49,13 +64,8 @@ fn driven(alloc: Global, run: &DrivenRun) -> Option<(End, DeskCounts, Vec<u8>)> 
     if !wire.bring_all(run.coming) {
         return None;
     }
-    let mut newer = NewerLayouts::new();
-    let mut told = Vec::new(alloc);
-    let desk = CountingDesk::new(run.wishes, run.looks);
-    let mut driver = Driver::new(&mut station, &mut wire, desk, &mut newer);
-    let outcome = driver.run(alloc, &mut told, false);
-    let counts = driver.sink().counts;
-    Some((end_with(outcome, &mut told), counts, wire.log))
+    let (end, counts) = run_on(&mut station, &mut wire, run);
+    Some((end, counts, wire.log))
 }
 
 /// A member that is alone is asked to withdraw a number twice. Time goes by.

@@ -4,8 +4,8 @@ use crate::serving::{AskedFirst, OFFER, RELEASE, ServeRun, ServeStory, TURN, pla
 use crate::wires::{WHOLE, WireManner};
 use ballots::Number;
 use command_ends::End;
-use rows_saved::MemoryRows;
 use fixtures::ballot;
+use rows_saved::MemoryRows;
 use std::alloc::Global;
 
 /// What can't be sent is told, and the station goes on.

@@ -1,13 +1,12 @@
 //! A station over layout 1 that hears layout 2.
 
-use crate::running::terms;
+use crate::running::{PlantRun, RUN, is_told};
 use crate::wires::{Scripted, WHOLE, WireManner};
-use command_ends::{End, end_with};
+use command_ends::End;
 use driver::Machine;
+use fixtures::{rows_with, station_over};
 use folders::NoFolders;
 use log_terms::Loudness;
-use run_command::run_station;
-use fixtures::{rows_with, station_over};
 use std::alloc::Global;
 use tape_frames::Version;
 
@@ -20,9 +19,19 @@ const REPEATING: WireManner = WireManner {
     ..WHOLE
 };
 
-/// What a station without folders tells that hears it, where nothing but faults is told.
-fn told(alloc: Global) -> Option<Vec<u8>> {
-    let terms = terms(Loudness::Faults)?;
+/// Nothing but faults is told: the line at the first, and a minute later, and how the run ends.
+const TWICE: PlantRun = PlantRun {
+    loudness: Loudness::Faults,
+    end: End::Socket,
+    err: "\
+bad-version from member 2: its rows are of layout 2, these of layout 1\n\
+bad-version from member 2: its rows are of layout 2, these of layout 1\n\
+socket: receive failed\n",
+    ..RUN
+};
+
+/// Whether a station without folders comes to what it has to.
+fn comes_to(alloc: Global, run: &PlantRun) -> Option<bool> {
     let rows = rows_with(alloc, Version::One, None)?;
     let mut machine = Machine {
         alloc,
@@ -30,20 +39,10 @@ fn told(alloc: Global) -> Option<Vec<u8>> {
         wire: Scripted::new(alloc, REPEATING),
         outside: NoFolders,
     };
-    let mut err = Vec::new(alloc);
-    let outcome = run_station(&mut machine, terms, &mut err);
-    let end = end_with(outcome, &mut err);
-    (end == End::Socket).then_some(err)
+    Some(is_told(&mut machine, run))
 }
-
-/// The line at the first, and a minute later, and how the run ends.
-const TWICE: &str = "\
-bad-version from member 2: its rows are of layout 2, these of layout 1
-bad-version from member 2: its rows are of layout 2, these of layout 1
-socket: receive failed
-";
 
 #[test]
 fn told_each_minute(rt: HostRuntime) {
-    assert!(rt; told(rt.alloc()).is_some_and(|err| err.as_slice() == TWICE.as_bytes()));
+    assert!(rt; comes_to(rt.alloc(), &TWICE) == Some(true));
 }

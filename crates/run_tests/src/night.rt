@@ -1,11 +1,11 @@
 //! The log of a night: what goes on is told once an hour, and what ends is forgotten.
 
 use ballots::{Ballot, Number};
+use fixtures::ballot;
 use folders::{FileRequest, FolderFault, OfferKind, PassedOver};
 use log_terms::Loudness;
 use plant_log::{LogEvent, Told, Trouble};
 use refusals::StepRefusal;
-use fixtures::ballot;
 use std::alloc::Global;
 use std::str;
 

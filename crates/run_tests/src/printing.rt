@@ -4,9 +4,9 @@ use crate::serving::{OFFER, OFFER_ALONE, RELEASE, ServeRun, task_of};
 use crate::wires::{Scripted, WHOLE};
 use command_ends::{End, end_with};
 use driver::Machine;
+use fixtures::station_over;
 use rows_saved::MemoryRows;
 use serve_command::serve_run;
-use fixtures::station_over;
 use std::alloc::Global;
 use std::io;
 use std::io::Write;
@@ -36,9 +36,20 @@ impl Write for HeldWriter {
     }
 }
 
+/// Whether this run of a station ends as it has to over its writer.
+fn ends<W: Write + Drop>(
+    machine: &mut Machine<MemoryRows, Scripted, W>,
+    run: &ServeRun,
+) -> Option<bool> {
+    let task = task_of(machine.alloc, run).ok()?;
+    let mut err = Vec::new(machine.alloc);
+    let outcome = serve_run(machine, task, &mut err);
+    let end = end_with(outcome, &mut err);
+    Some(end == run.end && err.as_slice() == run.err.as_bytes())
+}
+
 /// Whether this run of member 1 alone ends as it has to over a writer, on a wire on which nothing comes.
 fn ends_over<W: Write>(alloc: Global, run: &ServeRun, writer: &mut W) -> Option<bool> {
-    let task = task_of(alloc, run).ok()?;
     let station = station_over(alloc, 1, 1, MemoryRows::new(alloc))?;
     let wire = Scripted::new(alloc, WHOLE);
     let mut machine = Machine {
@@ -47,10 +58,7 @@ fn ends_over<W: Write>(alloc: Global, run: &ServeRun, writer: &mut W) -> Option<
         wire,
         outside: writer,
     };
-    let mut err = Vec::new(alloc);
-    let outcome = serve_run(&mut machine, task, &mut err);
-    let end = end_with(outcome, &mut err);
-    Some(end == run.end && err.as_slice() == run.err.as_bytes())
+    ends(&mut machine, run)
 }
 
 /// The story, to a writer that is full.

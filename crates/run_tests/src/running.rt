@@ -5,17 +5,18 @@ use crate::wires::{Scripted, WHOLE, WireManner};
 use ballots::Member;
 use command_ends::{End, end_with};
 use driver::Machine;
-use folders::{Act, MemoryFolders, Place};
+use fixtures::{rows_with, rows_with_vote, station_over};
+use folders::{Act, Folders, MemoryFolders, Place};
 use gone_out::Origin;
 use log_terms::Loudness;
 use plant_status::NoStatus;
-use rows_saved::MemoryRows;
+use rows_saved::{MemoryRows, Settles};
 use run_command::{Terms, run_station};
 use station::Station;
-use fixtures::{rows_with, rows_with_vote, station_over};
 use std::alloc::Global;
 use std::io::Write;
 use tape_frames::Version;
+use wire::Wire;
 
 /// A run: what the station saved before, how files come into its folders, what happens to these, after how many quarters of a second the
 /// network fails, how it has to end, what has to be done with the folders, and what has to be told.
@@ -118,8 +119,8 @@ fn has_done(alloc: Global, folders: &MemoryFolders, expected: &str) -> bool {
     write_folders(folders, &mut text) && text.as_slice() == expected.as_bytes()
 }
 
-/// The terms of a run that takes no texts, of member 1 of a circuit, alone.
-pub fn terms(loudness: Loudness) -> Option<Terms<NoStatus>> {
+/// The terms of a run, which takes no texts, of member 1 of a circuit, alone.
+fn terms(run: &PlantRun) -> Option<Terms<NoStatus>> {
     Some(Terms {
         own: Origin {
             circuit: 7,
@@ -128,11 +129,11 @@ pub fn terms(loudness: Loudness) -> Option<Terms<NoStatus>> {
         },
         known: None,
         texts: None,
-        renamed: false,
+        renamed: run.renamed,
         catches_up: true,
         status: None,
         file: NoStatus,
-        loudness,
+        loudness: run.loudness,
     })
 }
 
@@ -159,16 +160,32 @@ pub fn machine_of(
     })
 }
 
+/// How a run ends. What it tells comes after what was told before.
+pub fn end_of<R: Settles, N: Wire + Drop, F: Folders + Drop>(
+    machine: &mut Machine<R, N, F>,
+    run: &PlantRun,
+    err: &mut Vec<u8>,
+) -> End {
+    let Some(terms) = terms(run) else {
+        return End::Memory;
+    };
+    let outcome = run_station(machine, terms, err);
+    end_with(outcome, err)
+}
+
+/// Whether a run ends as it has to, and tells what it has to.
+pub fn is_told<R: Settles, N: Wire + Drop, F: Folders + Drop>(
+    machine: &mut Machine<R, N, F>,
+    run: &PlantRun,
+) -> bool {
+    let mut err = Vec::new(machine.alloc);
+    end_of(machine, run, &mut err) == run.end && err.as_slice() == run.err.as_bytes()
+}
+
 /// Whether a run comes to what it has to.
 fn comes_to(alloc: Global, run: &PlantRun) -> Option<bool> {
-    let mut terms = terms(run.loudness)?;
-    terms.renamed = run.renamed;
     let mut machine = machine_of(alloc, run)?;
-    let mut err = Vec::new(alloc);
-    let outcome = run_station(&mut machine, terms, &mut err);
-    let end = end_with(outcome, &mut err);
-    let is_told = end == run.end && err.as_slice() == run.err.as_bytes();
-    Some(is_told && has_done(alloc, &machine.outside.folders, run.folders))
+    Some(is_told(&mut machine, run) && has_done(alloc, &machine.outside.folders, run.folders))
 }
 
 /// Returns whether a run comes to what it has to. Without memory for the run it does not.

@@ -1,9 +1,9 @@
 //! The wires of the tests: one over which comes what a test says, and one to the two other stations of a circuit.
 
 use ballots::Member;
+use fixtures::{rows_with, station_over};
 use rows_saved::MemoryRows;
 use station::{Answer, Datagram, Station};
-use fixtures::{rows_with, station_over};
 use std::alloc::Global;
 use std::collections::VecDeque;
 use std::io::Write;
@@ -43,7 +43,7 @@ pub const WHOLE: WireManner = WireManner {
 /// A wire to which these datagrams come, and then nothing, or a flood. It keeps what it was asked to send.
 #[derive(Drop)]
 pub struct Scripted {
-    alloc: Global,
+    pub alloc: Global,
     pub manner: WireManner,
     /// The moment that its clock showed last, in milliseconds.
     pub moment: u64,

@@ -9,8 +9,8 @@ ghost use Rattle.sealed_door.specs.Admitting.{AdmitsAlone, AdmitsPart, AdmitsSea
 use crate::naming::is_from_to;
 use crate::sending::send_parts;
 use ballots::Member;
-use seals::{Gathering, Keys, Label, MOST_DATAGRAM, Piece, SealFault, open};
 use pace::Incoming;
+use seals::{Gathering, Keys, Label, MOST_DATAGRAM, Piece, SealFault, open};
 use std::alloc::{AllocError, Global};
 use std::net::SocketAddr;
 use wire::{Address, Brought, Door, Reason, Socket, comes_from, has_mark, place_of};

@@ -7,8 +7,8 @@ ghost use Rattle.seals.specs.Opening.{IsLabel, IsPart};
 ghost use Rattle.seals.specs.Places.{IsFirst, IsBounded, IsReady, PutsAt, GathersPiece, Keeps, Roomed, count_from};
 
 use crate::unfinished::Unfinished;
-use ballots::Member;
 use crate::{Keys, Piece};
+use ballots::Member;
 use std::alloc::{AllocError, Global};
 use std::marker::Model;
 

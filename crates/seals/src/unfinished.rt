@@ -6,8 +6,8 @@ ghost use Rattle.seals.specs.Opening.{IsKeyAt};
 ghost use Rattle.seals.specs.Parts.{IsFor, IsSealedAs, IsWhole, placed, blank, with_part};
 ghost use Rattle.seals.specs.Opening.{IsLabel};
 
-use ballots::Member;
 use crate::{KeyPlace, Keys, Label, MOST_PARTS, Piece};
+use ballots::Member;
 use std::alloc::{AllocError, Global};
 use std::marker::Model;
 

@@ -1,8 +1,8 @@
 //! Packets that are sealed, and gathered from their datagrams.
 
 use ballots::Member;
-use seals::{Gathering, Keys, Label, open};
 use hmac::Key;
+use seals::{Gathering, Keys, Label, open};
 use std::alloc::Global;
 
 /// Bytes 1 to 32.
