@@ -1,13 +1,12 @@
 mod AcknowledgedLemmas
+mod BegunLemmas
 mod ClosingLemmas
 mod GivingLemmas
 mod RestartLemmas
 mod StepLemmas
-mod TableLemmas
 mod TestingLemmas
 pub mod ColumnLemmas
 pub mod EntryColumnLemmas
-pub mod FaultLemmas
 pub mod FitLemmas
 pub mod GroupLemmas
 pub mod IdentityLemmas
@@ -19,4 +18,5 @@ pub mod RestLemmas
 pub mod RowsAsEntriesLemmas
 pub mod SaveLemmas
 pub mod StandLemmas
+pub mod TableLemmas
 pub mod UpgradeLemmas

@@ -42,7 +42,7 @@ use Rattle.acceptor_store.proofs.TableLemmas.{same_schema, same_layout}
 some_same : {A : Type 0} (a b : A) → Some a ≡ Some b → a ≡ b
 some_same a b e = cc
 
-same_rows : (a b : Saved) → ((n : ℕ) → a n ≡ b n) → a ≡ b
+pub same_rows : (a b : Saved) → ((n : ℕ) → a n ≡ b n) → a ≡ b
 same_rows a b same = λ j n. same n j
 
 pub torn_from : (before : Saved) (number : ℕ) (row : Row) (after : Saved) → IsEither before number row after → AreTorn before number row after
@@ -61,7 +61,7 @@ ours_prop alone was None = ×_prop (Coded-set coded_bool _ _) Unit-prop
 ours_prop alone was (Some it) = ×_prop (Coded-set coded_bool _ _) (Coded-set schema.the_row.coded _ _)
 
 -- the version is one of two, which can be told
-told_apart : (now was : Version) → ∥ (now ≡ was) ⊎ (now ≡ Two) ∥₁ → (now ≡ was) ⊎ (now ≡ Two)
+pub told_apart : (now was : Version) → ∥ (now ≡ was) ⊎ (now ≡ Two) ∥₁ → (now ≡ was) ⊎ (now ≡ Two)
 told_apart One One h = inl refl
 told_apart Two was h = inr refl
 told_apart One Two h = inl (∥∥₁_elim h (λ x y. absurd (differ x)) (λ either. elim either [ inl e ↦ e | inr e ↦ e ]))
@@ -69,7 +69,7 @@ told_apart One Two h = inl (∥∥₁_elim h (λ x y. absurd (differ x)) (λ eit
     differ : ¬ (One ≡ Two)
     differ e = absurd cc
 
-version_after : (before layout : Layout) → (layout ≡ before) ⊎ (layout ≡ upgraded_from before) → (version_in layout ≡ version_in before) ⊎ (version_in layout ≡ Two)
+pub version_after : (before layout : Layout) → (layout ≡ before) ⊎ (layout ≡ upgraded_from before) → (version_in layout ≡ version_in before) ⊎ (version_in layout ≡ Two)
 version_after before layout (inl same) = inl (ap version_in same)
 version_after layouts.One layout (inr over) = inr (ap version_in over)
 version_after (layouts.Two origin) layout (inr over) = inr (ap version_in over)
@@ -98,7 +98,7 @@ module _ {E : Type 0} {h : Ghosts E} (left : Image) (again : SqliteOf (FileStore
   taken_layout : again.was ≡ layout
   taken_layout = same_layout again.was layout (sym taken.tables ∙ found_schema taken.was taken.opened layout tables)
 
-  now_layout : again.layout ≡ layout
+  pub now_layout : again.layout ≡ layout
   now_layout = taken.fresh ∙ taken_layout
 
   pub taken_rows : (n : ℕ) → saved_of over_files again n ≡ saved_in layout (file_state taken.was).now.trees n

@@ -1,14 +1,24 @@
 -- Why a file of the host gives no rows.
-use Rattle.std.specs.Prelude.{◌≡◌}
+use Rattle.sqlite.specs.declared.error.Error.{Error}
+use Rattle.sqlite.specs.declared.error.Error.TheVariants.{SqliteFailure}
+use Rattle.sqlite.specs.declared.error.ErrorCode.TheVariants as codes
 use Rattle.rows_saved.specs.declared.fault.RowsFault.{RowsFault}
 use Rattle.rows_saved.specs.declared.fault.RowsFault.TheVariants.{Store, OutOfMemory}
-use Rattle.acceptor_store.specs.Sqlite.{IsRefusal}
 use Rattle.acceptor_store.specs.declared.faults.FileFault.{FileFault}
 use Rattle.acceptor_store.specs.declared.faults.FileFault.TheVariants as faults
 
+-- the fault of a file that the database does not open or close, by the error that it answers; every error that is not named here is one of the disk
+abbrev pub file_fault : Error → FileFault
+file_fault (SqliteFailure codes.OutOfMemory) = faults.Rows OutOfMemory
+file_fault (SqliteFailure codes.DatabaseBusy) = faults.InUse
+file_fault (SqliteFailure codes.NotADatabase) = faults.Damaged
+file_fault (SqliteFailure codes.DatabaseCorrupt) = faults.Damaged
+file_fault (SqliteFailure codes.CannotOpen) = faults.Unopened
+file_fault (SqliteFailure codes.DiskFull) = faults.DiskFull
+file_fault _ = faults.DiskFailed
+
 -- as a fault of rows it is that of the rows in the file, or a refused store
 abbrev pub rows_fault : FileFault → RowsFault
-rows_fault faults.Missing = Store
 rows_fault faults.InUse = Store
 rows_fault faults.Unmade = Store
 rows_fault faults.Made = Store
@@ -17,23 +27,3 @@ rows_fault faults.Unopened = Store
 rows_fault faults.DiskFull = Store
 rows_fault faults.DiskFailed = Store
 rows_fault (faults.Rows fault) = fault
-
--- a fault of a file that the database does not open or close: memory was refused, or it says nothing of its tables and rows
-abbrev pub IsOfFile : FileFault → Type 0
-IsOfFile faults.Missing = ⊥
-IsOfFile faults.Unmade = ⊥
-IsOfFile faults.Made = ⊥
-IsOfFile (faults.Rows fault) = fault ≡ OutOfMemory
-IsOfFile _ = Unit {0}
-
--- a fault that taking up rows may tell: any but that they are there
-abbrev pub IsOfTaking : FileFault → Type 0
-IsOfTaking faults.Made = ⊥
-IsOfTaking _ = Unit {0}
-
--- a fault that making tables may tell: not that a file or its tables are missing, and of rows none that speaks of a row
-abbrev pub IsOfMaking : FileFault → Type 0
-IsOfMaking faults.Missing = ⊥
-IsOfMaking faults.Unmade = ⊥
-IsOfMaking (faults.Rows fault) = IsRefusal fault
-IsOfMaking _ = Unit {0}

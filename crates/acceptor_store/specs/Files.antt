@@ -1,11 +1,10 @@
 -- Saved rows in a host's file.
-use Rattle.std.specs.Prelude.{◌≡◌, ◌≤◌, Bool, Option, IsTrue, true, false}
+use Rattle.std.specs.Prelude.{◌≡◌, ◌≤◌, Option, IsTrue, false}
 use Rattle.sqlite_disk.specs.declared.Disk.{Ghosts}
 use Rattle.sqlite.specs.declared.FileStore.{FileStore}
-use Rattle.sqlite.specs.declared.Leftover.{Leftover}
 use Rattle.sqlite.specs.Held.{Held}
 use Rattle.sqlite.specs.State.{HasCleanDisk}
-use Rattle.sqlite.specs.Files.{file_state, over_files, image_of, IsOpened, IsCleanLeft, LeavesFiles}
+use Rattle.sqlite.specs.Files.{file_state, over_files, image_of, IsOpened}
 use Rattle.sqlite.specs.Closing.{HoldsAlone}
 use Rattle.sqlite.specs.WalFiles.{outcomes}
 use Rattle.sqlite.specs.WalReads.{AreClean}
@@ -18,13 +17,11 @@ use Rattle.rows_table.specs.Tables.{layout_schema, no_schema}
 use Rattle.protocol.specs.Versions.{Version}
 use Rattle.rows_saved.specs.Saved.{SameRows}
 use Rattle.rows_saved.specs.declared.identity.Identity.{Identity}
-use Rattle.rows_saved.specs.declared.fault.RowsFault.{RowsFault}
 use Rattle.acceptor_store.specs.Columns.{saved_in}
 use Rattle.acceptor_store.specs.FoundTables.{has_any}
 use Rattle.acceptor_store.specs.Layouts.{made_in}
 use Rattle.acceptor_store.specs.StationRow.{IsStationOf}
 use Rattle.acceptor_store.specs.Sqlite.{SqliteOf, Agrees, HoldsNoRow, IsAtRest, IsOurs, IsOursAsFound, IsOfStation, rows_version, saved_of}
-use Rattle.acceptor_store.specs.Opening.{IsReasonToRefuse, LeavesNothingNew, StaysUnwritten}
 
 -- what the store owes: where the database that the files held has the tables of a layout, and no others, they are its own, in that layout
 pub record OpensItsOwn {D : Type 0} {g : Ghosts D} (start : Image) (s : SqliteOf (FileStore D g)) : Type 0 where
@@ -44,15 +41,6 @@ pub record IsOpenedAgain {D : Type 0} {g : Ghosts D} (start : Image) (s : Sqlite
   pub same : SameRows (saved_in s.was (file_state was).now.trees) (saved_of over_files s)
   pub station : IsStationOf s.was s.identity (file_state was).now.trees
   pub fresh : s.layout ≡ s.was
-
--- why the database that the files held is not taken up: where it has the tables of a layout, and no others, it is refused for this, and nothing is written
-pub record RefusesFiles {D : Type 0} {g : Ghosts D} (start : Image) (given : Option Identity) (fault : RowsFault) (conn : Held (FileStore D g)) : Type 0 where
-  pub was : Held (FileStore D g)
-  pub opened : HasCleanDisk (file_state conn) → IsOpened was
-  pub found : HasCleanDisk (file_state conn) → FindsIn start (file_state was)
-  pub refuses : IsReasonToRefuse given fault (file_state was) (file_state conn)
-  pub unwritten : StaysUnwritten (file_state was) (file_state conn)
-  pub crash : LeavesNothingNew (file_state was) (file_state conn)
 
 -- What the store owes where it made the tables: the database that the files held had none of them, and they are its own if it had no table at all
 pub record MakesItsOwn {D : Type 0} {g : Ghosts D} (start : Image) (s : SqliteOf (FileStore D g)) : Type 0 where
@@ -97,13 +85,3 @@ pub record HoldsRowsAlone {D : Type 0} {g : Ghosts D} (s : SqliteOf (FileStore D
 -- where the rows went on, were the store's own, and the disk returned what was written, the database file alone holds them
 abbrev pub KeepsRowsAlone : {D : Type 0} {g : Ghosts D} → SqliteOf (FileStore D g) → Files D → Type 0
 KeepsRowsAlone {D} {g} s files = s.stopped ≡ false → IsOurs s.alone s.was s.found → AreClean g files.log files.db → HoldsRowsAlone s files
-
--- two files that came of its close, and what their database file holds
-pub record WasClosed {D : Type 0} {g : Ghosts D} (s : SqliteOf (FileStore D g)) : Type 0 where
-  pub files : Files D
-  pub rows : KeepsRowsAlone s files
-
--- what an open that was refused left of two files, which were as the host gave them:
--- where the disk returned what was written, a database that they held is unharmed
-abbrev pub LeavesUnharmed : {D : Type 0} {g : Ghosts D} → (Bool → D → Type 0) → Leftover D g → Type 0
-LeavesUnharmed {D} as_given left = (files : Files D) × as_given true files.log × as_given false files.db × (IsCleanLeft left → LeavesFiles files left)

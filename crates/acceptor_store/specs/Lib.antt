@@ -1,4 +1,5 @@
 pub mod Acknowledged
+pub mod Begun
 pub mod Calls
 pub mod Columns
 pub mod Faults
@@ -16,4 +17,5 @@ pub mod StationRow
 pub mod Steps
 pub mod Taking
 pub mod Testing
+pub mod Untaken
 pub mod Upgrading

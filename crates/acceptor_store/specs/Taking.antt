@@ -21,7 +21,6 @@ use Rattle.acceptor_store.specs.declared.rows_at_path.Wanted.{Wanted}
 use Rattle.acceptor_store.specs.declared.rows_at_path.Wanted.TheVariants.{Stored, Made}
 use Rattle.acceptor_store.specs.declared.faults.FileFault.{FileFault}
 use Rattle.acceptor_store.specs.declared.faults.FileFault.TheVariants as faults
-use Rattle.acceptor_store.specs.Faults.{IsOfTaking, IsOfMaking}
 use Rattle.acceptor_store.specs.Opening.{HasWhatItHad, IsReasonToRefuse, LeavesNothingNew, MakesAllOrNothing, StaysUnwritten}
 use Rattle.acceptor_store.specs.Sqlite.{SqliteOf, Agrees, IsAtRest, IsKept, IsKeptAsFound, IsOpen, IsOurs, IsOursAsFound, IsRefusal, HoldsNoRow, LeavesNoRow, rows_version, saved_of}
 
@@ -106,7 +105,6 @@ module _ {S : Type 0} (g : Ghosts S) where
     pub given : IfOk result (AreAsWanted g wanted (state g was))
     pub refused : IfErr result (λ e. RefusesWanted wanted e.0 was e.1)
 
--- the faults that what was wanted may be refused with
-abbrev pub IsFaultOf : Wanted → FileFault → Type 0
-IsFaultOf (Stored given) fault = IsOfTaking fault
-IsFaultOf (Made i version) fault = IsOfMaking fault
+  -- why a database that does not come back did not give what was wanted of it
+  abbrev pub IsRefused : Wanted → Held S → FileFault → Type 0
+  IsRefused wanted was fault = (now : Held S) × RefusesWanted wanted fault was now

@@ -2,7 +2,7 @@
 
 ghost use Rattle.std.specs.Prelude.{◌≡◌, true, false, IfErr, OnOk};
 ghost use Rattle.acceptor_store.specs.FoundTables.{has_tables};
-ghost use Rattle.acceptor_store.specs.Faults.{rows_fault, IsOfFile};
+ghost use Rattle.acceptor_store.specs.Faults.{file_fault, rows_fault};
 ghost use Rattle.acceptor_store.specs.Sqlite.{IsRefusal};
 
 use crate::found_tables::has_tables;
@@ -13,8 +13,6 @@ use sqlite_schema::schema::Schema;
 /// Why rows are not taken up from a file, made in it, or closed.
 #[derive(Clone, Copy, PartialEq, Eq)]
 pub enum FileFault {
-    /// There is no such file.
-    Missing,
     /// Another handle has it open.
     InUse,
     /// It holds none of the tables of saved rows.
@@ -40,8 +38,7 @@ impl FileFault {
     {
         match self {
             FileFault::Rows(fault) => fault,
-            FileFault::Missing
-            | FileFault::InUse
+            FileFault::InUse
             | FileFault::Unmade
             | FileFault::Made
             | FileFault::Damaged
@@ -54,8 +51,8 @@ impl FileFault {
 
 /// What a file is refused for that the database does not open or close.
 pub(crate) fn file_fault_of(error: &Error) -> FileFault
+    ensures fault { result ≡ file_fault error.now }
     ensures refusal { IsRefusal (rows_fault result) }
-    ensures file { IsOfFile result }
 {
     match error {
         Error::SqliteFailure(ErrorCode::OutOfMemory) => FileFault::Rows(RowsFault::OutOfMemory),

@@ -2,6 +2,7 @@
 //! `D` are the disks before the crash, `E` those of the next start.
 
 ghost use Rattle.acceptor_store.specs.Acknowledged.{AcknowledgedSaveIsFound, CrashAtRestIsRestart, CrashAtRestLosesNothing, LeavesRowsAtRest};
+ghost use Rattle.acceptor_store.specs.Begun.{OpensWhatIsBegun, BegunAtRestLosesNothing, GroupOutlivesBegun, UpgradeOutlivesBegun};
 ghost use Rattle.acceptor_store.specs.Restarts.{OpensWhatIsLeft, PutOutlivesCrash, GroupOutlivesCrash, GroupIsFound, UpgradeOutlivesCrash, CreateOutlivesCrash};
 ghost use Rattle.acceptor_store.specs.Steps.{CrashIsTwoSteps, GroupCrashIsARestart, UpgradeCrashIsTwoSteps};
 
@@ -11,6 +12,14 @@ use sqlite_disk::Disk;
 /// An open of what a crash left finds rows that the crash could leave, of the same station.
 pub fn what_is_left_is_found<D: Disk, E: Disk>()
     ensures { OpensWhatIsLeft D D.Disk E E.Disk }
+{}
+
+/// The same of an open of files that hold all that a crash left, except the user version: lives of them were begun or ended in between.
+pub fn what_is_begun_is_found<D: Disk, E: Disk>()
+    ensures found { OpensWhatIsBegun D D.Disk E E.Disk }
+    ensures group { GroupOutlivesBegun D D.Disk E E.Disk }
+    ensures rest { BegunAtRestLosesNothing D D.Disk E E.Disk }
+    ensures upgrade { UpgradeOutlivesBegun D D.Disk E E.Disk }
 {}
 
 /// After a crash in a save an open finds the rows that a torn step leaves: those before it, or those with the new row.

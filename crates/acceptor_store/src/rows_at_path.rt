@@ -5,8 +5,7 @@ ghost use Rattle.sqlite.specs.Files.{file_state, over_files};
 ghost use Rattle.sqlite.specs.WalFiles.{image_at};
 ghost use Rattle.tape_frames.specs.Entries.{version_of};
 ghost use Rattle.rows_saved.specs.Identity.{IsIdentity};
-ghost use Rattle.acceptor_store.specs.Faults.{IsOfMaking, IsOfTaking};
-ghost use Rattle.acceptor_store.specs.Taking.{AreAsWanted, CanBeMade, GivesWanted, IsFaultOf};
+ghost use Rattle.acceptor_store.specs.Taking.{AreAsWanted, CanBeMade, GivesWanted, IsRefused};
 ghost use Rattle.acceptor_store.specs.declared.rows_at_path.Wanted.TheVariants.{Stored, Made};
 
 use crate::faults::{FileFault, file_fault_of, test_unmade};
@@ -17,7 +16,6 @@ use rows_saved::Identity;
 use sqlite::{Alter, Connection, FileFrom, FileStore, Start};
 use sqlite_disk::Disk;
 use std::alloc::Global;
-use std::fs;
 use tape_frames::Version;
 
 /// What new tables are made for: a station, at a version.
@@ -109,7 +107,7 @@ fn rows_or_fault<D: Disk + Drop>(
 ) -> Result<SqliteRows<FileStore<D>>, FileFault>
     requires { CanBeMade wanted }
     ensures taken { IfOk result (AreAsWanted over_files wanted (file_state conn)) }
-    ensures fault { IfErr result (IsFaultOf wanted) }
+    ensures fault { IfErr result (IsRefused over_files wanted conn) }
 {
     match rows_in_files(alloc, conn, wanted) {
         Ok(rows) => Ok(rows),
@@ -121,35 +119,12 @@ fn rows_or_fault<D: Disk + Drop>(
 }
 
 impl<T: Start> SqliteRows<FileStore<FileFrom<T>>> {
-    ghost use Rattle.acceptor_store.specs.Files.{AreMadeIn, AreTakenUp};
-
-    /// Takes up the rows in the file at a path, as [`SqliteRows::open_from`] does, and tells what is the matter where there
-    /// are none. A file that is not there is not made, and one without the tables stays without them.
-    #[tactic(auto, using(crate::proofs::FaultLemmas::taking_of_file))]
-    pub fn open_at(
-        rt: &HostRuntime,
-        path: &str,
-        start: T,
-        given: Option<Identity>,
-    ) -> Result<SqliteRows<FileStore<FileFrom<T>>>, FileFault>
-        ensures taken { IfOk result (AreTakenUp (image_at T.Start) given) }
-        ensures fault { IfErr result IsOfTaking }
-    {
-        // To the database a missing file is an empty one.
-        match fs::exists(rt, path) {
-            Ok(true) => {}
-            Ok(false) => return Err(FileFault::Missing),
-            Err(_) => return Err(FileFault::Unopened),
-        }
-        match Connection::open_from(rt, path, false, start) {
-            Ok(conn) => rows_or_fault(rt.alloc(), conn, Wanted::Stored(given)),
-            Err((error, _)) => Err(file_fault_of(&error)),
-        }
-    }
+    ghost use Rattle.acceptor_store.specs.Files.{AreMadeIn};
+    ghost use Rattle.acceptor_store.specs.Untaken.{AreUnmade};
 
     /// Makes the tables of a station in the file at a path, as [`SqliteRows::create`] does, and tells what is the matter
-    /// where they are not made. A file that is not there is made; one that holds the tables stays as it is.
-    #[tactic(auto, using(crate::proofs::FaultLemmas::making_of_file))]
+    /// where they are not made. A file that is not there is made; one that holds the tables stays as it is. `start` is as for
+    /// `Connection::open_from`.
     pub fn create_at(
         rt: &HostRuntime,
         path: &str,
@@ -158,7 +133,7 @@ impl<T: Start> SqliteRows<FileStore<FileFrom<T>>> {
     ) -> Result<SqliteRows<FileStore<FileFrom<T>>>, FileFault>
         requires { IsIdentity new.identity }
         ensures made { IfOk result (AreMadeIn (image_at T.Start) new.identity (version_of new.version)) }
-        ensures fault { IfErr result IsOfMaking }
+        ensures fault { IfErr result (AreUnmade ⟦<FileFrom<T> as Disk>⟧ (image_at T.Start) new.identity (version_of new.version)) }
     {
         match Connection::open_from(rt, path, false, start) {
             Ok(conn) => rows_or_fault(rt.alloc(), conn, Wanted::Made(new.identity, new.version)),

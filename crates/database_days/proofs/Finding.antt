@@ -19,12 +19,14 @@ use Rattle.acceptor_store.specs.Columns.{version_in}
 use Rattle.station.specs.declared.station.Station.{Station}
 use Rattle.station.specs.Stations.{Sight}
 use Rattle.acceptor_store.specs.Sqlite.{SqliteOf, IsOurs, LeavesStation, rows_version, saved_of}
-use Rattle.acceptor_store.specs.Restarts.{AreOpenedFrom, GivesUp, OpensWhatIsLeft, UpgradeOutlivesCrash}
-use Rattle.acceptor_store.specs.Acknowledged.{CrashAtRestLosesNothing}
+use Rattle.acceptor_store.specs.Restarts.{AreOpenedFrom, GivesUp}
+use Rattle.acceptor_store.specs.Begun.{OpensWhatIsBegun, BegunAtRestLosesNothing, UpgradeOutlivesBegun}
+use Rattle.rows_life.specs.Keeping.{StandFor}
 use Rattle.days.specs.Happening.{At_rest, In_call, Upgrading}
 use Rattle.days.specs.Handing.{FindsRows, HasSaved}
 use Rattle.database_days.specs.Starting.{Saves, StartsHandOver, WereRead, WereSaved}
 use Rattle.database_days.proofs.Deciding.{rows}
+use Rattle.database_days.proofs.Holding.{holds_all}
 
 pub is_set : (a b : Row) (x y : a ≡ b) → x ≡ y
 is_set = Coded-set row_code.the_row.coded
@@ -72,15 +74,15 @@ module _ {D : Type 0} {g : disk.Ghosts D} (x : Sight (SqliteOf (FileStore D g)))
     | inr apart ↦ put_elsewhere read number n row apart ∙ same n ∙ sym (put_elsewhere before number n row apart)
   ])
 
-  module _ {E : Type 0} {h : disk.Ghosts E} (opens : OpensWhatIsLeft D g E h) (rests : CrashAtRestLosesNothing D g E h) (upgrades : UpgradeOutlivesCrash D g E h)
-      (last : Station (SqliteOf (FileStore D g))) (now : SqliteOf (FileStore D g)) (files : Files D) (left : Image) (again : SqliteOf (FileStore E h))
-      (gives : GivesUp g now.conn files) (clean : AreClean g files.log files.db) (may : outcomes g files.log files.db left) (opened : AreOpenedFrom left again) where
+  module _ {E : Type 0} {h : disk.Ghosts E} (opens : OpensWhatIsBegun D g E h) (rests : BegunAtRestLosesNothing D g E h) (upgrades : UpgradeOutlivesBegun D g E h)
+      (last : Station (SqliteOf (FileStore D g))) (now : SqliteOf (FileStore D g)) (files : Files D) (left begun : Image) (again : SqliteOf (FileStore E h))
+      (gives : GivesUp g now.conn files) (clean : AreClean g files.log files.db) (may : outcomes g files.log files.db left) (stands : StandFor left begun) (opened : AreOpenedFrom begun again) where
     -- after rows that were at most read
     found_read : WereRead last now
         → IsOurs again.alone again.was again.found × (again.identity ≡ last.rows.identity)
         × SameRows (x.saved last.rows) (saved_of over_files again) × (rows_version again ≡ x.version last.rows)
     found_read read =
-        let all = rests last.rows files left again read.rest (given_up_before last now files read gives) clean may opened in
+        let all = rests last.rows files left begun again read.rest (given_up_before last now files read gives) clean may (holds_all left begun stands) opened in
         (all.0, all.1, same_seen last.rows (saved_of over_files again) all.3, all.2 ∙ sym (version last.rows))
 
     -- after rows that were saved
@@ -88,7 +90,7 @@ module _ {D : Type 0} {g : disk.Ghosts D} (x : Sight (SqliteOf (FileStore D g)))
         → IsOurs again.alone again.was again.found × (again.identity ≡ last.rows.identity) × FindsRows x (In_call call) last (saved_of over_files again) (rows_version again)
     found_saved call put =
         let station : LeavesStation over_files now last.rows.identity = subst (LeavesStation over_files now) put.identity (put.station put.is_open put.ran) in
-        let all = opens now last.rows.identity files left again station gives clean may opened in
+        let all = opens now last.rows.identity files left begun again station gives clean may (holds_all left begun stands) opened in
         let either = told_either (saved_of over_files last.rows) put.number put.row (saved_of over_files again) (∥∥₁_map all.3 (λ found.
         either_before (saved_of over_files last.rows) (saved_of over_files put.read) put.number put.row (saved_of over_files again) put.same
         (put.either put.is_open put.ran (saved_of over_files again) found))) in (
@@ -97,23 +99,23 @@ module _ {D : Type 0} {g : disk.Ghosts D} (x : Sight (SqliteOf (FileStore D g)))
           (
             elim either [
               | inl same ↦ inl (same_seen last.rows (saved_of over_files again) same)
-              | inr new ↦ inr (λ marks stands. has_saved last call put.number put.row (saved_of over_files again) marks (put.saves marks stands) new)
+              | inr new ↦ inr (λ marks stood. has_saved last call put.number put.row (saved_of over_files again) marks (put.saves marks stood) new)
             ],
             ap version_in all.1 ∙ put.version ∙ sym (version last.rows),
           ),
         )
 
-  pub found : {E : Type 0} {h : disk.Ghosts E} → OpensWhatIsLeft D g E h → CrashAtRestLosesNothing D g E h → UpgradeOutlivesCrash D g E h → StartsHandOver D g E h x
-  found opens rests upgrades At_rest last now files left again read gives clean may opened =
-      let all = found_read opens rests upgrades last now files left again gives clean may opened read in
+  pub found : {E : Type 0} {h : disk.Ghosts E} → OpensWhatIsBegun D g E h → BegunAtRestLosesNothing D g E h → UpgradeOutlivesBegun D g E h → StartsHandOver D g E h x
+  found opens rests upgrades At_rest last now files left begun again read gives clean may stands opened =
+      let all = found_read opens rests upgrades last now files left begun again gives clean may stands opened read in
       (all.0, all.1, (all.2, all.3))
-  found opens rests upgrades (In_call call) last now files left again (inl read) gives clean may opened =
-      let all = found_read opens rests upgrades last now files left again gives clean may opened read in
+  found opens rests upgrades (In_call call) last now files left begun again (inl read) gives clean may stands opened =
+      let all = found_read opens rests upgrades last now files left begun again gives clean may stands opened read in
       (all.0, all.1, (inl all.2, all.3))
-  found opens rests upgrades (In_call call) last now files left again (inr put) gives clean may opened =
-      found_saved opens rests upgrades last now files left again gives clean may opened call put
-  found opens rests upgrades Upgrading last now files left again all_left gives clean may opened =
-      let all = upgrades last.rows now files left again all_left gives clean may opened in (
+  found opens rests upgrades (In_call call) last now files left begun again (inr put) gives clean may stands opened =
+      found_saved opens rests upgrades last now files left begun again gives clean may stands opened call put
+  found opens rests upgrades Upgrading last now files left begun again all_left gives clean may stands opened =
+      let all = upgrades last.rows now files left begun again all_left gives clean may (holds_all left begun stands) opened in (
         all.0,
         all.1,
         (

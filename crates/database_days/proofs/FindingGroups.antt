@@ -1,5 +1,5 @@
 -- What the next start finds of a group is what it found before it, or all of it.
-use Rattle.std.proofs.Common.{◌≡◌, ◌⊎◌, ◌==◌, ℕ, List, [], ◌∷◌, inl, inr, refl, sym, ap, subst, ◌∙◌}
+use Rattle.std.proofs.Common.{◌≡◌, ◌⊎◌, ◌==◌, ℕ, List, [], ◌∷◌, inl, inr, refl, sym, ap, ◌∙◌}
 use Rattle.std.proofs.Math.Logic.{∥∥₁_elim, ∥∥₁_map}
 use Rattle.std.proofs.lemmas.Bool.{cases_Bool}
 use Rattle.std.proofs.lemmas.Bool.Decides.{Decides-eqb}
@@ -9,18 +9,19 @@ use Rattle.sqlite_disk.specs.declared.Files.{Files}
 use Rattle.sqlite.specs.declared.FileStore.{FileStore}
 use Rattle.sqlite.specs.Files.{over_files}
 use Rattle.protocol.specs.Rows.{Row}
-use Rattle.rows_saved.specs.Saved.{Saved, SameRows, with_row}
-use Rattle.rows_saved.specs.Groups.{WithAll, IsAllOrNone, with_all}
+use Rattle.rows_saved.specs.Saved.{Saved, with_row}
+use Rattle.rows_saved.specs.Groups.{IsAllOrNone, with_all}
 use Rattle.rows_saved.specs.Grouped.{GroupedOf}
 use Rattle.acceptor_store.specs.Columns.{version_in}
 use Rattle.station.specs.declared.station.Station.{Station}
 use Rattle.station.specs.Stations.{Sight}
 use Rattle.acceptor_store.specs.Sqlite.{SqliteOf, LeavesNoOther, rows_version, saved_of}
-use Rattle.acceptor_store.specs.Restarts.{GivesUp, GroupOutlivesCrash}
-use Rattle.acceptor_store.specs.Acknowledged.{CrashAtRestLosesNothing}
+use Rattle.acceptor_store.specs.Restarts.{GivesUp}
+use Rattle.acceptor_store.specs.Begun.{BegunAtRestLosesNothing, GroupOutlivesBegun}
 use Rattle.database_days.specs.Grouping.{GroupsHandOver, IsSettled}
 use Rattle.database_days.proofs.Deciding.{rows}
 use Rattle.database_days.proofs.Finding.{is_set, put_elsewhere}
+use Rattle.database_days.proofs.Holding.{holds_all}
 
 module _ (old now : Saved) where
   -- these numbers have the rows that they had
@@ -47,7 +48,7 @@ module _ (old now : Saved) where
   ]
 
   -- which of the two it was can be told
-  pub told_all_or_none : (items : List (ℕ × Row)) → ∥ IsAllOrNone old items now ∥₁ → IsAllOrNone old items now
+  told_all_or_none : (items : List (ℕ × Row)) → ∥ IsAllOrNone old items now ∥₁ → IsAllOrNone old items now
   told_all_or_none items it = elim (told_all items) [
     | inl same ↦ inl (λ n. ∥∥₁_elim it (is_set (now n) (old n)) (λ either. elim either [
       | inl none ↦ none n
@@ -71,14 +72,14 @@ module _ {D : Type 0} {g : disk.Ghosts D} (x : Sight (GroupedOf (SqliteOf (FileS
       → LeavesNoOther over_files last.rows.rows now → GivesUp g now.conn files → GivesUp g last.rows.rows.conn files
   given_up_before last now files s leaves gives clean left may = ∥∥₁_map (gives clean left may) (λ db. (db.0, leaves s.rest.is_open db.0 db.1, db.2))
 
-  pub groups_found : {E : Type 0} {h : disk.Ghosts E} → CrashAtRestLosesNothing D g E h → GroupOutlivesCrash D g E h → GroupsHandOver D g E h x
+  pub groups_found : {E : Type 0} {h : disk.Ghosts E} → BegunAtRestLosesNothing D g E h → GroupOutlivesBegun D g E h → GroupsHandOver D g E h x
   groups_found rests outlives = record {
-    before_the_save = λ before now files left again s leaves gives clean may opened.
-        let all = rests before.rows.rows files left again s.rest (given_up_before before now files s leaves gives) clean may opened in
+    before_the_save = λ before now files left begun again s leaves gives clean may stands opened.
+        let all = rests before.rows.rows files left begun again s.rest (given_up_before before now files s leaves gives) clean may (holds_all left begun stands) opened in
         (all.0, all.1, ((λ n. all.3 n ∙ sym (settled_rows before n s)), all.2 ∙ sym (version before.rows)));
-    in_the_save = λ before after now files left again took s gives clean may opened.
+    in_the_save = λ before after now files left begun again took s gives clean may stands opened.
         let inside = after.rows.rows in
-        let all = outlives inside now after.rows.waits files left again (s.station took.is_open took.ran) (s.either took.is_open took.ran) gives clean may opened in
+        let all = outlives inside now after.rows.waits files left begun again (s.station took.is_open took.ran) (s.either took.is_open took.ran) gives clean may (holds_all left begun stands) opened in
         let found = told_all_or_none (saved_of over_files inside) (saved_of over_files again) after.rows.waits all.3 in
         let at = ap version_in all.1 ∙ s.version in (
           all.0,

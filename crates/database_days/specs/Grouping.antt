@@ -16,6 +16,7 @@ use Rattle.acceptor_store.specs.Grouping.{LeavesAllOrNone}
 use Rattle.acceptor_store.specs.Restarts.{GivesUp, AreOpenedFrom}
 use Rattle.days.specs.Happening.{At_rest}
 use Rattle.days.specs.Handing.{FindsRows}
+use Rattle.rows_life.specs.Keeping.{StandFor}
 
 module _ {D : Type 0} {g : disk.Ghosts D} where
   -- nothing waits, and the rows inside are at rest
@@ -39,21 +40,22 @@ module _ {D : Type 0} {g : disk.Ghosts D} where
     pub either : LeavesAllOrNone over_files after.rows.waits after.rows.rows now
     pub station : LeavesItsStation over_files after.rows.rows now
 
--- A process that takes its steps in groups ended, in whatever way, and the rows inside are in files. An open of what a crash leaves of them, if it
--- is not refused, finds the store's own tables and the same station. Where the process had not begun to save a group, it finds the rows of the
--- station as it was before the group; where it had, those, or the rows of the station as it was after all steps of the group. Either is what
+-- A process that takes its steps in groups ended, in whatever way, and the rows inside are in files. A crash left these of them. Then lives of them were
+-- begun or ended, none or any number, each perhaps cut off by a crash, so the files that there are now stand for those that were left. An open of
+-- them, if it is not refused, finds the store's own tables and the same station. Where the process had not begun to save a group, it finds the rows
+-- of the station as it was before the group; where it had, those, or the rows of the station as it was after all steps of the group. Either is what
 -- a day has the next process find after one that ended at rest.
 pub record GroupsHandOver (D : Type 0) (g : disk.Ghosts D) (E : Type 0) (h : disk.Ghosts E) (x : Sight (GroupedOf (SqliteOf (FileStore D g)))) : Type 0 where
   pub before_the_save :
-      (before : Station (GroupedOf (SqliteOf (FileStore D g)))) (now : SqliteOf (FileStore D g)) (files : Files D) (left : Image) (again : SqliteOf (FileStore E h))
+      (before : Station (GroupedOf (SqliteOf (FileStore D g)))) (now : SqliteOf (FileStore D g)) (files : Files D) (left begun : Image) (again : SqliteOf (FileStore E h))
       → IsSettled before → LeavesNoOther over_files before.rows.rows now
-      → GivesUp g now.conn files → AreClean g files.log files.db → outcomes g files.log files.db left → AreOpenedFrom left again
+      → GivesUp g now.conn files → AreClean g files.log files.db → outcomes g files.log files.db left → StandFor left begun → AreOpenedFrom begun again
       → IsOurs again.alone again.was again.found × (again.identity ≡ before.rows.rows.identity)
       × FindsRows x At_rest before (saved_of over_files again) (rows_version again)
   pub in_the_save :
-      (before after : Station (GroupedOf (SqliteOf (FileStore D g)))) (now : SqliteOf (FileStore D g)) (files : Files D) (left : Image) (again : SqliteOf (FileStore E h))
+      (before after : Station (GroupedOf (SqliteOf (FileStore D g)))) (now : SqliteOf (FileStore D g)) (files : Files D) (left begun : Image) (again : SqliteOf (FileStore E h))
       → TookAGroup before after → WereSettling after now
-      → GivesUp g now.conn files → AreClean g files.log files.db → outcomes g files.log files.db left → AreOpenedFrom left again
+      → GivesUp g now.conn files → AreClean g files.log files.db → outcomes g files.log files.db left → StandFor left begun → AreOpenedFrom begun again
       → IsOurs again.alone again.was again.found × (again.identity ≡ before.rows.rows.identity)
       × (FindsRows x At_rest before (saved_of over_files again) (rows_version again)
       ⊎ FindsRows x At_rest after (saved_of over_files again) (rows_version again))

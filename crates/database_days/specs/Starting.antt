@@ -20,6 +20,7 @@ use Rattle.acceptor_store.specs.Sqlite.{SqliteOf, IsAtRest, IsOpen, IsOurs, rows
 use Rattle.acceptor_store.specs.Restarts.{GivesUp, AreOpenedFrom}
 use Rattle.days.specs.Happening.{Ending, At_rest, In_call, Upgrading}
 use Rattle.days.specs.Handing.{FindsRows}
+use Rattle.rows_life.specs.Keeping.{StandFor}
 
 -- a call saves this row under this number: nothing refuses it, and its turn changes the row of its number to this one
 pub record Saves {R : Type 0} (x : Sight R) (last : Station R) (marks : List Mark) (call : Call) (number : ℕ) (row : Row) : Type 0 where
@@ -59,11 +60,13 @@ module _ {D : Type 0} {g : disk.Ghosts D} where
   AreAsEnded x (In_call call) last now = WereRead last now ⊎ WereSaved x last call now
   AreAsEnded x Upgrading last now = LeavesAll over_files last.rows now
 
--- A process ended, in whatever way, and its rows are in files. An open of what a crash leaves of them, if it is not refused,
--- finds the store's own tables, the same station, and the rows and the version that a day allows the next process.
+-- A process ended, in whatever way, and its rows are in files. A crash left these of them. Then lives of them were begun or ended, none or any number,
+-- each perhaps cut off by a crash, so the files that there are now stand for those that were left. An open of them, if it is not refused, finds the
+-- store's own tables, the same station, and the rows and the version that a day allows the next process.
 abbrev pub StartsHandOver : (D : Type 0) (g : disk.Ghosts D) (E : Type 0) (h : disk.Ghosts E) → Sight (SqliteOf (FileStore D g)) → Type 0
 StartsHandOver D g E h x =
-    (ending : Ending) (last : Station (SqliteOf (FileStore D g))) (now : SqliteOf (FileStore D g)) (files : Files D) (left : Image) (again : SqliteOf (FileStore E h))
-    → AreAsEnded x ending last now → GivesUp g now.conn files → AreClean g files.log files.db → outcomes g files.log files.db left → AreOpenedFrom left again
+    (ending : Ending) (last : Station (SqliteOf (FileStore D g))) (now : SqliteOf (FileStore D g)) (files : Files D) (left begun : Image) (again : SqliteOf (FileStore E h))
+    → AreAsEnded x ending last now → GivesUp g now.conn files → AreClean g files.log files.db → outcomes g files.log files.db left
+    → StandFor left begun → AreOpenedFrom begun again
     → IsOurs again.alone again.was again.found × (again.identity ≡ last.rows.identity)
     × FindsRows x ending last (saved_of over_files again) (rows_version again)

@@ -9,21 +9,19 @@ use rows_saved::{Grouped, Rows};
 use sqlite::FileStore;
 use sqlite_disk::Disk;
 
-/// However a process ended, the next start finds of its rows in files what a day allows. `D` are the disks before, `E` those
-/// of the next start.
+/// Crash, start, open: however a process ended, and however many starts were cut off before one opened its files, that one finds of its
+/// rows what a day allows. These are the rows from before the call that was cut off, or from behind it. `D` are the disks before, `E`
+/// those of the start that opens them.
 pub fn starts_hand_over<D: Disk + Drop, E: Disk + Drop>()
     ensures { StartsHandOver D D.Disk E E.Disk (sight ⟦<SqliteRows<FileStore<D>> as Rows>⟧) }
 {
-    laws::what_is_left_is_found::<D, E>();
-    laws::a_crash_at_rest_is_a_restart::<D, E, (), (), ()>();
-    laws::an_upgrade_outlives_crashes::<D, E>();
+    laws::what_is_begun_is_found::<D, E>();
 }
 
-/// However a process ended that saves its steps in groups, the next start finds of its rows in files what a day allows after a
-/// process at rest: its station's rows before the last group, or after all of it.
+/// The same of a process that saves its steps in groups. What is found is what a day allows after a process at rest: its station's rows
+/// before the last group, or after all of it.
 pub fn groups_hand_over<D: Disk + Drop, E: Disk + Drop>()
     ensures { GroupsHandOver D D.Disk E E.Disk (sight ⟦<Grouped<SqliteRows<FileStore<D>>> as Rows>⟧) }
 {
-    laws::a_crash_at_rest_is_a_restart::<D, E, (), (), ()>();
-    laws::a_group_outlives_crashes::<D, E>();
+    laws::what_is_begun_is_found::<D, E>();
 }

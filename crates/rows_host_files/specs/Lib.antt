@@ -1,2 +1,5 @@
+pub mod Causes
 pub mod Collecting
+pub mod Living
+pub mod Starting
 pub mod Taking

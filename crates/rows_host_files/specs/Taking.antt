@@ -1,6 +1,6 @@
 -- Rows that were made in two files of the host, and rows that were taken up from them. A type of files says what is supposed of them:
 -- what they held as they were opened, and what a torn write may leave.
-use Rattle.std.specs.Prelude.{◌≡◌, Option, None, false}
+use Rattle.std.specs.Prelude.{◌≡◌, ◌⊎◌, Option, None, false}
 use Rattle.sqlite_disk.specs.declared.calls.Calls as calls
 use Rattle.sqlite_disk.specs.declared.start.Start as start
 use Rattle.sqlite_disk.specs.declared.Disk as disk
@@ -13,15 +13,23 @@ use Rattle.protocol.specs.Versions.{Version, Two}
 use Rattle.sqlite_trees.specs.declared.store.Store as trees
 use Rattle.rows_saved.specs.Saved.{SameRows}
 use Rattle.rows_saved.specs.declared.identity.Identity.{Identity}
-use Rattle.acceptor_store.specs.Sqlite.{SqliteOf, Agrees, HoldsNoRow, IsKept, IsOpen, IsOurs, rows_version, saved_of}
-use Rattle.acceptor_store.specs.Files.{MakesItsOwn, OpensItsOwn, WasClosed}
+use Rattle.acceptor_store.specs.Sqlite.{SqliteOf, HoldsNoRow, IsKept, IsOpen, IsOurs, rows_version, saved_of}
+use Rattle.acceptor_store.specs.declared.faults.FileFault.{FileFault}
+use Rattle.acceptor_store.specs.Files.{AreMadeIn, MakesItsOwn}
+use Rattle.acceptor_store.specs.Untaken.{AreUnmade}
+use Rattle.rows_files.specs.declared.causes.RefusedRows.{RefusedRows}
+use Rattle.rows_host_files.specs.Causes.{refusal_of}
+use Rattle.rows_host_files.specs.Living.{AreInLife, WasClosed}
 
 module _ {C S : Type 0} {c : calls.Ghosts C} {first : start.Ghosts S} {g : disk.Ghosts (Modelled C S c first)} where
-  -- they were taken up for the station that is given, if any, and go on; a torn write is taken to leave any bytes
+  -- they were taken up for the station that is given, if any, in a life that was begun of just the two files that the host opened; a torn
+  -- write is taken to leave any bytes.
+  --
+  -- The path is in no word: that the two are those at the path of the row file, plays show. And one premise joins a start to the last end or crash,
+  -- *an open finds what the last close left*: what the two held as they were opened is what was left of those at this path. No clause of the
+  -- kit says which contents stand where.
   pub record AreOpened (given : Option Identity) (s : SqliteOf (FileStore (Modelled C S c first) g)) : Type 0 where
-    pub its_own : OpensItsOwn (image_at first) s
-    pub agrees : Agrees given s.identity
-    pub goes : s.stopped ≡ false
+    pub in_life : AreInLife (image_at first) given s
     pub wary : first.is_mixing ≡ false
 
   -- they were made for a station, at a version, without a row, and their file was closed with all of them; a torn write is taken to
@@ -54,3 +62,9 @@ HasUpgraded {C} {S} {c} {first} g = (was : SqliteOf (FileStore (Modelled C S c f
 -- in files of this type rows were made so
 abbrev pub HasMade : {C S : Type 0} {c : calls.Ghosts C} {first : start.Ghosts S} → disk.Ghosts (Modelled C S c first) → Identity → Version → Type 0
 HasMade {C} {S} {c} {first} g i version = (s : SqliteOf (FileStore (Modelled C S c first) g)) × WereMade i version s
+
+-- in files of this type no rows were made, and they are refused by just the fault that they are not made for; or they were made, and their file was not closed
+abbrev pub IsNotMade : {C S : Type 0} {c : calls.Ghosts C} {first : start.Ghosts S} → disk.Ghosts (Modelled C S c first) → Identity → Version → RefusedRows → Type 0
+IsNotMade {C} {S} {c} {first} g i version refused =
+    ((fault : FileFault) × (refused ≡ refusal_of fault) × AreUnmade g (image_at first) i version fault)
+    ⊎ ((s : SqliteOf (FileStore (Modelled C S c first) g)) × AreMadeIn (image_at first) i version s)

@@ -1,7 +1,7 @@
 //! Why a host's file of saved rows is refused, in the words of those who ask for files of rows.
 
 ghost use Rattle.std.specs.Prelude.{◌≡◌};
-ghost use Rattle.acceptor_store.specs.Faults.{rows_fault};
+ghost use Rattle.rows_host_files.specs.Causes.{refusal_of};
 
 use acceptor_store::FileFault;
 use rows_files::{RefusedRows, RowsCause};
@@ -9,10 +9,9 @@ use rows_saved::RowsFault;
 
 /// How rows are refused whose file has this fault. A fault of theirs that tells all has no cause beside it.
 pub(crate) fn refused_by(fault: FileFault) -> RefusedRows
-    ensures { result.fault ≡ rows_fault fault }
+    ensures { result ≡ refusal_of fault }
 {
     match fault {
-        FileFault::Missing => RefusedRows::for_cause(RowsCause::Missing),
         FileFault::InUse => RefusedRows::for_cause(RowsCause::InUse),
         FileFault::Unmade => RefusedRows::for_cause(RowsCause::Unmade),
         FileFault::Made => RefusedRows::for_cause(RowsCause::Made),

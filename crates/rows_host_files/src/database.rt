@@ -4,7 +4,7 @@ ghost use Rattle.std.specs.Prelude.{◌≡◌, IfOk, OnOk, IfErr};
 ghost use Rattle.std.specs.Io.KnownBytes.{Appends};
 ghost use Rattle.rows_command.specs.RowsText.{layout_text};
 ghost use Rattle.command_ends.specs.Ends.{end_of, IsOfRows};
-ghost use Rattle.acceptor_store.specs.Files.{WasClosed};
+ghost use Rattle.rows_host_files.specs.Living.{EndsAs, WasClosed};
 ghost use Rattle.rows_host_files.specs.Taking.{AreUpgraded, WereUpgraded};
 ghost use Rattle.rows_host_files.specs.declared.database.RowsTask.TheVariants.{Upgrade};
 
@@ -14,7 +14,7 @@ use command_ends::Fault;
 use rows_command::{print_rows, upgrade_rows};
 use rows_files::RefusedRows;
 use rows_life::end_life;
-use sqlite::{Alter, FileStore};
+use sqlite::{Alter, FileStore, Files};
 use sqlite_disk::Disk;
 use std::alloc::Global;
 use std::io::Write;
@@ -45,24 +45,32 @@ fn carried_out<S: Alter + Drop, W: Write>(
     Ok(rows)
 }
 
-/// Closes a database, and its files, and marks the one that has all as at rest; also where that is refused the files are let go, as
-/// they are.
-pub(crate) fn close_database<D: Disk + Drop>(
-    rows: SqliteRows<FileStore<D>>,
-) -> Result<(), RefusedRows>
-    ensures { OnOk result (WasClosed rows) }
+/// The two files of a database that is closed: the one has all, and is marked as at rest. Where that is refused the files are let go, as they
+/// are.
+pub(crate) fn ended<D: Disk + Drop>(rows: SqliteRows<FileStore<D>>) -> Result<Files<D>, RefusedRows>
+    ensures { IfOk result (EndsAs rows) }
 {
     match rows.close() {
         Ok(files) => {
             let mut files = files;
             end_life(&mut files)?;
-            Ok(())
+            Ok(files)
         }
         Err((fault, store)) => {
             let _files = store.close();
             Err(refused_by(fault))
         }
     }
+}
+
+/// Closes a database, and its files, and marks the one that has all as at rest.
+pub(crate) fn close_database<D: Disk + Drop>(
+    rows: SqliteRows<FileStore<D>>,
+) -> Result<(), RefusedRows>
+    ensures { OnOk result (WasClosed rows) }
+{
+    let _files = ended(rows)?;
+    Ok(())
 }
 
 /// Does this with the rows of a database, and closes it where there is no fault. A store of files meets a function over any

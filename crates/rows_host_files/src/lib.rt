@@ -6,9 +6,11 @@ mod collecting;
 mod database;
 mod host_files;
 mod known;
+pub mod laws;
 mod life;
 mod look;
 mod making;
+mod opening;
 
 pub use host_files::HostFiles;
 pub use known::known_rows;

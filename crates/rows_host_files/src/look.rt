@@ -1,8 +1,7 @@
 //! What stands at the path of a row file, by plain reads: a look writes nothing, and opens nothing but a file.
 
 use rows_files::{
-    FoundFile, FoundLog, HEAD_LEN, Mark, RefusedRows, RowsCause, file_of, making_refusal,
-    opening_refusal,
+    FoundFile, FoundLog, HEAD_LEN, RefusedRows, RowsCause, file_of, making_refusal, opening_refusal,
 };
 use rows_life::{LOG_HEAD_LEN, log_of};
 use std::fs::File;
@@ -117,37 +116,11 @@ pub(crate) fn test_making(rt: &HostRuntime, path: &str) -> Result<(), RefusedRow
     }
 }
 
-/// The mark of a file.
-fn mark_of(file: FoundFile) -> Mark {
-    match file {
-        FoundFile::Database(mark) => mark,
-        FoundFile::Nothing | FoundFile::Foreign | FoundFile::Bare => Mark::Unmarked,
-    }
-}
-
-/// The mark of the row file at a path. One at which no row file is to be opened is refused.
-pub(crate) fn test_opening(rt: &HostRuntime, path: &str) -> Result<Mark, RefusedRows> {
+/// Refuses a path at which no row file is to be opened.
+pub(crate) fn test_opening(rt: &HostRuntime, path: &str) -> Result<(), RefusedRows> {
     let found = found_at(rt, path)?;
-    let file = found.file();
-    match opening_refusal(file, found.log) {
-        None => Ok(mark_of(file)),
+    match opening_refusal(found.file(), found.log) {
+        None => Ok(()),
         Some(cause) => Err(refused_at(rt, path, &found, cause)),
-    }
-}
-
-/// Refuses a row file that is open here, and of which no life goes on: another process has had it since its life was begun.
-pub(crate) fn test_begun(rt: &HostRuntime, path: &str) -> Result<(), RefusedRows> {
-    let found = found_at(rt, path)?;
-    let file = found.file();
-    let goes_on = match file {
-        FoundFile::Database(Mark::InUse(_) | Mark::Unmarkable) => {
-            opening_refusal(file, found.log).is_none()
-        }
-        _ => false,
-    };
-    if goes_on {
-        Ok(())
-    } else {
-        Err(RefusedRows::for_cause(RowsCause::InUse))
     }
 }

@@ -1,9 +1,9 @@
 //! A row file that is made whole: under another name in its folder, which it leaves once the disk has all of it.
 
-ghost use Rattle.std.specs.Prelude.{OnOk};
+ghost use Rattle.std.specs.Prelude.{IfErr, OnOk};
 ghost use Rattle.tape_frames.specs.Entries.{version_of};
 ghost use Rattle.rows_saved.specs.Identity.{IsIdentity};
-ghost use Rattle.rows_host_files.specs.Taking.{HasMade};
+ghost use Rattle.rows_host_files.specs.Taking.{HasMade, IsNotMade};
 
 use crate::causes::refused_by;
 use crate::database::close_database;
@@ -64,7 +64,8 @@ fn remove(rt: &HostRuntime, path: &str) -> io::Result<()> {
 /// Makes a row file where none is, and closes it, so that the file alone has all.
 fn make_closed(rt: &HostRuntime, new: NewRows<'_>) -> Result<(), RefusedRows>
     requires { IsIdentity new.identity }
-    ensures { OnOk result (HasMade ⟦<FileFrom<Wary> as Disk>⟧ new.entry.identity (version_of new.entry.version)) }
+    ensures made { OnOk result (HasMade ⟦<FileFrom<Wary> as Disk>⟧ new.entry.identity (version_of new.entry.version)) }
+    ensures refused { IfErr result (IsNotMade ⟦<FileFrom<Wary> as Disk>⟧ new.entry.identity (version_of new.entry.version)) }
 {
     let tables = NewTables {
         identity: new.identity,

@@ -1,1 +1,6 @@
-pub mod LifeLemmas
+mod LifeLemmas
+mod KeepingLemmas
+mod RenewLemmas
+mod FilesLemmas
+mod HeadLemmas
+mod SumLemmas

@@ -1,3 +1,4 @@
 pub mod Acts
+pub mod Keeping
 pub mod Lives
 pub mod Logs

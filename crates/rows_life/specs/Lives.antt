@@ -24,6 +24,10 @@ pub record IsBegun (n : ℕ) (file wal : List ℕ) : Type 0 where
   pub in_use : IsInUse n file
   pub log : log_of wal ≡ Blank (Some n)
 
+-- this front of a file is of bytes
+abbrev pub BeginsWithBytes : ℕ → List ℕ → Type 0
+BeginsWithBytes n file = (i : ℕ) → i < n → slice_index file i < 0x100
+
 -- what a file with these bytes is
 abbrev pub file_in : List ℕ → FoundFile
 file_in file = file_of (take 108 file)

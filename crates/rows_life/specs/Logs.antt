@@ -1,5 +1,5 @@
 -- What the first bytes of a log tell, in the words of SQLite's file format (4.1, 4.2).
-use Rattle.std.specs.Prelude.{ℕ, ◌+◌, ◌*◌, ◌-◌, ◌==◌, ◌&&◌, ◌||◌, not, List, Bool, if◌then◌else◌, false, Option, Some, None, length, take, slice_index, slice_set, nat_le}
+use Rattle.std.specs.Prelude.{◌≡◌, ℕ, ◌+◌, ◌*◌, ◌-◌, ◌==◌, ◌&&◌, ◌||◌, not, List, Bool, if◌then◌else◌, false, Option, Some, None, length, take, slice_index, slice_set, nat_le}
 use Rattle.sqlite_wal.specs.Format.{checksum}
 use Rattle.rows_files.specs.declared.found.FoundLog.{FoundLog}
 use Rattle.rows_files.specs.declared.found.FoundLog.TheVariants.{Empty, Blank, Filled}
@@ -48,3 +48,9 @@ begins_frame head =
 -- what a log is that begins with these bytes
 abbrev pub log_of : List ℕ → FoundLog
 log_of head = if length head == 0 then Empty else (if begins_frame head then Filled (number_of head) else Blank (number_of head))
+
+-- it begins with all of the magic number, in the one version, and names pages of this size
+pub record IsHeaded (page_size : ℕ) (head : List ℕ) : Type 0 where
+  pub first : slice_index head 0 ≡ 0x37
+  pub version : number_at head 4 ≡ 3007000
+  pub size : number_at head 8 ≡ page_size

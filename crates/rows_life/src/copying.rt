@@ -3,6 +3,8 @@
 ghost use Rattle.std.specs.Prelude.{IsTrue};
 ghost use Rattle.sqlite_wal.specs.Log.{AreUsable, state};
 ghost use Rattle.sqlite_wal.specs.Reads.{AreClean};
+ghost use Rattle.sqlite_wal.specs.Recovery.{AddsNothing};
+ghost use Rattle.rows_life.specs.Keeping.{KeepPages};
 
 use crate::looking::failed;
 use rows_files::{RefusedRows, RowsCause};
@@ -12,7 +14,7 @@ use sqlite_wal::{Error, Log, probe_page_size};
 use std::alloc::Global;
 
 /// Why rows are refused whose log is not copied.
-fn refused_by(error: Error) -> RefusedRows {
+pub(crate) fn refused_by(error: Error) -> RefusedRows {
     match error {
         Error::OutOfMemory => RefusedRows::by(RowsFault::OutOfMemory),
         Error::Io(error) if is_no_room(&error) => RefusedRows::for_cause(RowsCause::DiskFull),
@@ -35,19 +37,21 @@ fn told(done: Result<(), Error>) -> Result<(), RefusedRows> {
 fn empty<D: Disk>(log: &mut Log<D>) -> Result<(), Error>
     requires { AreUsable log.old }
     ensures clean { IsTrue (state log.new).is_clean → IsTrue (state log.old).is_clean }
+    ensures kept { AddsNothing (state log.old).page_size (state log.old).may_leave (state log.new).may_leave }
 {
     log.recover()?;
     log.finish()
 }
 
-/// The files once what the log held stands in the database's file, and what is the matter where it does not: they may be used no more, or
-/// the disk refuses. A crash leaves what the two files stood for.
+/// The files once the pages that the log held are in the database's file. If they are not, the result says why: the files may no longer
+/// be used, or the disk refuses. Wherever a crash cuts the copy off, the two files have the pages that they had.
 pub(crate) fn copied<D: Disk>(
     alloc: Global,
     files: Files<D>,
     seed: u64,
 ) -> (Files<D>, Result<(), RefusedRows>)
     ensures clean { AreClean D.Disk result.0.log result.0.db → AreClean D.Disk files.log files.db }
+    ensures kept { KeepPages D.Disk files result.0 }
 {
     if !files.may_be_used() {
         return (files, Err(failed()));

@@ -8,6 +8,7 @@ pub mod laws;
 mod log_head;
 mod looking;
 mod marks;
+mod sums;
 
 pub use beginning::{begin_life, end_life};
 pub use log_head::{LOG_HEAD_LEN, log_of};

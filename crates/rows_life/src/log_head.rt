@@ -1,8 +1,9 @@
 //! What the first bytes of a log tell: whether it may hold a frame, and the number of the life that it belongs to.
 
-ghost use Rattle.std.specs.Prelude.{◌≡◌, ◌+◌, ◌≤◌, Some, length, IfSome};
+ghost use Rattle.std.specs.Prelude.{◌≡◌, ◌+◌, ◌≤◌, Some, length, IfSome, IsTrue};
+ghost use Rattle.rows_life.specs.Keeping.{IsNewLog};
 ghost use Rattle.rows_files.specs.declared.found.FoundLog.TheVariants.{Blank};
-ghost use Rattle.rows_life.specs.Logs.{number_at, number_in, has_sum, is_signed, is_uncut, number_of, begins_frame, log_of};
+ghost use Rattle.rows_life.specs.Logs.{number_at, number_in, has_sum, is_signed, is_uncut, number_of, begins_frame, log_of, IsHeaded};
 
 use rows_files::FoundLog;
 use sqlite_wal::checksum_of;
@@ -120,6 +121,14 @@ pub fn log_of(head: &[u8]) -> FoundLog
     }
 }
 
+/// Whether a log begins as one of the one version does, for pages of this size.
+fn is_headed(log: &[u8], page_size: u32) -> bool
+    requires { 56 ≤ length log.now }
+    ensures { IsTrue result → IsHeaded page_size log.now }
+{
+    log[0] == MAGIC[0] && number_at(log, 4) == VERSION && number_at(log, 8) == page_size
+}
+
 /// Writes a number as four bytes, the highest first.
 fn put(bytes: &mut [u8; LOG_HEAD_LEN], at: usize, number: u32)
     requires { at + 4 ≤ 56 }
@@ -132,7 +141,8 @@ fn put(bytes: &mut [u8; LOG_HEAD_LEN], at: usize, number: u32)
 /// It is read as the next start reads it before it is given.
 pub(crate) fn new_log(page_size: u32, number: u32, salt: u32) -> Option<[u8; LOG_HEAD_LEN]>
     requires { number ≤ 0xff_ffff }
-    ensures { IfSome result (λ bytes. log_of bytes ≡ Blank (Some number)) }
+    ensures blank { IfSome result (λ bytes. log_of bytes ≡ Blank (Some number)) }
+    ensures made { IfSome result (λ bytes. IsNewLog page_size bytes) }
 {
     let mut log = [0u8; LOG_HEAD_LEN];
     log[..4].copy_from_slice(&MAGIC);
@@ -143,7 +153,7 @@ pub(crate) fn new_log(page_size: u32, number: u32, salt: u32) -> Option<[u8; LOG
     let (first, second) = checksum_of(false, (0, 0), &log[..24]);
     put(&mut log, 24, first);
     put(&mut log, 28, second);
-    if log_of(&log) == FoundLog::Blank(Some(number)) {
+    if log_of(&log) == FoundLog::Blank(Some(number)) && is_headed(&log, page_size) {
         Some(log)
     } else {
         None

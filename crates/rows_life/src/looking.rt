@@ -1,21 +1,31 @@
 //! What a row file and its log are, as they are read once no other process may change them.
 
-ghost use Rattle.std.specs.Prelude.{IsTrue};
+ghost use Rattle.std.specs.Prelude.{IsTrue, OnOk, length};
+ghost use Rattle.sqlite_wal.specs.Reads.{IsClean};
 ghost use Rattle.rows_life.specs.Acts.{IsRead, AreRead};
-ghost use Rattle.rows_life.specs.Lives.{file_in, log_in, page_size_in};
+ghost use Rattle.rows_life.specs.Lives.{file_in, log_in, page_size_in, BeginsWithBytes};
 
 use crate::log_head::{LOG_HEAD_LEN, log_of};
 use rows_files::{FoundFile, FoundLog, HEAD_LEN, RefusedRows, RowsCause, file_of};
 use sqlite_disk::{Disk, Files};
 use std::io;
 
+/// Tells the proofs that bytes are less than 256.
+fn are_bytes(bytes: &[u8])
+    ensures { BeginsWithBytes (length bytes.now) bytes.now }
+{
+    let _ = bytes;
+}
+
 /// What a database's file is.
 pub(crate) fn file_on<D: Disk>(db: &mut D) -> io::Result<FoundFile>
     requires { IsTrue (D.Disk.is_usable db.old) }
-    ensures { IsRead D.Disk file_in db.old db.new result }
+    ensures file { IsRead D.Disk file_in db.old db.new result }
+    ensures bytes { OnOk result (IsClean D.Disk db.new → BeginsWithBytes 108 (D.Disk.seen db.old)) }
 {
     let mut head = [0; HEAD_LEN];
     db.read_at(0, &mut head)?;
+    are_bytes(&head);
     Ok(file_of(&head))
 }
 

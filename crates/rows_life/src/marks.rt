@@ -3,6 +3,7 @@
 ghost use Rattle.std.specs.Prelude.{◌≤◌, IsTrue};
 ghost use Rattle.rows_files.specs.Found.{HoldsNoFrame};
 ghost use Rattle.rows_life.specs.Acts.{IsWritten};
+ghost use Rattle.rows_life.specs.Keeping.{WritesTheMark};
 ghost use Rattle.rows_life.specs.Lives.{IsAtRest, IsInUse};
 
 use rows_files::{AT_REST, FoundLog, IN_USE, MARK_AT};
@@ -15,7 +16,8 @@ use std::io;
 pub(crate) fn mark_at_rest<D: Disk>(db: &mut D, held: FoundLog) -> io::Result<()>
     requires usable { IsTrue (D.Disk.is_usable db.old) }
     requires copied { HoldsNoFrame held }
-    ensures { IsWritten D.Disk IsAtRest db.old db.new result }
+    ensures rests { IsWritten D.Disk IsAtRest db.old db.new result }
+    ensures mark { WritesTheMark D.Disk db.old db.new }
 {
     let _ = held;
     db.write_at(MARK_AT, &[AT_REST])?;
@@ -28,7 +30,8 @@ pub(crate) fn mark_at_rest<D: Disk>(db: &mut D, held: FoundLog) -> io::Result<()
 pub(crate) fn mark_in_use<D: Disk>(db: &mut D, number: u32) -> io::Result<()>
     requires usable { IsTrue (D.Disk.is_usable db.old) }
     requires number { number ≤ 0xff_ffff }
-    ensures { IsWritten D.Disk (IsInUse number) db.old db.new result }
+    ensures uses { IsWritten D.Disk (IsInUse number) db.old db.new result }
+    ensures mark { WritesTheMark D.Disk db.old db.new }
 {
     let digits = [
         (number / 0x1_0000) as u8,

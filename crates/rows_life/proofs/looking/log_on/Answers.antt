@@ -14,4 +14,8 @@ returns g c =
           c.log_of.ensures ∙ ap log_of (read_front _ _ 56 long (λ some. rw c.len.ensures.seen at (c.in_ok-read_at.ensures.read clean (search (rules, some)))));
       clean = λ clean. c.len.ensures.clean (c.in_ok-read_at.ensures.clean clean);
       usable = c.in_ok-read_at.ensures.usable;
+      unwritten = record {
+        seen = c.in_ok-read_at.ensures.seen ∙ c.len.ensures.seen;
+        crash = λ x may. c.len.ensures.crash x (c.in_ok-read_at.ensures.crash x may);
+      };
     }
