@@ -171,11 +171,24 @@ def at_commit(commit):
 # Functions, and what a library says
 
 
+def module_of(file):
+    return re.sub(r'(^|/)(mod|lib|main)$', '', file[len('src/'):-len('.rt')]).replace('/', '::')
+
+
+def types_of(home):
+    """The module in which each type of a crate stands: a check names a method of the type by it, wherever its `impl` stands."""
+    found = {}
+    for at, _, names in sorted(os.walk(os.path.join(home, 'src'))):
+        for path in sorted(os.path.join(at, name) for name in names if name.endswith('.rt')):
+            for name in re.findall(r'^(?:pub(?:\([a-z]+\))? )?(?:struct|enum) (\w+)', read(path), re.MULTILINE):
+                found.setdefault(name, module_of(os.path.relpath(path, home)))
+    return found
+
+
 class Function:
     """A function of a source file: its lines, and its name in what a check says."""
 
-    def __init__(self, crate, file, impl, name, first, last):
-        module = re.sub(r'(^|/)(mod|lib|main)$', '', file[len('src/'):-len('.rt')]).replace('/', '::')
+    def __init__(self, crate, file, module, impl, name, first, last):
         self.file, self.first, self.last = file, first, last
         self.path = '::'.join(part for part in (crate, module, impl, name) if part)
         self.short = '::'.join(part for part in (module, impl, name) if part)
@@ -192,29 +205,32 @@ class Function:
         return file == self.file and self.first <= at <= self.last or file.startswith(self.proofs)
 
 
-def functions_of(crate, file, text):
+def functions_of(crate, file, text, types):
     """The functions of a source file, by rt fmt's layout: each ends at the brace that stands below its head."""
-    lines, found, impl, impl_ends = text.split('\n'), [], '', -1
+    lines, found, impl, impl_ends, own = text.split('\n'), [], '', -1, module_of(file)
+    module = own
     for at, line in enumerate(lines):
         if at > impl_ends:
             impl = ''
         if line.startswith('impl'):
             head = IMPL.match(line)
             impl = head.group(2) + (head.group(1) or '') if head else ''
+            module = types.get(impl, own)
             impl_ends = next((end for end in range(at, len(lines)) if lines[end] in ('}', '{}') or lines[end].endswith('{}')), at)
         head = HEAD.match(line)
         if head:
             last = at
             while last + 1 < len(lines) and lines[last] != head.group(1) + '}' and not HEAD.match(lines[last + 1]):
                 last += 1
-            found.append(Function(crate, file, impl if head.group(1) else '', head.group(2), at + 1, last + 1))
+            is_method = bool(head.group(1))
+            found.append(Function(crate, file, module if is_method else own, impl if is_method else '', head.group(2), at + 1, last + 1))
     return found
 
 
 def without_bodies(text):
     """A source file without comments and without what stands in the braces of its functions: what another crate's proof can rest on."""
     lines, left = text.split('\n'), []
-    bodies = {each.first - 1: each.last - 1 for each in functions_of('', 'src/lib.rt', text)}
+    bodies = {each.first - 1: each.last - 1 for each in functions_of('', 'src/lib.rt', text, {})}
     at = 0
     while at < len(lines):
         last, line = bodies.get(at), lines[at]
@@ -410,19 +426,19 @@ class Edit:
         self.alone = len(self.functions) != 1
 
     def functions_in(self, home):
-        found, texts = {}, {}
+        found, texts, types = {}, {}, types_of(home)
         for file, old, new in self.pairs:
             if not file.startswith('src/') or not os.path.isfile(os.path.join(home, file)):
                 return []
             text = texts.get(file) or read(os.path.join(home, file))
             at = text.partition(old)[0].count('\n') + 1
-            own = [each for each in functions_of(self.crate, file, text) if each.first <= at <= each.last]
+            own = [each for each in functions_of(self.crate, file, text, types) if each.first <= at <= each.last]
             if not own:
                 return []
             found[own[0].path] = file
             texts[file] = text.replace(old, new)
         # They stand where they stand in the file as it is.
-        return [each for file in dict.fromkeys(found.values()) for each in functions_of(self.crate, file, read(os.path.join(home, file))) if each.path in found]
+        return [each for file in dict.fromkeys(found.values()) for each in functions_of(self.crate, file, read(os.path.join(home, file)), types) if each.path in found]
 
     def libraries(self):
         """The crates below that it changes."""
