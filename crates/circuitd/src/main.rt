@@ -1,6 +1,8 @@
 //! circuitd: one station of a wire circuit, and the tools round it.
 #![tactic(auto)]
 
+ghost use Rattle.commands.specs.Ends.{AsksForFile};
+
 use command_ends::{End, Fault};
 use command_line::{Asked, parse};
 use commands::{Console, carry_out};
@@ -21,7 +23,9 @@ fn command_words<'a>(rt: &HostRuntime) -> Result<Vec<String>, Fault<'a>> {
 
 /// Carries out what is asked over the standard streams and these files of rows. What is told on standard error is written a line
 /// at a time, and lost where it takes nothing.
-fn carry_out_here<F: RowFiles>(rt: &HostRuntime, asked: &Asked<'_>, row_files: &F) -> End {
+fn carry_out_here<F: RowFiles>(rt: &HostRuntime, asked: &Asked<'_>, row_files: &F) -> End
+    requires { AsksForFile asked.now → F.may_make row_files.now }
+{
     let Ok(mut err) = LineWriter::new(rt.alloc(), StandardError::new(rt.alloc())) else {
         return Fault::OutOfMemory.tell(&mut rt.stderr());
     };
@@ -38,18 +42,15 @@ fn carry_out_here<F: RowFiles>(rt: &HostRuntime, asked: &Asked<'_>, row_files: &
     carry_out(&mut console, asked)
 }
 
-/// Runs the command of these words.
-fn run_words<F: RowFiles>(rt: &HostRuntime, words: &[String], row_files: &F) -> End {
-    match parse(rt.alloc(), words, &mut rt.stdout(), &mut rt.stderr()) {
-        Ok(asked) => carry_out_here(rt, &asked, row_files),
-        Err(end) => end,
-    }
-}
-
 /// Runs the command that the program was called with, over these files of rows.
-fn run<F: RowFiles>(rt: &HostRuntime, row_files: &F) -> End {
+fn run<F: RowFiles>(rt: &HostRuntime, row_files: &F) -> End
+    requires { F.may_make row_files.now }
+{
     match command_words(rt) {
-        Ok(words) => run_words(rt, &words, row_files),
+        Ok(words) => match parse(rt.alloc(), &words, &mut rt.stdout(), &mut rt.stderr()) {
+            Ok(asked) => carry_out_here(rt, &asked, row_files),
+            Err(end) => end,
+        },
         Err(fault) => fault.tell(&mut rt.stderr()),
     }
 }

@@ -1,2 +1,3 @@
 mod Doors
+mod Faults
 pub mod Texts

@@ -1,5 +1,5 @@
--- How `answer` and `create` end, where they are asked for, and `run` by a fault.
-use Rattle.std.specs.Prelude.{◌≡◌, ℕ, List, Option}
+-- How `answer`, `create`, `serve` and `run` end, where they are asked for, and `run` by a fault.
+use Rattle.std.specs.Prelude.{◌≡◌, ℕ, List, Option, IsSome}
 use Rattle.tape_frames.specs.Entries.{version_of}
 use Rattle.tape_frames.specs.declared.version.Version.{Version}
 use Rattle.answer_command.specs.AnswerText.{WritesAnswer, WritesAnswerFront}
@@ -8,7 +8,7 @@ use Rattle.command_ends.specs.declared.end.End.{End}
 use Rattle.command_ends.specs.declared.end.End.TheVariants.{Done, Input}
 use Rattle.rows_saved.specs.declared.identity.Identity.{Identity}
 use Rattle.arguments.specs.declared.asked.Asked.{Asked}
-use Rattle.arguments.specs.declared.asked.Asked.TheVariants.{Answer, Create}
+use Rattle.arguments.specs.declared.asked.Asked.TheVariants.{Answer, Create, Serve, Run}
 use Rattle.arguments.specs.declared.plan.CreatePlan.{CreatePlan}
 use Rattle.commands.specs.Creations.{CreateEnds}
 use Rattle.commands.specs.declared.plant_start.PlantFault.{PlantFault}
@@ -28,6 +28,19 @@ AnswersAsked asked input before after end =
 abbrev pub CreatesAsked : {F : Type 0} → Asked → (F → List ℕ → Identity → Version → Type 0) → F → Option (List ℕ) → Option (List ℕ) → End → Type 0
 CreatesAsked asked leaves files before after end =
     (plan : CreatePlan) → asked ≡ Create plan → CreateEnds leaves files plan.layout before after end
+
+-- a row file is asked for: by `create`, or by `serve` or `run` with `--create`
+abbrev pub AsksForFile : Asked → Type 0
+AsksForFile (Create plan) = Unit {0}
+AsksForFile (Serve plan) = IsSome plan.create
+AsksForFile (Run plan) = IsSome plan.create
+AsksForFile _ = ⊥
+
+-- a command that is asked to serve or to run a station, and ends well, did this, given the version in which rows are to be made, if any are
+abbrev pub StartsAsked : Asked → (Option Version → Type 0) → End → Type 0
+StartsAsked (Serve plan) Did end = end ≡ Done → Did plan.create
+StartsAsked (Run plan) Did end = end ≡ Done → Did plan.create
+StartsAsked _ Did end = Unit {0}
 
 -- the end of `run` by a fault: that of the fault that all commands share, else it is one of an input
 abbrev pub end_in : PlantFault → End

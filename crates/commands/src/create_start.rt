@@ -2,14 +2,20 @@
 
 ghost use Rattle.std.specs.Prelude.{◌≡◌, IfOk, IfErr, OnOk, string_bytes};
 ghost use Rattle.std.specs.Io.KnownBytes.{Appends};
-ghost use Rattle.command_ends.specs.Ends.{end_of, IsOfRows};
+ghost use Rattle.arguments.specs.declared.asked.Asked.TheVariants.{Create};
+ghost use Rattle.command_ends.specs.Ends.{end_of, IsOfInput, IsOfRows};
+ghost use Rattle.command_ends.specs.declared.end.End.TheVariants.{Store};
+ghost use Rattle.configuration.specs.Stations.{IsCircuit};
+ghost use Rattle.rows_files.specs.Telling.{KeepsCause};
 ghost use Rattle.commands.specs.Creations.{layout_number, made_line, CreateEnds, Creates};
+ghost use Rattle.commands.specs.Ends.{AsksForFile};
+ghost use Rattle.commands.specs.Starts.{GivesBesideRows};
 
 use crate::host::{Host, ThisHost};
 use crate::start_up::{Ground, make_rows};
 use command_ends::{End, Fault, end_with};
 use command_line::CreatePlan;
-use configuration::{ConfigInput, NoLookUp, read_config};
+use configuration::{Config, ConfigInput, NoLookUp, read_config};
 use rows_files::{NewRows, RowFiles};
 use std::alloc::{AllocError, Global};
 use std::io::Write;
@@ -44,10 +50,23 @@ fn made_line(alloc: Global, made: NewRows<'_>) -> Result<String, AllocError>
 fn put_made<'a, W: Write>(alloc: Global, made: NewRows<'_>, out: &mut W) -> Result<(), Fault<'a>>
     ensures ok { OnOk result (Appends (W.contents out.old) (W.contents out.new) (made_line made.entry.path.now made.entry.identity made.entry.version)) }
     ensures fault { IfErr result (λ fault. IsOfRows (end_of fault)) }
+    ensures written { IfErr result (λ fault. ¬ (end_of fault ≡ Store)) }
 {
     let line = made_line(alloc, made)?;
     put_whole(out, line.as_bytes())?;
     Ok(())
+}
+
+/// The configuration at a path. No station is talked to, so no host is looked up.
+fn config_at<'a>(host: &ThisHost<'_>, path: &'a str) -> Result<Config, Fault<'a>>
+    ensures given { GivesBesideRows result (λ config. IsCircuit config.member config.stations.items) }
+    ensures input { IfErr result (λ fault. IsOfInput (end_of fault)) }
+{
+    let file = ConfigInput {
+        path,
+        input: host.open(path),
+    };
+    read_config(host.rt.alloc(), &NoLookUp, file)
 }
 
 /// Makes the row file, up to the first fault.
@@ -56,17 +75,13 @@ fn created<'a, F: RowFiles, W: Write>(
     plan: CreatePlan<'a>,
     out: &mut W,
 ) -> Result<(), Fault<'a>>
-    ensures { Creates F.leaves ground.now.row_files.now plan.entry.layout (W.contents out.old) (W.contents out.new) result }
+    requires { F.may_make ground.now.row_files.now }
+    ensures creates { Creates F.leaves ground.now.row_files.now plan.entry.layout (W.contents out.old) (W.contents out.new) result }
+    ensures refused { IfErr result (KeepsCause (F.refuses ground.now.row_files.now)) }
 {
-    let rt = ground.rt;
-    let file = ConfigInput {
-        path: plan.config,
-        input: ground.host.open(plan.config),
-    };
-    // No station is talked to, so no host is looked up.
-    let config = read_config(rt.alloc(), &NoLookUp, file)?;
+    let config = config_at(ground.host, plan.config)?;
     let new = make_rows(ground, &config, plan.layout)?;
-    put_made(rt.alloc(), new, out)
+    put_made(ground.rt.alloc(), new, out)
 }
 
 /// Makes the row file that the configuration at a path names, and writes a line that says what was made, as
@@ -79,6 +94,7 @@ pub fn create<F: RowFiles, W: Write, E: Write>(
     out: &mut W,
     err: &mut E,
 ) -> End
+    requires asked { AsksForFile (Create plan) → F.may_make ground.now.row_files.now }
     ensures ends { CreateEnds F.leaves ground.now.row_files.now plan.entry.layout (W.contents out.old) (W.contents out.new) result }
 {
     end_with(created(ground, plan, out), err)

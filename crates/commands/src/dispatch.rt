@@ -4,7 +4,8 @@ ghost use Rattle.std.specs.Prelude.{◌≡◌, codes};
 ghost use Rattle.std.specs.Io.KnownBytes.{Appends};
 ghost use Rattle.command_ends.specs.declared.end.End.TheVariants.{Done};
 ghost use Rattle.arguments.specs.declared.asked.Asked.TheVariants.{Upgrade};
-ghost use Rattle.commands.specs.Ends.{AnswersAsked, CreatesAsked};
+ghost use Rattle.commands.specs.Ends.{AnswersAsked, AsksForFile, CreatesAsked, StartsAsked};
+ghost use Rattle.commands.specs.Starts.{HasRun};
 
 use crate::console::Console;
 use crate::create_start::create;
@@ -121,14 +122,16 @@ fn run_status<F: RowFiles, R: Read + Drop, W: Write + Drop, E: Write + Drop>(
     status(rt, StatusOrder { config, shape }, out, err)
 }
 
-/// Runs the command that was asked for. A tape or a text whose path is `-` is read from the console's input; a path that can't be opened is
-/// told in the place in which the file would be read.
+/// Runs the command that was asked for. A row file is made only where that is asked for. A tape or a text whose path is `-` is read from
+/// the console's input; a path that can't be opened is told in the place in which the file would be read.
 pub fn carry_out<F: RowFiles, R: Read + Drop, W: Write + Drop, E: Write + Drop>(
     console: &mut Console<'_, F, R, W, E>,
     asked: &Asked<'_>,
 ) -> End
+    requires asked { AsksForFile asked.now → F.may_make console.old.row_files.now }
     ensures answered { AnswersAsked asked.now (R.remaining console.old.input) (W.contents console.old.out) (W.contents console.new.out) result }
     ensures created { CreatesAsked asked.now F.leaves console.old.row_files.now (W.contents console.old.out) (W.contents console.new.out) result }
+    ensures started { StartsAsked asked.now (HasRun F.leaves F.opens F.Rows.version F.closes console.old.row_files.now) result }
     ensures over { (path : _) → asked.now ≡ Upgrade path → result ≡ Done → Appends (W.contents console.old.out) (W.contents console.new.out) (codes "layout 2\n") }
 {
     let rt = console.rt;

@@ -1,7 +1,7 @@
 //! The files that a station reads before it starts.
 
-ghost use Rattle.std.specs.Prelude.{◌≡◌, IfOk, IfSome, string_bytes, option_map};
-ghost use Rattle.commands.specs.Starts.{IsTableAt, AreWidthsAt, IsOffer};
+ghost use Rattle.std.specs.Prelude.{◌≡◌, IfSome, option_map};
+ghost use Rattle.commands.specs.Starts.{AreFilesOf, AreWidthsAt, GivesBesideRows, IsOffer, IsTableAt};
 
 use crate::host::Host;
 use code_table::CodeTable;
@@ -24,7 +24,7 @@ pub(crate) struct Files {
 
 /// The code table in the file at a path.
 fn table_at<'a, H: Host>(alloc: Global, host: &H, path: &'a str) -> Result<CodeTable, Fault<'a>>
-    ensures { IfOk result (λ table. IsTableAt (H.text host.now) path.now table) }
+    ensures { GivesBesideRows result (λ table. IsTableAt (H.text host.now) path.now table) }
 {
     let mut input = host.open(path);
     read_table(alloc, &mut input, path)
@@ -32,7 +32,7 @@ fn table_at<'a, H: Host>(alloc: Global, host: &H, path: &'a str) -> Result<CodeT
 
 /// The measures and widths in the file at a path.
 fn widths_at<'a, H: Host>(alloc: Global, host: &H, path: &'a str) -> Result<Widths, Fault<'a>>
-    ensures { IfOk result (λ widths. AreWidthsAt (H.text host.now) path.now widths) }
+    ensures { GivesBesideRows result (λ widths. AreWidthsAt (H.text host.now) path.now widths) }
 {
     let mut input = host.open(path);
     read_widths(alloc, &mut input, path)
@@ -40,7 +40,7 @@ fn widths_at<'a, H: Host>(alloc: Global, host: &H, path: &'a str) -> Result<Widt
 
 /// The tape in the file at a path.
 fn tape_at<'a, H: Host>(alloc: Global, host: &H, path: &'a str) -> Result<Tape, Fault<'a>>
-    ensures { IfOk result (λ tape. IfSome (H.text host.now path.now) (λ frames. tape ≡ frames)) }
+    ensures { GivesBesideRows result (λ tape. IfSome (H.text host.now path.now) (λ frames. tape ≡ frames)) }
 {
     let mut input = host.open(path);
     read_tape(alloc, &mut input, path)
@@ -52,7 +52,7 @@ fn offer_at<'a, H: Host>(
     host: &H,
     offer: Option<TapeOffer<'a>>,
 ) -> Result<Option<(u32, Tape)>, Fault<'a>>
-    ensures { IfOk result (λ made. IsOffer (H.text host.now) (option_map (λ o. (o.number, o.path.now)) offer.entry) made) }
+    ensures { GivesBesideRows result (λ made. IsOffer (H.text host.now) (option_map (λ o. (o.number, o.path.now)) offer.entry) made) }
 {
     match offer {
         None => Ok(None),
@@ -70,9 +70,7 @@ pub(crate) fn read_files<'a, H: Host>(
     config: &'a Config,
     offer: Option<TapeOffer<'a>>,
 ) -> Result<Files, Fault<'a>>
-    ensures table { IfOk result (λ files. IsTableAt (H.text host.now) (string_bytes config.now.table) files.table) }
-    ensures widths { IfOk result (λ files. AreWidthsAt (H.text host.now) (string_bytes config.now.widths) files.widths) }
-    ensures offer { IfOk result (λ files. IsOffer (H.text host.now) (option_map (λ o. (o.number, o.path.now)) offer.entry) files.offer) }
+    ensures { GivesBesideRows result (AreFilesOf (H.text host.now) config.now (option_map (λ o. (o.number, o.path.now)) offer.entry)) }
 {
     let table = table_at(alloc, host, &config.table)?;
     let widths = widths_at(alloc, host, &config.widths)?;

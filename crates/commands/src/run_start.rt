@@ -1,8 +1,12 @@
 //! The command `run`.
 
-ghost use Rattle.std.specs.Prelude.{◌≡◌, [], Ok, None, IfOk, IfSome, IfNone, IsSome, false, length};
+ghost use Rattle.std.specs.Prelude.{◌≡◌, [], Ok, None, IfOk, IfErr, IfSome, IfNone, IsSome, OnOk, false, length};
+ghost use Rattle.arguments.specs.declared.asked.Asked.TheVariants.{Run};
+ghost use Rattle.configuration.specs.Reading.{file_of};
 ghost use Rattle.configuration.specs.Stations.{IsCircuit};
 ghost use Rattle.rows_files.specs.Knowing.{KnowsAll};
+ghost use Rattle.commands.specs.Ends.{AsksForFile, StartsAsked};
+ghost use Rattle.commands.specs.Starts.{HasRun, HasRunBy, MayStart, WereClosed};
 
 use crate::create_start::layout_number;
 use crate::first_line::{saved_of, tell_first};
@@ -73,6 +77,7 @@ fn known_at<F: RowFiles>(
     ensures none { IfNone plant.now (result ≡ Ok None) }
     ensures some { IfSome plant.now (λ _. IfOk result IsSome) }
     ensures known { F.Rows.kept rows.new.rows → IfOk result (λ any. IfSome any (KnowsAll (F.Rows.saved rows.old.rows))) }
+    ensures refused { IfErr result (F.refuses row_files.now) }
 {
     if plant.is_none() {
         return Ok(None);
@@ -119,12 +124,14 @@ fn run_over<F: RowFiles, N: Wire + Drop, P: Folders + Drop, E: Write>(
     mut machine: Machine<Grouped<F::Rows>, N, P>,
     terms: Terms<HostStatus<'_>>,
     err: &mut E,
-) -> Result<(), Fault<'static>> {
+) -> Result<(), Fault<'static>>
+    ensures { OnOk result (WereClosed F.closes row_files.now) }
+{
     let outcome = run_station(&mut machine, terms, err);
     let rows = machine.station.into_rows().into_rows();
-    let outcome = close_rows(row_files, rows, outcome);
+    close_rows(row_files, rows, outcome)?;
     drop(machine.outside);
-    outcome
+    Ok(())
 }
 
 /// A station that is to be started, the folders of its plant, if it has one, and how much it tells.
@@ -141,7 +148,8 @@ fn run_from<'a, F: RowFiles, E: Write>(
     running: Running<'a, '_>,
     err: &mut E,
 ) -> Result<(), Fault<'a>>
-    requires { IsCircuit running.launch.config.now.member running.launch.config.now.stations.items }
+    requires { MayStart (F.may_make ground.now.row_files.now) running.launch.config.now running.launch.create }
+    ensures { OnOk result (HasRunBy F.leaves F.opens F.Rows.version F.closes ground.now.row_files.now (file_of running.entry.launch.config.now) running.entry.launch.create) }
 {
     let Running {
         launch,
@@ -182,7 +190,7 @@ fn run_from<'a, F: RowFiles, E: Write>(
                 wire,
                 outside: plant.folders,
             };
-            run_over(row_files, machine, terms, err)
+            Ok(run_over(row_files, machine, terms, err)?)
         }
         None => {
             let machine = Machine {
@@ -191,19 +199,21 @@ fn run_from<'a, F: RowFiles, E: Write>(
                 wire,
                 outside: NoFolders,
             };
-            run_over(row_files, machine, terms, err)
+            Ok(run_over(row_files, machine, terms, err)?)
         }
     }
 }
 
-/// Reads the keys that a configuration names, and runs its station over the folders of its plant.
+/// Reads the keys that a configuration names, and runs its station over the folders of its plant. Its row file is made where the plan
+/// says so, and only there.
 fn run_at<'a, F: RowFiles, E: Write>(
     ground: &Ground<'_, ThisHost<'_>, F>,
     plan: RunPlan<'_>,
     config: &'a Config,
     err: &mut E,
 ) -> Result<(), PlantFault<'a>>
-    requires { IsCircuit config.now.member config.now.stations.items }
+    requires { MayStart (F.may_make ground.now.row_files.now) config.now plan.create }
+    ensures { OnOk result (HasRunBy F.leaves F.opens F.Rows.version F.closes ground.now.row_files.now (file_of config.now) plan.entry.create) }
 {
     let rt = ground.rt;
     let keys = keys_of(rt, config)?;
@@ -228,7 +238,10 @@ fn run_to_the_end<F: RowFiles, E: Write>(
     ground: &Ground<'_, ThisHost<'_>, F>,
     plan: RunPlan<'_>,
     err: &mut E,
-) -> End {
+) -> End
+    requires asked { AsksForFile (Run plan) → F.may_make ground.now.row_files.now }
+    ensures { StartsAsked (Run plan.entry) (HasRun F.leaves F.opens F.Rows.version F.closes ground.now.row_files.now) result }
+{
     let rt = ground.rt;
     let file = ConfigInput {
         path: plan.config,
@@ -249,7 +262,10 @@ pub fn run<F: RowFiles, E: Write>(
     ground: &Ground<'_, ThisHost<'_>, F>,
     plan: RunPlan<'_>,
     err: &mut E,
-) -> End {
+) -> End
+    requires asked { AsksForFile (Run plan) → F.may_make ground.now.row_files.now }
+    ensures { StartsAsked (Run plan.entry) (HasRun F.leaves F.opens F.Rows.version F.closes ground.now.row_files.now) result }
+{
     if plan.log.times {
         let mut err = TimedLines::new(ground.rt.alloc(), ground.rt, err);
         run_to_the_end(ground, plan, &mut err)

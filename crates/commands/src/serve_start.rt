@@ -1,6 +1,10 @@
 //! The command `serve`.
 
-ghost use Rattle.configuration.specs.Stations.{IsCircuit};
+ghost use Rattle.std.specs.Prelude.{OnOk};
+ghost use Rattle.arguments.specs.declared.asked.Asked.TheVariants.{Serve};
+ghost use Rattle.configuration.specs.Reading.{file_of};
+ghost use Rattle.commands.specs.Ends.{AsksForFile, StartsAsked};
+ghost use Rattle.commands.specs.Starts.{HasRun, HasRunBy, MayStart};
 
 use crate::host::{Host, ThisHost};
 use crate::keys::keys_of;
@@ -27,7 +31,8 @@ fn serve_from<'a, F: RowFiles, W: Write, E: Write>(
     out: &mut W,
     err: &mut E,
 ) -> Result<(), Fault<'a>>
-    requires { IsCircuit serving.config.now.member serving.config.now.stations.items }
+    requires { MayStart (F.may_make ground.now.row_files.now) serving.config.now serving.plan.create }
+    ensures { OnOk result (HasRunBy F.leaves F.opens F.Rows.version F.closes ground.now.row_files.now (file_of serving.entry.config.now) serving.entry.plan.create) }
 {
     let Serving { config, plan } = serving;
     let rt = ground.rt;
@@ -57,7 +62,8 @@ fn serve_from<'a, F: RowFiles, W: Write, E: Write>(
     };
     let outcome = serve_run(&mut machine, task, err);
     let rows = machine.station.into_rows().into_rows();
-    close_rows(ground.row_files, rows, outcome)
+    close_rows(ground.row_files, rows, outcome)?;
+    Ok(())
 }
 
 /// Serves the station of a configuration as the plan asks, with its rows saved in one of the files.
@@ -69,16 +75,18 @@ pub fn serve<F: RowFiles, W: Write, E: Write>(
     plan: Plan<'_>,
     out: &mut W,
     err: &mut E,
-) -> End {
+) -> End
+    requires asked { AsksForFile (Serve plan) → F.may_make ground.now.row_files.now }
+    ensures { StartsAsked (Serve plan.entry) (HasRun F.leaves F.opens F.Rows.version F.closes ground.now.row_files.now) result }
+{
     let rt = ground.rt;
     let file = ConfigInput {
         path: plan.config,
         input: ground.host.open(plan.config),
     };
     let read = read_config(rt.alloc(), &Resolver { net: rt }, file);
-    let outcome = match &read {
-        Ok(config) => serve_from(ground, Serving { config, plan }, out, err),
-        Err(fault) => Err(*fault),
-    };
-    end_with(outcome, err)
+    match &read {
+        Ok(config) => end_with(serve_from(ground, Serving { config, plan }, out, err), err),
+        Err(fault) => fault.tell(err),
+    }
 }

@@ -1,10 +1,14 @@
 //! A station that starts from its configuration: the files that this names, its saved rows and its wire.
 
-ghost use Rattle.std.specs.Prelude.{◌≡◌, [], IfOk, OnOk, option_map, string_bytes};
+ghost use Rattle.std.specs.Prelude.{◌≡◌, [], IfOk, IfErr, OnOk, IsSome, option_map, string_bytes};
+ghost use Rattle.command_ends.specs.Ends.{end_of};
+ghost use Rattle.command_ends.specs.declared.end.End.TheVariants.{Store};
 ghost use Rattle.configuration.specs.Reading.{file_of};
 ghost use Rattle.configuration.specs.Stations.{IsCircuit};
 ghost use Rattle.rows_saved.specs.Identity.{IsIdentity};
-ghost use Rattle.commands.specs.Starts.{identity_of, IsStationOf, IsTableAt, AreWidthsAt, IsOffer, AreRowsAt, AreRowsFor, IsWireAmong, IsWireOf};
+ghost use Rattle.rows_files.specs.Telling.{KeepsCause};
+ghost use Rattle.commands.specs.Starts.{identity_of, IsStationOf, IsTableAt, AreWidthsAt, IsOffer, GivesBesideRows, MayStart};
+ghost use Rattle.commands.specs.Starts.{AreRowsAt, AreRowsFor, AreRefusedBy, IsWireAmong, IsWireOf};
 
 use crate::files::{Files, read_files};
 use crate::host::Host;
@@ -76,16 +80,19 @@ fn identity_of(config: &Config) -> Identity
     }
 }
 
-/// The saved rows of this station in the file at a path, which is made first where a version is given, or taken up.
+/// The saved rows of this station in the file at a path, which is made first where a version is given, or taken up. Only whoever was asked
+/// to make one gives a version.
 fn rows_of<H: Host, F: RowFiles>(
     ground: &Ground<'_, H, F>,
     path: &str,
     identity: Identity,
     create: Option<Version>,
 ) -> Result<F::Rows, RefusedRows>
-    requires { IsIdentity identity }
+    requires identity { IsIdentity identity }
+    requires asked { IsSome create → F.may_make ground.now.row_files.now }
     ensures rows { IfOk result (AreRowsAt F.leaves F.opens F.Rows.version ground.now.row_files.now path.now create identity) }
     ensures open { IfOk result (λ rows. F.Rows.kept rows → F.Rows.is_open rows) }
+    ensures refused { IfErr result (AreRefusedBy F.refuses ground.now.row_files.now create) }
 {
     match create {
         Some(version) => {
@@ -101,7 +108,7 @@ fn rows_of<H: Host, F: RowFiles>(
 }
 
 /// Makes the row file that a configuration names, for its station and in the layout for rows of this version, and tells what was
-/// made.
+/// made. Only whoever was asked to make one may call it.
 ///
 /// It is refused as [`RowFiles::make`] is.
 pub(crate) fn make_rows<'a, H: Host, F: RowFiles>(
@@ -109,11 +116,13 @@ pub(crate) fn make_rows<'a, H: Host, F: RowFiles>(
     config: &'a Config,
     version: Version,
 ) -> Result<NewRows<'a>, RefusedRows>
-    requires { IsCircuit config.now.member config.now.stations.items }
+    requires circuit { IsCircuit config.now.member config.now.stations.items }
+    requires asked { F.may_make ground.now.row_files.now }
     ensures made { OnOk result (F.leaves ground.now.row_files.now (string_bytes config.now.rows) (identity_of (file_of config.now)) version) }
     ensures path { IfOk result (λ new. new.path.now ≡ string_bytes config.now.rows) }
     ensures identity { IfOk result (λ new. new.identity ≡ identity_of (file_of config.now)) }
     ensures version { IfOk result (λ new. new.version ≡ version) }
+    ensures refused { IfErr result (F.refuses ground.now.row_files.now) }
 {
     let new = NewRows {
         path: &config.rows,
@@ -125,7 +134,9 @@ pub(crate) fn make_rows<'a, H: Host, F: RowFiles>(
 }
 
 /// Why there is no wire: there is no memory for it, or the socket can't be bound.
-fn no_wire<'f>(error: &io::Error) -> Fault<'f> {
+fn no_wire<'f>(error: &io::Error) -> Fault<'f>
+    ensures { ¬ (end_of result ≡ Store) }
+{
     match error.kind() {
         ErrorKind::OutOfMemory => Fault::OutOfMemory,
         _ => Fault::Socket("cannot bind"),
@@ -140,7 +151,7 @@ fn wire_of<'f, H: Host>(
     keys: Option<Keys>,
 ) -> Result<H::Wire, Fault<'f>>
     requires { IsCircuit member stations.items }
-    ensures { IfOk result (IsWireAmong H.is_bound stations.items member keys) }
+    ensures { GivesBesideRows result (IsWireAmong H.is_bound stations.items member keys) }
 {
     let own = stations[usize::from(member.get()) - 1];
     match host.bind(&own, stations, keys) {
@@ -164,6 +175,7 @@ fn start_over<'f, R: Rows, N: Wire + Drop>(
     ensures rows { IfOk result (λ s. s.station.rows ≡ held.rows) }
     ensures version { IfOk result (λ s. s.station.speaker.wire ≡ R.version held.rows) }
     ensures wire { IfOk result (λ s. s.wire ≡ held.wire) }
+    ensures fault { IfErr result (λ fault. ¬ (end_of fault ≡ Store)) }
 {
     let StationParts { files, rows, wire } = held;
     let Files {
@@ -198,12 +210,12 @@ fn start_over<'f, R: Rows, N: Wire + Drop>(
 /// What it saves waits until it is settled, so that many rows are saved as one.
 ///
 /// What it starts from is looked for in this order, and the first fault ends it: the code table, the widths, the tape, the
-/// saved rows, the socket.
+/// saved rows, the socket. Rows that are refused are told with their own cause. A file is made only where that was asked for.
 pub fn start<'a, H: Host, F: RowFiles>(
     ground: &Ground<'_, H, F>,
     launch: Launch<'a>,
 ) -> Result<Started<Grouped<F::Rows>, H::Wire>, Fault<'a>>
-    requires { IsCircuit launch.config.now.member launch.config.now.stations.items }
+    requires { MayStart (F.may_make ground.now.row_files.now) launch.config.now launch.create }
     ensures station { IfOk result (λ s. IsStationOf (identity_of (file_of launch.entry.config.now)) s.station) }
     ensures table { IfOk result (λ s. IsTableAt (H.text ground.now.host.now) (string_bytes launch.entry.config.now.table) s.station.table) }
     ensures same { IfOk result (λ s. s.table ≡ s.station.table) }
@@ -214,6 +226,7 @@ pub fn start<'a, H: Host, F: RowFiles>(
     ensures open { IfOk result (λ s. F.Rows.kept s.station.rows.rows → F.Rows.is_open s.station.rows.rows) }
     ensures version { IfOk result (λ s. s.station.speaker.wire ≡ F.Rows.version s.station.rows.rows) }
     ensures wire { IfOk result (λ s. IsWireOf H.is_bound (file_of launch.entry.config.now) launch.entry.keys s.wire) }
+    ensures refused { IfErr result (KeepsCause (AreRefusedBy F.refuses ground.now.row_files.now launch.entry.create)) }
 {
     let Launch {
         config,

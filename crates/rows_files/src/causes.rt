@@ -1,9 +1,9 @@
 //! Why a file of saved rows is refused, as an operator is told it.
 
-ghost use Rattle.std.specs.Prelude.{◌≡◌, Some};
-ghost use Rattle.command_ends.specs.Ends.{EndsByRows};
-ghost use Rattle.rows_saved.specs.declared.fault.RowsFault.TheVariants.{Store, OutOfMemory};
-ghost use Rattle.rows_files.specs.Causes.{cause_text};
+ghost use Rattle.std.specs.Prelude.{◌≡◌};
+ghost use Rattle.std.specs.IoError.{error_kind};
+ghost use Rattle.rows_saved.specs.declared.fault.RowsFault.TheVariants.{OutOfMemory};
+ghost use Rattle.rows_files.specs.Causes.{cause_text, refused_by, refused_for, AreTold, IsHostRefusal};
 
 use command_ends::Fault;
 use rows_saved::RowsFault;
@@ -83,14 +83,14 @@ pub struct RefusedRows {
 impl RefusedRows {
     /// A refusal whose fault tells all.
     pub fn by(fault: RowsFault) -> RefusedRows
-        ensures { result ≡ record { fault = fault; cause = None } }
+        ensures { result ≡ refused_by fault }
     {
         RefusedRows { fault, cause: None }
     }
 
     /// A store that refused, for this cause.
     pub fn for_cause(cause: RowsCause) -> RefusedRows
-        ensures { result ≡ record { fault = Store; cause = Some cause } }
+        ensures { result ≡ refused_for cause }
     {
         RefusedRows {
             fault: RowsFault::Store,
@@ -99,20 +99,23 @@ impl RefusedRows {
     }
 }
 
-/// What a person reads: the text of the fault, and on a line below it the cause, if there is one.
+/// What a person reads: the text of the fault, and on a line below it the cause, if there is one. Out of memory has no cause beside it.
 impl<'a> From<RefusedRows> for Fault<'a> {
-    ghost from_gives = { λ refused told. EndsByRows refused.fault told };
+    ghost from_gives = { AreTold };
 
     fn from(refused: RefusedRows) -> Fault<'a> {
-        match (Fault::of_rows(refused.fault), refused.cause) {
-            (Fault::Rows(fault), Some(cause)) => Fault::RowsFile(fault, cause.text()),
-            (told, _) => told,
+        match refused.fault {
+            RowsFault::OutOfMemory => Fault::OutOfMemory,
+            _ => match refused.cause {
+                Some(cause) => Fault::RowsFile(refused.fault, cause.text()),
+                None => Fault::Rows(refused.fault),
+            },
         }
     }
 }
 
 impl From<AllocError> for RefusedRows {
-    ghost from_gives = { λ _ refused. refused.fault ≡ OutOfMemory };
+    ghost from_gives = { λ _ refused. refused ≡ refused_by OutOfMemory };
 
     fn from(_error: AllocError) -> RefusedRows {
         RefusedRows::by(RowsFault::OutOfMemory)
@@ -121,6 +124,8 @@ impl From<AllocError> for RefusedRows {
 
 /// What the host answers of a file that it does not open, look at, name or remove.
 impl From<io::Error> for RefusedRows {
+    ghost from_gives = { λ error refused. IsHostRefusal (error_kind error) refused };
+
     fn from(error: io::Error) -> RefusedRows {
         match error.kind() {
             ErrorKind::OutOfMemory => RefusedRows::by(RowsFault::OutOfMemory),

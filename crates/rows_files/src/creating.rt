@@ -1,9 +1,10 @@
 //! Rows whose file is made, and taken up at once.
 
-ghost use Rattle.std.specs.Prelude.{◌≡◌, IfOk, IsTrue};
-ghost use Rattle.rows_saved.specs.Identity.{IsIdentity};
+ghost use Rattle.std.specs.Prelude.{◌≡◌, IfOk, IfErr};
+ghost use Rattle.rows_saved.specs.declared.fault.RowsFault.TheVariants.{WrongSchema};
 ghost use Rattle.tape_frames.specs.Entries.{version_of};
-ghost use Rattle.rows_files.specs.Creating.{AreMade};
+ghost use Rattle.rows_files.specs.Causes.{refused_by};
+ghost use Rattle.rows_files.specs.Creating.{AreMade, AreNotMade, MayBeMade};
 
 use crate::causes::RefusedRows;
 use crate::files::RowFiles;
@@ -14,6 +15,7 @@ use tape_frames::Version;
 fn of_version<R: Rows>(rows: R, version: Version) -> Result<R, RefusedRows>
     ensures rows { IfOk result (λ taken. taken ≡ rows) }
     ensures version { IfOk result (λ taken. R.version taken ≡ version_of version) }
+    ensures refused { IfErr result (λ refused. refused ≡ refused_by WrongSchema) }
 {
     if rows.version() == version {
         Ok(rows)
@@ -33,7 +35,7 @@ pub struct NewRows<'a> {
     pub version: Version,
 }
 
-/// Makes a row file, and takes up the rows in it.
+/// Makes a row file, and takes up the rows in it. Only whoever was asked to make one may call it.
 ///
 /// It is refused as [`RowFiles::make`] and [`RowFiles::open`] are; and with `WrongSchema`, where the file at the path is in
 /// another layout by then.
@@ -42,9 +44,10 @@ pub fn create_rows<F: RowFiles>(
     row_files: &F,
     new: NewRows<'_>,
 ) -> Result<F::Rows, RefusedRows>
-    requires { IsIdentity new.identity }
+    requires { MayBeMade (F.may_make row_files.now) new.identity }
     ensures made { IfOk result (AreMade F.leaves F.opens F.Rows.version row_files.now new.entry.path.now new.entry.identity new.entry.version) }
     ensures open { IfOk result (λ rows. F.Rows.kept rows → F.Rows.is_open rows) }
+    ensures refused { IfErr result (AreNotMade F.refuses row_files.now) }
 {
     row_files.make(rt, new)?;
     let rows = row_files.open(rt, new.path, Some(new.identity))?;

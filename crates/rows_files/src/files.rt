@@ -2,12 +2,14 @@
 
 ghost use Rattle.std.specs.Prelude.{◌≡◌, ◌≤◌, ℕ, List, Option, IfErr, IfOk, OnOk, codes};
 ghost use Rattle.std.specs.Io.KnownBytes.{Appends};
-ghost use Rattle.rows_saved.specs.Identity.{IsIdentity};
 ghost use Rattle.rows_saved.specs.Saved.{SameRows};
 ghost use Rattle.rows_saved.specs.declared.identity.Identity.{Identity as IdentityValue};
 ghost use Rattle.tape_frames.specs.declared.version.Version.{Version as VersionValue};
 ghost use Rattle.command_ends.specs.Ends.{end_of, IsOfRows};
+ghost use Rattle.rows_files.specs.Creating.{MayBeMade};
 ghost use Rattle.rows_files.specs.Knowing.{KnowsAll};
+ghost use Rattle.rows_files.specs.Telling.{IsDoneOrRefused};
+ghost use Rattle.rows_files.specs.declared.causes.RefusedRows.{RefusedRows as RefusedRowsValue};
 
 use crate::causes::RefusedRows;
 use crate::creating::NewRows;
@@ -21,6 +23,12 @@ use std::io::Write;
 pub trait RowFiles {
     /// The rows in one of them, which save many by one call.
     type Rows: SavesAll;
+
+    // A file may be made, since whoever holds these files was asked for one. A start that was not asked can't show it, and makes none.
+    ghost may_make: { Self → Type 0 };
+
+    // A call over these files was refused so: by this fault, for this cause.
+    ghost refuses: { Self → RefusedRowsValue → Type 0 };
 
     // A file was made whole for this station, in this version, and given the name at this path.
     ghost leaves: { Self → List ℕ → IdentityValue → VersionValue → Type 0 };
@@ -40,8 +48,8 @@ pub trait RowFiles {
     /// `Store`, with its cause, where something stands at the path, a log that is not empty lies beside it, another process is
     /// making it, or the host refuses; `OutOfMemory`. What stood there stays as it was.
     fn make(&self, rt: &HostRuntime, new: NewRows<'_>) -> Result<(), RefusedRows>
-        requires { IsIdentity new.identity }
-        ensures { OnOk result (leaves self.now new.entry.path.now new.entry.identity new.entry.version) };
+        requires { MayBeMade (may_make self.now) new.identity }
+        ensures { IsDoneOrRefused (refuses self.now) result (λ _. leaves self.now new.entry.path.now new.entry.identity new.entry.version) };
 
     /// Takes up the rows in the file at a path: those of this station, or whosever they are where none is given.
     ///
@@ -53,7 +61,7 @@ pub trait RowFiles {
         path: &str,
         identity: Option<Identity>,
     ) -> Result<Self::Rows, RefusedRows>
-        ensures taken { IfOk result (opens self.now path.now identity) }
+        ensures taken { IsDoneOrRefused (refuses self.now) result (opens self.now path.now identity) }
         ensures open { IfOk result (λ rows. Self.Rows.kept rows → Self.Rows.is_open rows) };
 
     /// Which numbers have a saved row, and which of these rows have a vote. All rows are read, and none is changed.
@@ -61,6 +69,7 @@ pub trait RowFiles {
     /// It is refused as a reading of rows is; with `OutOfMemory` also where there is no room for the numbers.
     fn known(&self, alloc: Global, rows: &mut Self::Rows) -> Result<Known, RefusedRows>
         ensures known { Self.Rows.kept rows.new → IfOk result (KnowsAll (Self.Rows.saved rows.old)) }
+        ensures refused { IfErr result (refuses self.now) }
         ensures open { Self.Rows.kept rows.new → OnOk result (Self.Rows.is_open rows.new) }
         ensures same { Self.Rows.kept rows.new → Self.Rows.is_open rows.new → SameRows (Self.Rows.saved rows.old) (Self.Rows.saved rows.new) }
         ensures version { Self.Rows.version rows.new ≡ Self.Rows.version rows.old }
@@ -78,7 +87,7 @@ pub trait RowFiles {
     ///
     /// Where that is refused nothing is lost: the file and its log hold the rows together.
     fn close(&self, rows: Self::Rows) -> Result<(), RefusedRows>
-        ensures { OnOk result (closes self.now rows) };
+        ensures { IsDoneOrRefused (refuses self.now) result (λ _. closes self.now rows) };
 
     /// Lists the rows in the file at a path, whosever they are, as the command `rows` prints them. A fault is one of the rows, the
     /// output or memory.

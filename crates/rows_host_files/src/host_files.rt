@@ -30,6 +30,12 @@ pub struct HostFiles;
 impl RowFiles for HostFiles {
     type Rows = Database;
 
+    // Whoever has the program has its files; what of a call asks for a file to be made stands in the contracts above.
+    ghost may_make = { λ _. Unit {0} };
+
+    // Which refusals the host answers with is not known.
+    ghost refuses = { λ _ _. Unit {0} };
+
     ghost leaves = { λ _ _ i version. HasMade ⟦<FileFrom<Wary> as Disk>⟧ i (version_of version) };
 
     ghost opens = { λ _ _ given rows. AreOpened given rows };
@@ -41,11 +47,13 @@ impl RowFiles for HostFiles {
     /// What a making that is refused leaves under the other name is removed.
     fn make(&self, rt: &HostRuntime, new: NewRows<'_>) -> Result<(), RefusedRows> {
         let making = Making::at(rt, new.path)?;
-        let made = making.make(rt, new);
-        if made.is_err() {
-            let _ = making.clear(rt);
+        match making.make(rt, new) {
+            Ok(()) => Ok(()),
+            Err(refused) => {
+                let _ = making.clear(rt);
+                Err(refused)
+            }
         }
-        made
     }
 
     fn open(
@@ -68,7 +76,8 @@ impl RowFiles for HostFiles {
     }
 
     fn close(&self, rows: Database) -> Result<(), RefusedRows> {
-        close_database(rows)
+        close_database(rows)?;
+        Ok(())
     }
 
     fn list<W: Write>(
