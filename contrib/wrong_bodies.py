@@ -19,8 +19,8 @@ say, the edit, and the kit.
 
 A check holds one wrong body for each of many functions, and proves only these functions: a function is proved from the contracts of
 those that it calls, not from their bodies. Each wrong body is judged by what the check says of its own function. It is tried again
-alone where that is only "it calls ..", since another function of the batch is not proved. So is an edit of several functions, and
-one of a definition, a type or a constant, over the whole crate.
+alone where that is only "it calls ..", since another function of the batch is not proved. So is an edit of several functions. One of
+a definition, a type or a constant is tried over the functions that name it, and where these are proved, over the whole crate.
 
 Each is told as one of
   refused    a clause, an invariant, a callee's `requires` or totality is not proved of it
@@ -31,6 +31,7 @@ Each is told as one of
 The status is 0 where all are refused.
 """
 import argparse
+import functools
 import hashlib
 import importlib.machinery
 import importlib.util
@@ -56,6 +57,9 @@ MOST_VERDICTS = 20_000
 PARTS = ('src', 'specs', 'proofs')
 # The mark of each further line of a text.
 MORE = '   |'
+# A declaration in code that is no function, and one in specs.
+IN_CODE = re.compile(r'^ *(?:pub(?:\([a-z]+\))? )?(?:const|static|struct|enum|trait|type) (\w+)')
+IN_SPECS = re.compile(r'(?!use |module |--)(?:(?:pub|abbrev|unfoldable|record|data) )*([^\s:{(}]+)')
 HEAD = re.compile(r'^( *)(?:pub(?:\([a-z]+\))? )?(?:const )?(?:unsafe )?fn (\w+)')
 IMPL = re.compile(r'^impl\b(?:<.*?>)? ?(?:(?:\w+::)*(\w+)(?:<.*>)? for )?(?:&(?:mut )?)?(?:\w+::)*(\w+)')
 # What a check says of a goal that is false, of one that was not reached, and of a name that an edit took from a proof file.
@@ -175,6 +179,7 @@ def module_of(file):
     return re.sub(r'(^|/)(mod|lib|main)$', '', file[len('src/'):-len('.rt')]).replace('/', '::')
 
 
+@functools.cache
 def types_of(home):
     """The module in which each type of a crate stands: a check names a method of the type by it, wherever its `impl` stands."""
     found = {}
@@ -225,6 +230,63 @@ def functions_of(crate, file, text, types):
             is_method = bool(head.group(1))
             found.append(Function(crate, file, module if is_method else own, impl if is_method else '', head.group(2), at + 1, last + 1))
     return found
+
+
+def declared_in(file, text):
+    """The declarations of a file that are no functions, by rt fmt's layout: of each the line that it begins at, its name and its text."""
+    found, indent = [], ''
+    for at, line in enumerate(text.split('\n')):
+        if file.endswith('.rt'):
+            head = IN_CODE.match(line)
+        else:
+            indent = ('  ' if line.startswith('module') else '') if re.match('[^ }]', line) else indent
+            head = IN_SPECS.match(line.removeprefix(indent)) if line.startswith(indent) else None
+        if head:
+            found.append([at + 1, head.group(1), ''])
+        if found:
+            found[-1][2] += line + '\n'
+    return found
+
+
+def words_in(text):
+    return set(re.findall(r'\w+', text))
+
+
+def files_below(folder):
+    return [os.path.join(at, name) for at, _, names in sorted(os.walk(folder)) for name in sorted(names)]
+
+
+class Names:
+    """Which names the functions of a crate use, in their proofs too, and the definitions of its specs and of those of some libraries."""
+
+    def __init__(self, crate, home, libraries):
+        self.home, self.functions, self.definitions, types = home, [], [], types_of(home)
+        for path in files_below(os.path.join(home, 'src')):
+            text, file = read(path), os.path.relpath(path, home)
+            for each in functions_of(crate, file, text, types):
+                proofs = [read(proof) for proof in files_below(os.path.join(home, each.proofs))]
+                self.functions.append((each, words_in('\n'.join([*text.split('\n')[each.first - 1 : each.last], *proofs]))))
+        for path in [path for folder in (home, *libraries) for path in files_below(os.path.join(folder, 'specs'))]:
+            self.definitions += [(name, words_in(text)) for _, name, text in declared_in(path, read(path))]
+
+    def changed(self, file, old):
+        """The name of the declaration in which a text of a file stands, if it is in one."""
+        text = read(os.path.join(self.home, file))
+        line = text.partition(old)[0].count('\n') + 1
+        return [name for first, name, _ in declared_in(file, text) if first <= line][-1:]
+
+    def users(self, pairs):
+        """The functions nearest to what an edit changes: those that use a name that it changes, or else those that use a definition
+        that uses it, and so on."""
+        names = set().union(*(self.changed(file, old) for file, old, _ in pairs))
+        known = set(names)
+        while names:
+            found = [each for each, used in self.functions if used & names]
+            if found:
+                return found
+            names = {name for name, used in self.definitions if used & names} - known
+            known |= names
+        return []
 
 
 def without_bodies(text):
@@ -464,8 +526,8 @@ class Trial:
     """A copy of a crate, in which its wrong bodies are tried."""
 
     def __init__(self, crate, room, libraries):
-        self.crate, self.room, self.libraries, self.batches = crate, room, libraries, 0
-        self.home, self.work, self.proved = os.path.join(room, crate), os.path.join(room, 'work'), {}
+        self.crate, self.room, self.libraries, self.checks = crate, room, libraries, 0
+        self.home, self.work, self.proved, self.names = os.path.join(room, crate), os.path.join(room, 'work'), {}, None
         copied(crate, self.home)
         begin = os.path.join(TOP, 'crates', crate, 'out', 'incremental')
         if os.path.isdir(begin):
@@ -477,6 +539,7 @@ class Trial:
         words += [word for each in functions for word in ('--only', each.short)] + ['--incremental', work or self.work]
         before = {file: read(os.path.join(self.home, file)) for file in texts}
         self.write(texts)
+        self.checks += 1
         rtlib = self.libraries.rt.rtlib
         run = subprocess.run([*rtlib.guarded(), rtlib.RATTLE, 'check', *words], cwd=self.home, stdin=subprocess.DEVNULL, stdout=subprocess.PIPE,
                              stderr=subprocess.STDOUT, text=True, errors='replace', check=False)
@@ -491,34 +554,44 @@ class Trial:
     def is_proved(self, changed=frozenset()):
         """Whether the crate as it stands is proved. What this check keeps, each check of a whole crate begins with."""
         if changed not in self.proved:
-            self.batches += 1
             self.proved[changed] = ends_proved(self.check({}, changed=changed))
         return self.proved[changed]
 
     def check_alone(self, edit, texts):
-        """What a check says of one wrong body: of its functions, or else of the crate."""
+        """What a check says of one wrong body: of its functions, or of those that use what it changes, or else of the crate. It says
+        nothing where the crate as it stands is not proved."""
         if edit.functions:
             return self.check(texts, edit.functions)
+        changed = edit.libraries()
+        if changed and not self.is_proved(changed):
+            return []
+        users = self.names.users(edit.pairs)
+        said = self.check(texts, users, changed=changed) if users else []
+        if (judged_lines(said) or [''])[0] == 'refused':
+            return said
+        if not self.is_proved(changed):
+            return []
         over = os.path.join(self.room, 'over')
         shutil.rmtree(over, ignore_errors=True)
         self.libraries.rt.linked(self.work, over)
-        return self.check(texts, work=over, changed=edit.libraries())
+        return self.check(texts, work=over, changed=changed)
 
     def tried(self, edits, keep):
         """What is told of each edit, batch by batch: those of functions first. What is told is given to `keep` after each check."""
         told, left = {}, sorted(edits, key=lambda edit: not edit.functions)
-        for name in {name for edit in edits for name in edit.libraries()}:
-            copied(name, os.path.join(self.room, name))
+        libraries = {name: os.path.join(self.room, name) for edit in edits for name in edit.libraries()}
+        for name, folder in libraries.items():
+            copied(name, folder)
+        self.names = Names(self.crate, self.home, libraries.values())
         while left:
             batch, texts, left = self.batch(left, told)
             if not batch:
                 continue
             alone = batch[0] if len(batch) == 1 else None
-            if alone and not alone.functions and not self.is_proved(alone.libraries()):
+            said = self.check_alone(alone, texts) if alone else self.check(texts, [edit.functions[0] for edit in batch])
+            if not said:
                 told[alone] = ('BAD', f'{self.crate} itself is not proved')
                 continue
-            self.batches += 1
-            said = self.check_alone(alone, texts) if alone else self.check(texts, [edit.functions[0] for edit in batch])
             if not any(line.startswith(('logic=', 'only=')) for line in said):
                 left = self.unread(batch, said, told) + left
                 continue
@@ -650,7 +723,7 @@ def tried_in(crate, names, libraries, verdicts, tells_all):
     keys = {edit: verdicts.key(sum_of_crate, edit) for edit in edits}
     told = {edit: verdicts.earlier(keys[edit]) for edit in edits}
     new = [edit for edit in edits if not told[edit]]
-    batches = 0
+    checks = 0
     if new:
         with tempfile.TemporaryDirectory(prefix='wrong-bodies-') as room:
             trial = Trial(crate, room, libraries)
@@ -658,9 +731,9 @@ def tried_in(crate, names, libraries, verdicts, tells_all):
                 told.update({edit: ('BAD', f'{lacking or crate} itself is not proved') for edit in new})
             else:
                 told.update(trial.tried(new, lambda some: verdicts.keep({keys[edit]: verdict for edit, verdict in some.items()})))
-            batches = trial.batches
+            checks = trial.checks
     found = [told[edit][0] for edit in edits]
-    lines = [f'{crate}: {len(edits)} wrong bodies, {len(new)} tried now in {batches} checks and {time.monotonic() - began:.0f} s: {counted(found)}']
+    lines = [f'{crate}: {len(edits)} wrong bodies, {len(new)} tried now in {checks} checks and {time.monotonic() - began:.0f} s: {counted(found)}']
     lines += [f'{told[edit][0]} {edit.name}: {told[edit][1].strip()[:240]}' for edit in edits if told[edit][0] != 'refused' or tells_all]
     print('\n'.join(lines), flush=True)
     return found
