@@ -61,7 +61,7 @@ MORE = '   |'
 IN_CODE = re.compile(r'^ *(?:pub(?:\([a-z]+\))? )?(?:const|static|struct|enum|trait|type) (\w+)')
 IN_SPECS = re.compile(r'(?!use |module |--)(?:(?:pub|abbrev|unfoldable|record|data) )*([^\s:{(}]+)')
 HEAD = re.compile(r'^( *)(?:pub(?:\([a-z]+\))? )?(?:const )?(?:unsafe )?fn (\w+)')
-IMPL = re.compile(r'^impl\b(?:<.*?>)? ?(?:(?:\w+::)*(\w+)(?:<.*>)? for )?(?:&(?:mut )?)?(?:\w+::)*(\w+)')
+IMPL = re.compile(r'^impl\b(?:<(.*?)>)? ?(?:(?:\w+::)*(\w+)(?:<(.*)>)? for )?(?:&(?:mut )?)?(?:\w+::)*(\w+)(?:<(.*)>)?(?: \{.*| where.*)?$')
 # What a check says of a goal that is false, of one that was not reached, and of a name that an edit took from a proof file.
 STRONG = re.compile(r'allow values at which|may be false: the known facts|and the goal fails, at|types? (?:first )?differ|but this has type')
 WEAK = re.compile(r'did not prove `|it is not proved that|does not hold|no proof of `')
@@ -210,6 +210,15 @@ class Function:
         return file == self.file and self.first <= at <= self.last or file.startswith(self.proofs)
 
 
+def name_of_impl(own, trait, given, name, of):
+    """What a check calls an `impl`: its type, with what that is given where these are not the parameters of the `impl` itself, its trait,
+    and what that is given, as `FaultFromIoError` and `SqliteRows+FileStore+D`."""
+    words, own = re.findall(r"(?<!')\b\w+", of or ''), re.findall(r'(?:^|, )(\w+)', own or '')
+    given = re.sub('<.*', '', given or '')
+    return (name + ''.join('+' + word for word in words if not set(words) <= set(own)) + (trait or '')
+            + ''.join(part[:1].upper() + part[1:] for part in given.split('::') if re.fullmatch(r'\w+', part)))
+
+
 def functions_of(crate, file, text, types):
     """The functions of a source file, by rt fmt's layout: each ends at the brace that stands below its head."""
     lines, found, impl, impl_ends, own = text.split('\n'), [], '', -1, module_of(file)
@@ -219,15 +228,14 @@ def functions_of(crate, file, text, types):
             impl = ''
         if line.startswith('impl'):
             head = IMPL.match(line)
-            impl = head.group(2) + (head.group(1) or '') if head else ''
+            impl = name_of_impl(*head.groups()) if head else ''
             module = types.get(impl, own)
-            impl_ends = next((end for end in range(at, len(lines)) if lines[end] in ('}', '{}') or lines[end].endswith('{}')), at)
+            impl_ends = at if line.endswith('{}') else next((end for end in range(at, len(lines)) if lines[end] in ('}', '{}')), at)
         head = HEAD.match(line)
         if head:
-            last = at
-            while last + 1 < len(lines) and lines[last] != head.group(1) + '}' and not HEAD.match(lines[last + 1]):
+            last, is_method = at, bool(head.group(1))
+            while last + 1 < len(lines) and lines[last] != head.group(1) + '}' and not HEAD.match(lines[last + 1]) and not (is_method and lines[last + 1] == '}'):
                 last += 1
-            is_method = bool(head.group(1))
             found.append(Function(crate, file, module if is_method else own, impl if is_method else '', head.group(2), at + 1, last + 1))
     return found
 
