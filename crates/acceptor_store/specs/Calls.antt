@@ -9,7 +9,7 @@ use Rattle.rows_saved.specs.Saved.{SameRows, IsListOf, RowFits, AreFitting}
 use Rattle.rows_saved.specs.declared.fault.RowsFault.{RowsFault}
 use Rattle.rows_saved.specs.declared.fault.RowsFault.TheVariants.{Store}
 use Rattle.rows_saved.specs.declared.rows.Rows as rows
-use Rattle.acceptor_store.specs.Sqlite.{SqliteOf, Blames, IsHonest, IsKept, IsOpen, IsOurs, IsRefusal, LeavesNoOther, rows_version, saved_of}
+use Rattle.acceptor_store.specs.Sqlite.{SqliteOf, AreLeftAsRead, Blames, IsHonest, IsKept, IsOpen, IsOurs, IsRefusal, LeavesInUpgrade, LeavesNoOther, rows_version, saved_of}
 
 module _ {S : Type 0} (g : Ghosts S) where
   -- what is said of saved rows, of those in a database
@@ -22,11 +22,13 @@ module _ {S : Type 0} (g : Ghosts S) where
     saved = saved_of g;
     version = rows_version;
     refusals = λ s. s.refusals;
-    alike = λ _ _. Unit {0};
+    alike = AreLeftAsRead g;
     passes = λ _ _. Unit {0};
     tells = λ _ _ _ _. Unit {0};
-    upgrades = λ _ _. Unit {0};
-    balks = λ _ _. Unit {0};
+    upgrades = LeavesInUpgrade g;
+    balks = LeavesInUpgrade g;
+    shows = λ _ _. Unit {0};
+    torn = λ _ _. Unit {0};
     blames = Blames g;
   }
 

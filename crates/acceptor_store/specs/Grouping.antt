@@ -20,7 +20,7 @@ use Rattle.rows_saved.specs.Saved.{Saved, HasPromise}
 use Rattle.rows_saved.specs.Groups.{WithAll, IsAllOrNone}
 use Rattle.acceptor_store.specs.Columns.{columns_for, ComesBack}
 use Rattle.rows_saved.specs.declared.fault.RowsFault.{RowsFault}
-use Rattle.acceptor_store.specs.Sqlite.{SqliteOf, IsOpen, IsRefusal, MayLeave, saved_of}
+use Rattle.acceptor_store.specs.Sqlite.{SqliteOf, IsKept, IsOpen, IsRefusal, LeavesItsStation, MayLeave, saved_of}
 
 -- under a circuit number this row was put in the place of the one before, in columns out of which it comes back, and nothing else was changed
 pub record PutsBack (layout : Layout) (number : ℕ) (row : Row) (old new : Trees) : Type 0 where
@@ -136,3 +136,14 @@ module _ {S : Type 0} (g : Ghosts S) where
   abbrev pub LeavesAllOrNone : List (ℕ × Row) → SqliteOf S → SqliteOf S → Type 0
   LeavesAllOrNone items old new =
       IsOpen g old → old.stopped ≡ false → (left : Saved) → MayLeave g new left → IsAllOrNone (saved_of g old) items left
+
+  -- an Ok of a save of all of these shows: it stops and shuts nothing, and a crash leaves all of these
+  abbrev pub ShowsAllSaved : SqliteOf S → SqliteOf S → List (ℕ × Row) → Type 0
+  ShowsAllSaved old new items =
+      (new.stopped ≡ old.stopped) × (IsKept g new → IsOpen g old → IsOpen g new) × (IsKept g new → LeavesWithAll items old new)
+
+  -- however it ends, it leaves the station and its layout, and a crash none of these or all, and a database of the station
+  abbrev pub LeavesTogether : SqliteOf S → SqliteOf S → List (ℕ × Row) → Type 0
+  LeavesTogether old new items =
+      (new.identity ≡ old.identity) × (new.layout ≡ old.layout)
+      × (IsKept g new → LeavesAllOrNone items old new × LeavesItsStation g old new)

@@ -30,7 +30,7 @@ GivesUp g conn files =
     AreClean g files.log files.db → (left : Image) → outcomes g files.log files.db left
     → ∥ ((db : Trees) × (file_state conn).may_leave db × HoldsDatabase left db) ∥₁
 
--- rows that `open_from` took up from files which held this, on a disk that has returned what was written
+-- rows that `open_files` took up from files which held this, on a disk that has returned what was written
 pub record AreOpenedFrom {D : Type 0} {g : Ghosts D} (left : Image) (s : SqliteOf (FileStore D g)) : Type 0 where
   pub honest : HasCleanDisk (file_state s.conn)
   pub made : OpensItsOwn left s

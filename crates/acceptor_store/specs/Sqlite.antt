@@ -162,6 +162,10 @@ module _ {S : Type 0} (g : Ghosts S) where
   abbrev pub LeavesAll : SqliteOf S → SqliteOf S → Type 0
   LeavesAll old new = (db : Trees) → (state g new.conn).may_leave db → HoldsAll old.layout old.identity (saved_of old) db
 
+  -- an upgrade of open rows that were not stopped leaves, however it ends, their station and map, all in the one layout or all in the other
+  abbrev pub LeavesInUpgrade : SqliteOf S → SqliteOf S → Type 0
+  LeavesInUpgrade old new = IsKept new → IsOpen old → old.stopped ≡ false → LeavesAll old new
+
   -- each row is blank
   abbrev pub HoldsNoRow : SqliteOf S → Type 0
   HoldsNoRow s = (n : ℕ) → saved_of s n ≡ blank
@@ -177,6 +181,13 @@ module _ {S : Type 0} (g : Ghosts S) where
   -- of rows that were open, a crash leaves no database that it could not have left before
   abbrev pub LeavesNoOther : SqliteOf S → SqliteOf S → Type 0
   LeavesNoOther old new = IsOpen old → (db : Trees) → (state g new.conn).may_leave db → (state g old.conn).may_leave db
+
+  -- rows that were read are those of the same station, in the same layout, as they were saved; they are stopped if they were, and a crash leaves
+  -- no other
+  abbrev pub AreLeftAsRead : SqliteOf S → SqliteOf S → Type 0
+  AreLeftAsRead old new =
+      (new.identity ≡ old.identity) × (new.stopped ≡ old.stopped) × (new.layout ≡ old.layout)
+      × (IsKept new → IsOpen new → SameRows (saved_of old) (saved_of new)) × (IsKept new → LeavesNoOther old new)
 
   -- a crash leaves the rows as they were
   abbrev pub LeavesSameRows : SqliteOf S → SqliteOf S → Type 0

@@ -281,7 +281,7 @@ impl<S: Alter + Drop> SqliteRows<S> {
 }
 
 impl<S: Alter + Drop> Rows for SqliteRows<S> {
-    ghost use Rattle.acceptor_store.specs.Sqlite.{IsKept, IsOpen, IsHonest, IsOurs, saved_of, LeavesStation, LeavesAll, Blames};
+    ghost use Rattle.acceptor_store.specs.Sqlite.{AreLeftAsRead, IsKept, IsOpen, IsHonest, IsOurs, saved_of, LeavesInUpgrade, LeavesStation, Blames};
     ghost use Rattle.acceptor_store.specs.Sqlite.{HoldsEither, LeavesEither, LeavesItsStation, LeavesSameRows, LeavesWithRow};
 
     ghost made = { λ s. IsOurs s.alone s.was s.found };
@@ -297,6 +297,14 @@ impl<S: Alter + Drop> Rows for SqliteRows<S> {
     ghost version = { rows_version };
 
     ghost refusals = { λ s. s.refusals };
+
+    // A reading leaves the station, its layout and its rows, and a crash no other.
+    ghost alike = { AreLeftAsRead S.Store };
+
+    // An upgrade leaves the station and the map, whether it is refused or not.
+    ghost upgrades = { LeavesInUpgrade S.Store };
+
+    ghost balks = { LeavesInUpgrade S.Store };
 
     ghost blames = { Blames S.Store };
 
@@ -367,7 +375,9 @@ impl<S: Alter + Drop> Rows for SqliteRows<S> {
         ensures upgraded { OnOk result (self.new.layout ≡ upgraded_from self.old.layout) }
 
         // Whatever comes of it, a crash leaves the station and its map, all in the one layout or all in the other; after the Ok in layout 2.
-        ensures crash { IsKept S.Store self.new → IsOpen S.Store self.old → self.old.stopped ≡ false → LeavesAll S.Store self.old self.new }
+        ensures crash { LeavesInUpgrade S.Store self.old self.new }
+        ensures upgrades { OnOk result (LeavesInUpgrade S.Store self.old self.new) }
+        ensures balks { OnErr result (LeavesInUpgrade S.Store self.old self.new) }
         ensures crash_ok { IsKept S.Store self.new → OnOk result (LeavesSameRows S.Store self.old self.new) }
         ensures crash_station { IsKept S.Store self.new → OnOk result (LeavesStation S.Store self.new self.old.identity) }
     {
@@ -390,21 +400,21 @@ impl<S: Alter + Drop> Rows for SqliteRows<S> {
 }
 
 impl<S: Alter + Drop> SavesAll for SqliteRows<S> {
-    ghost use Rattle.acceptor_store.specs.Sqlite.{IsKept, LeavesItsStation};
-    ghost use Rattle.acceptor_store.specs.Grouping.{HoldsAllOrNone, LeavesAllOrNone, LeavesWithAll};
+    ghost use Rattle.acceptor_store.specs.Sqlite.{IsKept};
+    ghost use Rattle.acceptor_store.specs.Grouping.{HoldsAllOrNone, LeavesTogether, ShowsAllSaved};
 
-    // After the Ok a crash leaves all of these rows.
-    ghost stores = { λ old new items. IsKept S.Store new → LeavesWithAll S.Store items old new };
+    // The Ok stops nothing, and after it a crash leaves all of these rows.
+    ghost stores = { ShowsAllSaved S.Store };
 
-    // After an Err, and in the call, it leaves all or none; and the station as it was.
-    ghost leaves = { λ old new items. IsKept S.Store new → LeavesAllOrNone S.Store items old new × LeavesItsStation S.Store old new };
+    // After an Err, and in the call, it leaves all or none; and the station and the layout as they were.
+    ghost leaves = { LeavesTogether S.Store };
 
     /// All or none, in one transaction.
     fn put_all(&mut self, items: &[(Number, Row)]) -> Result<(), RowsFault>
         requires { AreRowsOf (rows_version self.old) items.now }
         ensures puts { PutsAll (in_database S.Store) result items.now self.old self.new }
-        ensures stores { OnOk result (IsKept S.Store self.new → LeavesWithAll S.Store items.now self.old self.new) }
-        ensures leaves { IsKept S.Store self.new → LeavesAllOrNone S.Store items.now self.old self.new × LeavesItsStation S.Store self.old self.new }
+        ensures stores { OnOk result (ShowsAllSaved S.Store self.old self.new items.now) }
+        ensures leaves { LeavesTogether S.Store self.old self.new items.now }
         ensures all_or_none { IsKept S.Store self.new → OnErr result (HoldsAllOrNone S.Store items.now self.old self.new) }
         ensures saves { SavesOrStops S.Store result self.old self.new }
     {

@@ -6,27 +6,14 @@ use Rattle.sqlite_trees.specs.declared.memory.MemStore.{MemStore}
 use Rattle.sqlite_trees.specs.View.{doubt}
 use Rattle.sqlite.specs.Steps.{over_memory}
 use Rattle.protocol.specs.Versions.{Version}
-use Rattle.acceptor_store.specs.Sqlite.{SqliteOf, IsKept, IsOpen, IsHonest, IsOurs, rows_version, saved_of, Blames}
+use Rattle.acceptor_store.specs.Calls.{in_database}
+use Rattle.acceptor_store.specs.Sqlite.{SqliteOf}
 use Rattle.rows_saved.specs.declared.rows.Rows.{Ghosts}
 use Rattle.world.specs.Founding.{Part, Given, given_of, AreAt, AreBlank, IsNewlyMade, AreNewlyMade}
 
 -- what is said of rows, of those in a database in memory
 abbrev pub in_memory : Ghosts (SqliteOf MemStore)
-in_memory = record {
-  made = λ s. IsOurs s.alone s.was s.found;
-  honest = IsHonest over_memory;
-  kept = IsKept over_memory;
-  is_open = IsOpen over_memory;
-  saved = saved_of over_memory;
-  version = rows_version;
-  refusals = λ s. s.refusals;
-  alike = λ _ _. Unit {0};
-  passes = λ _ _. Unit {0};
-  tells = λ _ _ _ _. Unit {0};
-  upgrades = λ _ _. Unit {0};
-  balks = λ _ _. Unit {0};
-  blames = Blames over_memory;
-}
+in_memory = in_database over_memory
 
 -- a disk in memory is never in doubt
 pub no_doubt : doubt true ≡ 0

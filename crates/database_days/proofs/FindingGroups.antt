@@ -17,7 +17,7 @@ use Rattle.station.specs.declared.station.Station.{Station}
 use Rattle.station.specs.Stations.{Sight}
 use Rattle.acceptor_store.specs.Sqlite.{SqliteOf, LeavesNoOther, rows_version, saved_of}
 use Rattle.acceptor_store.specs.Restarts.{GivesUp}
-use Rattle.acceptor_store.specs.Begun.{BegunAtRestLosesNothing, GroupOutlivesBegun}
+use Rattle.acceptor_store.specs.Begun.{BegunAtRestLosesNothing, GroupOutlivesBegun, UpgradeOutlivesBegun}
 use Rattle.database_days.specs.Grouping.{GroupsHandOver, IsSettled}
 use Rattle.database_days.proofs.Deciding.{rows}
 use Rattle.database_days.proofs.Finding.{is_set, put_elsewhere}
@@ -72,8 +72,8 @@ module _ {D : Type 0} {g : disk.Ghosts D} (x : Sight (GroupedOf (SqliteOf (FileS
       → LeavesNoOther over_files last.rows.rows now → GivesUp g now.conn files → GivesUp g last.rows.rows.conn files
   given_up_before last now files s leaves gives clean left may = ∥∥₁_map (gives clean left may) (λ db. (db.0, leaves s.rest.is_open db.0 db.1, db.2))
 
-  pub groups_found : {E : Type 0} {h : disk.Ghosts E} → BegunAtRestLosesNothing D g E h → GroupOutlivesBegun D g E h → GroupsHandOver D g E h x
-  groups_found rests outlives = record {
+  pub groups_found : {E : Type 0} {h : disk.Ghosts E} → BegunAtRestLosesNothing D g E h → GroupOutlivesBegun D g E h → UpgradeOutlivesBegun D g E h → GroupsHandOver D g E h x
+  groups_found rests outlives upgrades = record {
     before_the_save = λ before now files left begun again s leaves gives clean may stands opened.
         let all = rests before.rows.rows files left begun again s.rest (given_up_before before now files s leaves gives) clean may (holds_all left begun stands) opened in
         (all.0, all.1, ((λ n. all.3 n ∙ sym (settled_rows before n s)), all.2 ∙ sym (version before.rows)));
@@ -88,5 +88,14 @@ module _ {D : Type 0} {g : disk.Ghosts D} (x : Sight (GroupedOf (SqliteOf (FileS
             | inl none ↦ inl ((λ n. none n ∙ took.same n ∙ sym (settled_rows before n took.begins)), at ∙ took.version ∙ sym (version before.rows))
             | inr each ↦ inr ((λ n. each n ∙ sym (ap (λ (m : Saved). m n) (saved after.rows))), at ∙ sym (version after.rows))
           ],
+        );
+    in_an_upgrade = λ before now files left begun again s leaves gives clean may stands opened.
+        let all = upgrades before.rows.rows now files left begun again leaves gives clean may (holds_all left begun stands) opened in (
+          all.0,
+          all.1,
+          (
+            λ n. all.2.same n ∙ sym (settled_rows before n s),
+            elim all.2.torn.1 [ inl was ↦ inl (was ∙ sym (version before.rows)) | inr two ↦ inr two ],
+          ),
         );
   }

@@ -2,6 +2,7 @@ mod Databases
 mod Deciding
 mod Finding
 mod FindingGroups
+mod GroupSteps
 mod Holding
 mod Marking
 mod Obeying

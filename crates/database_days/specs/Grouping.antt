@@ -11,10 +11,10 @@ use Rattle.rows_saved.specs.Saved.{SameRows}
 use Rattle.rows_saved.specs.Grouped.{GroupedOf}
 use Rattle.station.specs.declared.station.Station.{Station}
 use Rattle.station.specs.Stations.{Sight}
-use Rattle.acceptor_store.specs.Sqlite.{SqliteOf, IsAtRest, IsOpen, IsOurs, rows_version, saved_of, LeavesItsStation, LeavesNoOther}
+use Rattle.acceptor_store.specs.Sqlite.{SqliteOf, IsAtRest, IsOpen, IsOurs, rows_version, saved_of, LeavesAll, LeavesItsStation, LeavesNoOther}
 use Rattle.acceptor_store.specs.Grouping.{LeavesAllOrNone}
 use Rattle.acceptor_store.specs.Restarts.{GivesUp, AreOpenedFrom}
-use Rattle.days.specs.Happening.{At_rest}
+use Rattle.days.specs.Happening.{At_rest, Upgrading}
 use Rattle.days.specs.Handing.{FindsRows}
 use Rattle.rows_life.specs.Keeping.{StandFor}
 
@@ -44,7 +44,8 @@ module _ {D : Type 0} {g : disk.Ghosts D} where
 -- begun or ended, none or any number, each perhaps cut off by a crash, so the files that there are now stand for those that were left. An open of
 -- them, if it is not refused, finds the store's own tables and the same station. Where the process had not begun to save a group, it finds the rows
 -- of the station as it was before the group; where it had, those, or the rows of the station as it was after all steps of the group. Either is what
--- a day has the next process find after one that ended at rest.
+-- a day has the next process find after one that ended at rest. Where the process had begun to upgrade the rows, it finds them at the version before or
+-- at version 2, as a day has it after an upgrade.
 pub record GroupsHandOver (D : Type 0) (g : disk.Ghosts D) (E : Type 0) (h : disk.Ghosts E) (x : Sight (GroupedOf (SqliteOf (FileStore D g)))) : Type 0 where
   pub before_the_save :
       (before : Station (GroupedOf (SqliteOf (FileStore D g)))) (now : SqliteOf (FileStore D g)) (files : Files D) (left begun : Image) (again : SqliteOf (FileStore E h))
@@ -59,3 +60,9 @@ pub record GroupsHandOver (D : Type 0) (g : disk.Ghosts D) (E : Type 0) (h : dis
       → IsOurs again.alone again.was again.found × (again.identity ≡ before.rows.rows.identity)
       × (FindsRows x At_rest before (saved_of over_files again) (rows_version again)
       ⊎ FindsRows x At_rest after (saved_of over_files again) (rows_version again))
+  pub in_an_upgrade :
+      (before : Station (GroupedOf (SqliteOf (FileStore D g)))) (now : SqliteOf (FileStore D g)) (files : Files D) (left begun : Image) (again : SqliteOf (FileStore E h))
+      → IsSettled before → LeavesAll over_files before.rows.rows now
+      → GivesUp g now.conn files → AreClean g files.log files.db → outcomes g files.log files.db left → StandFor left begun → AreOpenedFrom begun again
+      → IsOurs again.alone again.was again.found × (again.identity ≡ before.rows.rows.identity)
+      × FindsRows x Upgrading before (saved_of over_files again) (rows_version again)

@@ -2,6 +2,7 @@
 
 ghost use Rattle.database_days.specs.Starting.{StartsHandOver};
 ghost use Rattle.database_days.specs.Grouping.{GroupsHandOver};
+ghost use Rattle.database_days.specs.GroupSteps.{GroupsAreTaken};
 ghost use Rattle.station.specs.Stations.{sight};
 
 use acceptor_store::{SqliteRows, laws};
@@ -19,9 +20,15 @@ pub fn starts_hand_over<D: Disk + Drop, E: Disk + Drop>()
 }
 
 /// The same of a process that saves its steps in groups. What is found is what a day allows after a process at rest: its station's rows
-/// before the last group, or after all of it.
+/// before the last group, or after all of it. After an upgrade it is what a day allows then.
 pub fn groups_hand_over<D: Disk + Drop, E: Disk + Drop>()
     ensures { GroupsHandOver D D.Disk E E.Disk (sight ⟦<Grouped<SqliteRows<FileStore<D>>> as Rows>⟧) }
 {
     laws::what_is_begun_is_found::<D, E>();
 }
+
+/// Steps of a station over grouped rows read the rows inside at most, until what they saved is saved as one. Then the station is between two
+/// groups again. If that save is refused, the rows inside were in it. An upgrade between two groups leaves all rows, at either version.
+pub fn groups_are_taken<D: Disk + Drop>()
+    ensures { GroupsAreTaken D D.Disk (⟦<Grouped<SqliteRows<FileStore<D>>> as Rows>⟧) }
+{}

@@ -24,7 +24,7 @@ use Rattle.driver.specs.Calls.{call_of, IsAsked}
 use Rattle.driver.specs.Fates.{ByStored, Fates}
 use Rattle.driver.specs.TakingIn.{Rests}
 use Rattle.driver.specs.Todos.{IsGoodSending, IsHailing}
-use Rattle.driver.specs.Driving.{Post, post, post_with, Fate, Known, known, Drove, Anyhow, AtClock, Then, Held, ReceivesNext, SameHands, HasEnded, IsUnstored, WasSent, HandsOn, Holds, IsReceiving, IsTakingIn, IsFallingDue, IsSeeingToDue, IsTakingUp, IsDueUp, IsStoring, no_step}
+use Rattle.driver.specs.Driving.{Post, post, post_with, Fate, Known, known, Drove, Anyhow, AtClock, Then, Held, ReceivesNext, SameHands, HasEnded, HandsOutLast, EndsHandedOn, IsUnstored, WasSent, HandsOn, Holds, IsReceiving, IsTakingIn, IsFallingDue, IsSeeingToDue, IsTakingUp, IsDueUp, IsStoring, no_step}
 use Rattle.driver.specs.declared.driver.Driver.{Driver}
 use Rattle.driver.specs.declared.group.Group.{Group}
 use Rattle.driver.specs.declared.sink.TakenStep.{TakenStep}
@@ -87,6 +87,24 @@ pub none_left_in : {S A : Type 0} (Handed : S → S → List TakenStep → Type 
     → OnOk r (HasEnded Handed old new before after) → OnOk r (after.steps.items ≡ [])
 none_left_in Handed (Ok x) old new before after it = it.none
 none_left_in Handed (Err f) old new before after it = tt
+
+-- and what it released went outside last
+pub ended_last : {S A : Type 0} (Handed : S → S → List TakenStep → Type 0) (r : Result A Fault) (old new : S) (before after : Group)
+    → OnOk r (HasEnded Handed old new before after) → OnOk r (EndsHandedOn Handed new after)
+ended_last Handed (Ok x) old new before after it = record { handed = (old, before.steps.items, it.handed); none = it.none }
+ended_last Handed (Err f) old new before after it = tt
+
+-- a run ends so, too
+pub handed_last : {S A : Type 0} (Handed : S → S → List TakenStep → Type 0) (r : Result A Fault) (new : S) (after : Group)
+    → OnOk r (EndsHandedOn Handed new after) → OnOk r (HandsOutLast Handed new)
+handed_last Handed (Ok x) new after it = it.handed
+handed_last Handed (Err f) new after it = tt
+
+-- no step of its group is left
+pub none_after : {S A : Type 0} (Handed : S → S → List TakenStep → Type 0) (r : Result A Fault) (new : S) (after : Group)
+    → OnOk r (EndsHandedOn Handed new after) → ended r ≡ ends.Done → after.steps.items ≡ []
+none_after Handed (Ok x) new after it done = it.none
+none_after Handed (Err f) new after it done = absurd (ends_badly f done)
 
 -- nothing comes for what is asked
 pub asked_passes : (call : Call) (now : ℕ) (a : Trace) → Passes a a (coming (call_of call now))
@@ -188,7 +206,7 @@ came_from {R = R} {N = N} {S = S} k old new s w o end F is d =
 -- what became of one sink, from here on, told as what became of another
 pub seen_from : {R N S T : Type 0} (k : Known R N S) (fate : Fate T) (old new : Post R N S) (s : Station R) (w : N) (o : S) (end : End) (F : List Event → Type 0) (a b : T) → old ≡ post s w o
     → Drove k old new end F
-    → ((log : List Event) → k.fate.front o new.sink log → fate.front a b log) → ((log : List Event) → k.fate.lived o new.sink log → fate.lived a b log)
+    → ((log : List Event) → k.fate.front o new.sink log → fate.front a b log) → ((log : List Event) → end ≡ ends.Done → k.fate.lived o new.sink log → fate.lived a b log)
     → Drove (known k.rows k.is_settled k.passed fate) (post s w a) (post_with new.station new.wire b new.waits) end F
 seen_from {R = R} {N = N} {S = S} k fate old new s w o end F a b is d front lived =
     let here : Drove k (post s w o) new end F = subst (λ (p : Post R N S). Drove k p new end F) is d in
@@ -199,7 +217,7 @@ seen_from {R = R} {N = N} {S = S} k fate old new s w o end F a b is d front live
         passes = here.driven.passes;
         waits = here.driven.waits;
         front = front here.log here.driven.front;
-        whole = λ done. lived here.log (here.driven.whole done);
+        whole = λ done. lived here.log done (here.driven.whole done);
         cause = here.driven.cause;
       };
       form = here.form;
@@ -402,7 +420,7 @@ module _ {R N S : Type 0} (k : Known R N S) (may : S → StationCall → Type 0)
           steps = λ kept. (t, unstored.1, refl);
           passes = Passes-nil (k.passed w);
           waits = λ done. absurd (ends_badly f done);
-          front = fates.begins o o log (fates.stores o (Err unstored.0));
+          front = fates.begins o o log (fates.unstored o unstored.0);
           whole = λ done. absurd (ends_badly f done);
           cause = subst (λ (e : End). HasCause log s.stopped t.stopped e) (sym unstored.2) (unstored_cause k.rows k.is_settled s t unstored.0 unstored.1);
         };

@@ -231,6 +231,15 @@ pub record HasEnded {S : Type 0} (Handed : S → S → List TakenStep → Type 0
   pub none : after.steps.items ≡ []
   pub begins : after.works ≡ 0
 
+-- the last that a desk did is that what some steps released went outside
+abbrev pub HandsOutLast : {S : Type 0} → (S → S → List TakenStep → Type 0) → S → Type 0
+HandsOutLast {S = S} Handed new = (old : S) × (steps : List TakenStep) × Handed old new steps
+
+-- that was done with the steps of a group, and none of them is left
+pub record EndsHandedOn {S : Type 0} (Handed : S → S → List TakenStep → Type 0) (new : S) (after : Group) : Type 0 where
+  pub handed : HandsOutLast Handed new
+  pub none : after.steps.items ≡ []
+
 -- up to this result a sink noted a step, and what it hands out waits behind what waited
 abbrev pub Holds : {S : Type 0} → Fate S → (S → Call → Type 0) → S → S → List Passed → List Passed → Answer → Result (Unit {0}) Fault → Type 0
 Holds fate may old new before after answer (Ok done) = ByAnswer fate.lived may old new answer × (after ≡ before ++ sending answer.out.items)

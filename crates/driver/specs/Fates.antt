@@ -43,8 +43,8 @@ pub record Fates {S : Type 0} (lived front : S → S → List Event → Type 0) 
   pub rests : (s : S) → lived s s []
   -- that the clock is asked is nothing to it
   pub clock : (s : S) (moment : ℕ) → lived s s (asked moment ∷ [])
-  -- nor that what the station saved is stored, or can't be
-  pub stores : (s : S) (answer : Result (Unit {0}) StepRefusal) → lived s s (stored answer ∷ [])
+  -- nor that what the station saved can't be stored; that it is stored a sink lives through only as it hands out what waits for it
+  pub unstored : (s : S) (refusal : StepRefusal) → lived s s (stored (Err refusal) ∷ [])
   -- where what a step saved can't be stored, nothing of it gets there
   pub withheld : (s : S) (call : Call) (answer : Answer) (refusal : StepRefusal) → may s call → front s s (took call (Ok answer) ∷ stored (Err refusal) ∷ [])
   -- nor what passes beside the station's packets

@@ -3,7 +3,7 @@
 ghost use Rattle.std.specs.Prelude.{◌≡◌, [], OnOk, true};
 ghost use Rattle.driver.specs.Events.{ended};
 ghost use Rattle.driver.specs.Replies.{IsAskedBy, awaited, reply_of};
-ghost use Rattle.driver.specs.Driving.{Anyhow, AtClock, Drove, DroveBehind, fate_of, known, post_of};
+ghost use Rattle.driver.specs.Driving.{Anyhow, AtClock, Drove, DroveBehind, EndsHandedOn, HandsOutLast, fate_of, known, post_of};
 ghost use Rattle.driver.specs.Grouping.{goes_alone};
 ghost use Rattle.driver.specs.Todos.{IsAskingFor, IsDeed, IsGoodTodo, IsNextWork, IsTodoDone, IsWorkDone};
 
@@ -229,7 +229,7 @@ impl<'a, R: Settles, N: Wire, S: Desk> Driver<'a, R, N, S> {
         log: &mut Log<'_, E>,
     ) -> Result<(), Fault<'static>>
         ensures drove { DroveBehind Anyhow result R.Rows R.Settles.is_settled N.passed S.Sink self.old self.new group.old group.new }
-        ensures all { OnOk result (group.new.steps.items ≡ []) }
+        ensures ended { OnOk result (EndsHandedOn S.handed self.new.sink group.new) }
     {
         self.work_on(group, log)?;
         let now = self.wire.now();
@@ -237,7 +237,7 @@ impl<'a, R: Settles, N: Wire, S: Desk> Driver<'a, R, N, S> {
     }
 
     /// The same, where no step was taken yet. What comes on the way is told to this writer, or faults alone; the fault that ends the run is
-    /// not.
+    /// not. At a good end the last thing done is that what the last steps released went outside.
     pub fn run<E: Write>(
         &mut self,
         alloc: Global,
@@ -248,6 +248,7 @@ impl<'a, R: Settles, N: Wire, S: Desk> Driver<'a, R, N, S> {
         ensures wire { self.new.wire.ghost_name ≡ self.old.wire.ghost_name }
         ensures was_kept { R.kept self.new.station.now.rows → R.kept self.old.station.now.rows }
         ensures drove { Drove (known R.Rows R.Settles.is_settled N.passed (fate_of S.Sink)) (post_of self.old) (post_of self.new) (ended result) Anyhow }
+        ensures handed { OnOk result (HandsOutLast S.handed self.new.sink) }
     {
         let mut group = Group::new(alloc);
         let mut log = Log { err, quiet };

@@ -4,11 +4,14 @@ use Rattle.folders.specs.Written.{File}
 use Rattle.folders.specs.declared.leaving.Place.{Place}
 
 -- one thing that was done: a file of this name was found among the offers; this file of the offers was read; this file was written among
--- the releases; the file of this name left the offers for a place; it was taken away
+-- the releases; it was noted that these numbers went out, or that they did before that was kept; the file of this name left the offers for a
+-- place; it was taken away
 pub data Doing : Type 0 where
   saw_file : (name : List ℕ) → Doing
   read_file : (file : File) → Doing
   wrote_file : (file : File) → Doing
+  noted_gone : (numbers : List ℕ) → Doing
+  noted_before : (numbers : List ℕ) → Doing
   moved_file : (name : List ℕ) (to : Place) → Doing
   removed_file : (name : List ℕ) → Doing
 
@@ -33,6 +36,8 @@ abbrev pub writing : Doing → List File
 writing (saw_file name) = []
 writing (read_file file) = []
 writing (wrote_file file) = file ∷ []
+writing (noted_gone numbers) = []
+writing (noted_before numbers) = []
 writing (moved_file name to) = []
 writing (removed_file name) = []
 

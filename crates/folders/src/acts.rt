@@ -2,6 +2,7 @@
 
 use crate::leaving::Place;
 use crate::named_file::NamedFile;
+use ballots::Number;
 
 /// A text that was written beside where a file goes.
 #[derive(Drop)]
@@ -20,6 +21,10 @@ pub enum Act {
     Read(NamedFile),
     /// This file was written among the releases.
     Wrote(NamedFile),
+    /// It was noted that these numbers went out.
+    NotedGone(Vec<Number>),
+    /// It was noted that these numbers went out before that was kept.
+    NotedBefore(Vec<Number>),
     /// A text was written beside where a file goes.
     Noted(Noted),
     /// The file of this name left the offers for a place.

@@ -1,7 +1,7 @@
 //! What a station asks of its folders.
 
 ghost use Rattle.std.specs.Prelude.{◌≡◌, ◌≤◌, ◌<◌, List, [], ◌∷◌, Option, None, OnOk, OnErr, IfOk, IfErr, IfSome, IfNone, length, map, take};
-ghost use Rattle.folders.specs.Doings.{Doing, saw_file, read_whole, wrote_file, moved_file, removed_file, Does, MayDo};
+ghost use Rattle.folders.specs.Doings.{Doing, saw_file, read_whole, wrote_file, noted_gone, noted_before, moved_file, removed_file, Does, MayDo};
 ghost use Rattle.folders.specs.GoneOut.{StartsWith};
 
 use crate::fault::FolderFault;
@@ -90,9 +90,12 @@ pub struct WentOut {
 
 /// The folders of a plant. A call that fails leaves a file as it was, or not there.
 pub trait Folders {
-    // What was done with them, in order, where that is known: which files of the offers were found and read, and which left them, and what
-    // was written among the releases.
+    // What was done with them, in order, where that is known: which files of the offers were found and read, which left them, what was written
+    // among the releases, and which numbers were noted as gone out.
     ghost doings: { Self → Option (List Doing) } = { λ _. None };
+
+    // Something that was to be written among the releases, or noted, was refused meanwhile.
+    ghost refuses: { Self → Self → Type 0 } = { λ _ _. Unit {0} };
 
     /// What lies among the offers: the next names of a look, so many at most, where it left off; where none goes on one is begun. A name may
     /// come twice or not at all where files are laid or taken away meanwhile. A fault ends the look.
@@ -121,7 +124,8 @@ pub trait Folders {
     fn put_all(&mut self, alloc: Global, files: &[NamedFile]) -> Result<(), Unwritten>
         ensures ok { OnOk result (Does (doings self.old) (doings self.new) (map wrote_file files.now)) }
         ensures err { IfErr result (λ u. Does (doings self.old) (doings self.new) (map wrote_file (take u.written files.now))) }
-        ensures fewer { IfErr result (λ u. u.written < length files.now) };
+        ensures fewer { IfErr result (λ u. u.written < length files.now) }
+        ensures refused { OnErr result (refuses self.old self.new) };
 
     /// Moves a file of the offers to a place, under the same name or with a number behind it, once the text that is to lie beside it is
     /// written; what lies there already is not written over. Where it is not the file of this stamp, it stays, and is `Changed`. Where it
@@ -155,7 +159,14 @@ pub trait Folders {
     /// These numbers went out: their files were written before. Their records are added once the disk has those files' names, at the next
     /// look or before at the latest.
     fn note_gone(&mut self, alloc: Global, numbers: &[Number]) -> Result<(), FolderFault>
-        ensures { doings self.new ≡ doings self.old };
+        ensures ok { OnOk result (Does (doings self.old) (doings self.new) (noted_gone numbers.now ∷ [])) }
+        ensures err { OnErr result (MayDo (doings self.old) (doings self.new) (noted_gone numbers.now)) }
+        ensures refused { OnErr result (refuses self.old self.new) };
+
+    /// These numbers went out before that was kept. Their records are added in the same way.
+    fn note_before(&mut self, alloc: Global, numbers: &[Number]) -> Result<(), FolderFault>
+        ensures ok { OnOk result (Does (doings self.old) (doings self.new) (noted_before numbers.now ∷ [])) }
+        ensures err { OnErr result (MayDo (doings self.old) (doings self.new) (noted_before numbers.now)) };
 
     /// The disk has the names of all files that were written, and the records of all numbers that were noted.
     fn settle(&mut self, alloc: Global) -> Result<(), FolderFault>

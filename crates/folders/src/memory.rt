@@ -3,7 +3,7 @@
 ghost use Rattle.std.specs.Prelude.{◌≡◌, ◌++◌, ◌∷◌, [], Bool, List, OnOk, OnErr, IfOk};
 ghost use Rattle.folders.specs.Acting.{IsDone, acts_of, act_of};
 ghost use Rattle.folders.specs.Changes.{after};
-ghost use Rattle.folders.specs.Doings.{wrote_file};
+ghost use Rattle.folders.specs.Doings.{noted_before, noted_gone, wrote_file};
 ghost use Rattle.folders.specs.Starts.{IsFound};
 
 use crate::acts::{Act, Noted};
@@ -178,6 +178,21 @@ impl MemoryReleased {
         keeper.ledger.made();
         Ok(())
     }
+
+    /// Enters numbers among those that went out, and adds their records, unless what is written is refused: then it is tried again as they are
+    /// settled.
+    fn enter(
+        &mut self,
+        alloc: Global,
+        numbers: &[Number],
+        is_full: bool,
+    ) -> Result<(), FolderFault> {
+        if let Some(keeper) = &mut self.keeper {
+            keeper.ledger.note(numbers)?;
+        }
+        let _ = self.write_records(alloc, is_full);
+        Ok(())
+    }
 }
 
 impl MemoryFolders {
@@ -325,6 +340,22 @@ impl MemoryFolders {
         keep(&mut self.acts, Act::Wrote(named))
     }
 
+    /// Tells that these numbers went out.
+    fn tell_gone(&mut self, alloc: Global, numbers: &[Number]) -> Result<(), FolderFault>
+        ensures { IsDone self.old.acts.items self.new.acts.items (noted_gone numbers.now ∷ []) result }
+    {
+        let gone = Vec::from_slice(alloc, numbers)?;
+        keep(&mut self.acts, Act::NotedGone(gone))
+    }
+
+    /// Tells that these numbers went out before that was kept.
+    fn tell_before(&mut self, alloc: Global, numbers: &[Number]) -> Result<(), FolderFault>
+        ensures { IsDone self.old.acts.items self.new.acts.items (noted_before numbers.now ∷ []) result }
+    {
+        let before = Vec::from_slice(alloc, numbers)?;
+        keep(&mut self.acts, Act::NotedBefore(before))
+    }
+
     /// Writes the text beside where a file goes.
     fn note(&mut self, alloc: Global, leaving: Leaving<'_>, text: &str) -> Result<(), FolderFault>
         ensures { acts_of self.new.acts.items ≡ acts_of self.old.acts.items }
@@ -460,11 +491,14 @@ impl Folders for MemoryFolders {
     }
 
     fn note_gone(&mut self, alloc: Global, numbers: &[Number]) -> Result<(), FolderFault> {
-        if let Some(keeper) = &mut self.released.keeper {
-            keeper.ledger.note(numbers)?;
-        }
-        // One that is refused is tried again as they are settled.
-        let _ = self.released.write_records(alloc, self.is_full);
+        self.tell_gone(alloc, numbers)?;
+        self.released.enter(alloc, numbers, self.is_full)?;
+        Ok(())
+    }
+
+    fn note_before(&mut self, alloc: Global, numbers: &[Number]) -> Result<(), FolderFault> {
+        self.tell_before(alloc, numbers)?;
+        self.released.enter(alloc, numbers, self.is_full)?;
         Ok(())
     }
 

@@ -62,6 +62,10 @@ impl Folders for NoFolders {
         Ok(())
     }
 
+    fn note_before(&mut self, _alloc: Global, _numbers: &[Number]) -> Result<(), FolderFault> {
+        Ok(())
+    }
+
     fn settle(&mut self, _alloc: Global) -> Result<(), FolderFault> {
         Ok(())
     }

@@ -139,6 +139,10 @@ impl<'a> Folders for HostFolders<'a> {
         self.gone.note(numbers)
     }
 
+    fn note_before(&mut self, _alloc: Global, numbers: &[Number]) -> Result<(), FolderFault> {
+        self.gone.note(numbers)
+    }
+
     fn settle(&mut self, _alloc: Global) -> Result<(), FolderFault> {
         self.releases.check(self.maker.rt)?;
         self.settle_gone()?;

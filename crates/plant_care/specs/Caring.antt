@@ -1,5 +1,5 @@
 -- What is kept in mind of catching up, and what becomes of it.
-use Rattle.std.specs.Prelude.{◌≡◌, ◌⊎◌, ◌++◌, ℕ, true, false, List, [], ◌∷◌, length, Option, Some, None, IfSome, is_some}
+use Rattle.std.specs.Prelude.{◌≡◌, ◌⊎◌, ℕ, true, false, List, [], ◌∷◌, length, Option, Some, None, IfSome, is_some}
 use Rattle.protocol.specs.Circuit.{Datagram}
 use Rattle.node_core.specs.declared.turn.Note.{Note}
 use Rattle.node_core.specs.declared.turn.Note.TheVariants as notes
@@ -20,7 +20,7 @@ use Rattle.catch_up.specs.Waves.{out_in}
 use Rattle.catch_up.specs.Unheard.{heard_by}
 use Rattle.catch_up.specs.declared.errand.Errand.{Errand}
 use Rattle.catch_up.specs.declared.errand.Errand.TheVariants.{Send, Tell, Seek}
-use Rattle.folders.specs.Doings.{Doing}
+use Rattle.folders.specs.Doings.{Doing, noted_before, noted_gone, Does, MayDo}
 use Rattle.plant_care.specs.Asking.{is_search_due, IsSearched}
 use Rattle.plant_care.specs.declared.ask.RangeAsk.{RangeAsk}
 use Rattle.plant_care.specs.declared.care.Care.{Care}
@@ -68,13 +68,10 @@ IsLeft number old new =
     IsOutOf old.healing new.healing number
     × (new ≡ record old { healing = new.healing; recalling = left_in number old.recalling; wave = out_in (gone_in old.healing number) number old.wave })
 
--- a released number went out, and is to be noted, unless there is no memory for that
-abbrev pub IsNoted : Option Release → Care → Care → Type 0
-IsNoted None old new = new ≡ old
-IsNoted (Some r) old new =
-    (new ≡ record old { catch_up = new.catch_up; unnoted = new.unnoted })
-    × IsLeft r.number old.catch_up new.catch_up
-    × ((new.unnoted.items ≡ old.unnoted.items ++ r.number ∷ []) ⊎ (new.unnoted.items ≡ old.unnoted.items))
+-- a released number went out
+abbrev pub HasLeft : Option Release → Care → Care → Type 0
+HasLeft None old new = new ≡ old
+HasLeft (Some r) old new = (new ≡ record old { catch_up = new.catch_up }) × IsLeft r.number old.catch_up new.catch_up
 
 -- a step may be an answer to what is asked for by hand, and may have saved a row before it was known what went out
 abbrev pub IsAskHeard : Care → Care → Type 0
@@ -86,7 +83,7 @@ abbrev pub IsDone : TakenStep → Care → Care → Type 0
 IsDone step old new =
     (heard : Care) × (asked : Care) × (told : Care) × KeepsGone old heard × IsAskHeard heard asked
     × (told ≡ record asked { catch_up = told_by step.answer step.moment asked.catch_up })
-    × IsNoted step.answer.release told new
+    × HasLeft step.answer.release told new
 
 -- numbers that are asked for are to be told
 abbrev pub KeepsMissed : Care → Care → Type 0
@@ -132,11 +129,29 @@ KeepsRest old new =
     (new ≡ record old { catch_up = new.catch_up; told_few = new.told_few; lacked = new.lacked })
     × (new.catch_up.asks ≡ old.catch_up.asks)
 
--- what went out is noted, all of it, or for now nothing; with the offers nothing is done
-pub record NotesAll {F : Type 0} (doings : F → Option (List Doing)) (folders folders' : F) (old new : Care) : Type 0 where
-  pub notes : new ≡ record old { unnoted = new.unnoted; notes = new.notes }
-  pub left : (new.unnoted.items ≡ []) ⊎ (new.unnoted.items ≡ old.unnoted.items)
-  pub does : doings folders' ≡ doings folders
+-- nothing changes except what is told of what can't be noted
+abbrev pub TellsNotes : Care → Care → Type 0
+TellsNotes old new = new ≡ record old { notes = new.notes }
+
+-- Of numbers that went out, these are left to be noted: there was none to note; they were noted; or that was refused, and all of them are.
+abbrev pub AreNotedGone : {F : Type 0} → (F → Option (List Doing)) → (F → F → Type 0) → F → F → List ℕ → List ℕ → Type 0
+AreNotedGone doings refuses old new had left =
+    ((had ≡ []) × (left ≡ []) × (doings new ≡ doings old))
+    ⊎ ((left ≡ []) × Does (doings old) (doings new) (noted_gone had ∷ []))
+    ⊎ ((left ≡ had) × MayDo (doings old) (doings new) (noted_gone had) × refuses old new)
+
+-- numbers that went out before that was kept were noted, or may have been, or nothing was done
+abbrev pub AreNotedBefore : Option (List Doing) → Option (List Doing) → List ℕ → Type 0
+AreNotedBefore old new numbers = (new ≡ old) ⊎ Does old new (noted_before numbers ∷ []) ⊎ MayDo old new (noted_before numbers)
+
+-- the same of whichever numbers
+abbrev pub AnyAreNotedBefore : Option (List Doing) → Option (List Doing) → Type 0
+AnyAreNotedBefore old new = (numbers : List ℕ) × AreNotedBefore old new numbers
+
+-- Numbers that went out before that was kept were noted, or may have been, and only if no number waits to be noted that was released since. Or
+-- nothing was done.
+abbrev pub NotesBefore : List ℕ → Option (List Doing) → Option (List Doing) → Type 0
+NotesBefore released old new = (new ≡ old) ⊎ ((released ≡ []) × AnyAreNotedBefore old new)
 
 -- the names of the files that were written are seen to, and what is told of that is all that changes; with the offers nothing is done
 pub record SettlesNames {F : Type 0} (doings : F → Option (List Doing)) (folders folders' : F) (old new : Care) : Type 0 where

@@ -28,18 +28,13 @@ pub record StartsFrom (start : CareStart) (c : Care) : Type 0 where
   pub own : c.catch_up.own ≡ start.own
   pub off : start.catches_up ≡ false → IsOff c
   pub quiet : c.is_quiet ≡ start.is_quiet
-  pub unnoted : c.unnoted.items ≡ []
+  pub before : c.before.items ≡ []
   pub ask : c.ask ≡ None
 
 -- a station begins to catch up, unless there is no memory for that; with the offers nothing is done
 pub record Begins {F : Type 0} (doings : F → Option (List Doing)) (start : CareStart) (folders folders' : F) {E : Type 0} (result : Result (Box Care) E) : Type 0 where
   pub starts : IfOk result (λ care. StartsFrom start care.value)
   pub does : doings folders' ≡ doings folders
-
--- a station that asks for nothing on its own does not begin to at a look; with the offers nothing is done
-pub record LooksAgain {F : Type 0} (doings : F → Option (List Doing)) (folders folders' : F) (old new : Care) : Type 0 where
-  pub does : doings folders' ≡ doings folders
-  pub off : IsOff old → IsOff new
 
 -- where it waits to be known what went out, that was read again, or it waits on; a station that asks for nothing on its own does not begin to
 pub record BeginsAgain {F : Type 0} (doings : F → Option (List Doing)) (folders folders' : F) (old new : Care) : Type 0 where

@@ -184,21 +184,22 @@ impl Care {
         }
     }
 
-    /// What was released since the start went out.
-    fn leave_unnoted(&mut self)
+    /// These numbers were released since the start: they went out.
+    fn leave_all(&mut self, released: &[Number])
         ensures rest { self.new ≡ record self.old { catch_up = self.new.catch_up } }
         ensures asks { self.new.catch_up.asks ≡ self.old.catch_up.asks }
     {
-        for place in 0..self.unnoted.len() {
-            let number = self.unnoted[place];
-            self.catch_up.went_out(number);
+        for number in released {
+            self.catch_up.went_out(*number);
         }
     }
 
-    /// Where it could not be read what went out, that is tried again, at a moment.
+    /// Where it could not be read what went out, that is tried again, at a moment. These numbers were released since the start, and are not
+    /// noted yet.
     pub(crate) fn begin_again<F: Folders, E: Write>(
         &mut self,
         folders: &mut F,
+        released: &[Number],
         now: u64,
         log: &mut Log<'_, E>,
     )
@@ -213,7 +214,7 @@ impl Care {
                 self.waiting = begun.waiting;
                 if self.waiting.is_none() {
                     self.catch_up = begun.catch_up;
-                    self.leave_unnoted();
+                    self.leave_all(released);
                 }
             }
             Err(_) => tell_unread(self.alloc, FolderFault::OutOfMemory, log.err),

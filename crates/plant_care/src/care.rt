@@ -3,7 +3,7 @@
 ghost use Rattle.std.specs.Prelude.{◌≡◌, ◌||◌, [], None, IfSome, false};
 ghost use Rattle.catch_up.specs.Errands.{IsGoodErrand};
 ghost use Rattle.plant_care.specs.Asking.{is_search_due};
-ghost use Rattle.plant_care.specs.Caring.{ComesNext, Declines, FindsErrand, IsAskHeard, IsAsideHeard, IsDone, IsHeardSo, IsNoted, IsPacketHeard, KeepsGone, KeepsMissed, TakesTurns, told_by};
+ghost use Rattle.plant_care.specs.Caring.{ComesNext, Declines, FindsErrand, HasLeft, IsAskHeard, IsAsideHeard, IsDone, IsHeardSo, IsPacketHeard, KeepsGone, KeepsMissed, TakesTurns, told_by};
 
 use crate::ask::RangeAsk;
 use crate::beginning::CareStart;
@@ -26,8 +26,8 @@ use std::io::Write;
 pub struct Care {
     pub(crate) alloc: Global,
     pub(crate) catch_up: CatchUp,
-    /// The numbers that were released and are not noted as gone out yet.
-    pub(crate) unnoted: Vec<Number>,
+    /// The numbers that went out before that was kept, and are not noted yet.
+    pub(crate) before: Vec<Number>,
     pub(crate) notes: Unnoted,
     /// The recalls and the rolls that were passed over.
     recalls: Unheards,
@@ -59,13 +59,13 @@ impl Care {
         ensures catch_up { result.catch_up ≡ catch_up }
         ensures waiting { result.waiting ≡ waiting }
         ensures quiet { result.is_quiet ≡ is_quiet }
-        ensures unnoted { result.unnoted.items ≡ [] }
+        ensures before { result.before.items ≡ [] }
         ensures ask { result.ask ≡ None }
     {
         Care {
             alloc,
             catch_up,
-            unnoted: Vec::new(alloc),
+            before: Vec::new(alloc),
             notes: Unnoted::new(),
             recalls: Unheards::new(Spoken::Recall),
             rolls: Unheards::new(Spoken::Roll),
@@ -140,13 +140,12 @@ impl Care {
         }
     }
 
-    /// A number was released, if this step did that. Where there is no memory to note it, it is released again after the next start.
-    fn note_release(&mut self, step: &TakenStep)
-        ensures { IsNoted step.now.answer.release self.old self.new }
+    /// A number was released, if this step did that: it went out.
+    fn hear_release(&mut self, step: &TakenStep)
+        ensures { HasLeft step.now.answer.release self.old self.new }
     {
         if let Some(release) = &step.answer.release {
             self.catch_up.went_out(release.number);
-            let _ = self.unnoted.push(release.number);
         }
     }
 
@@ -179,7 +178,7 @@ impl Care {
         self.hear_step(step, opened);
         self.hear_ask(step);
         self.count_told(step);
-        self.note_release(step);
+        self.hear_release(step);
     }
 
     /// The numbers that are asked for from now on are lacked, and to be told, unless faults alone are.

@@ -2,8 +2,8 @@
 
 ghost use Rattle.std.specs.Prelude.{◌≡◌};
 ghost use Rattle.catch_up_log.specs.Missed.{missed_after};
-ghost use Rattle.plant_care.specs.Caring.{KeepsRest};
-ghost use Rattle.plant_care.specs.Starting.{LooksAgain};
+ghost use Rattle.plant_care.specs.Caring.{KeepsRest, NotesBefore};
+ghost use Rattle.plant_care.specs.Starting.{IsOff};
 
 use crate::care::Care;
 use crate::ranges::look_by_hand;
@@ -17,12 +17,12 @@ use std::alloc::Global;
 use std::io::Write;
 
 /// These numbers went out before that was kept, and are to be noted. One for which there is no memory is asked for at the next start.
-fn note_all(unnoted: &mut Vec<Number>, numbers: &Numbers) {
-    for before in 0..Number::LAST {
-        if let Some(number) = Number::new(before + 1)
+fn note_all(before: &mut Vec<Number>, numbers: &Numbers) {
+    for below in 0..Number::LAST {
+        if let Some(number) = Number::new(below + 1)
             && numbers.contains(number)
         {
-            let _ = unnoted.push(number);
+            let _ = before.push(number);
         }
     }
 }
@@ -31,14 +31,14 @@ fn note_all(unnoted: &mut Vec<Number>, numbers: &Numbers) {
 fn tell_from_before<E: Write>(
     alloc: Global,
     catch_up: &mut CatchUp,
-    unnoted: &mut Vec<Number>,
+    before: &mut Vec<Number>,
     log: &mut Log<'_, E>,
 )
     ensures { catch_up.new.asks ≡ catch_up.old.asks }
 {
     if let Some(numbers) = catch_up.take_from_before() {
         tell_missing(alloc, &numbers, log.err);
-        note_all(unnoted, &numbers);
+        note_all(before, &numbers);
     }
 }
 
@@ -77,15 +77,26 @@ impl Care {
     }
 
     /// A look at the folders came to pass, at a moment: where it could not be read what went out, that is tried again; what is lacked is
-    /// looked for again, and what is asked for by hand; and what there is to tell is told.
-    pub fn look<F: Folders, E: Write>(&mut self, folders: &mut F, now: u64, log: &mut Log<'_, E>)
-        ensures { LooksAgain F.doings folders.old folders.new self.old self.new }
+    /// looked for again, and what is asked for by hand; what there is to tell is told. These numbers were released since the start, and are not
+    /// noted yet. If there are none, what went out before that was kept is noted; so no record of it stands before the files of a release.
+    pub fn look<F: Folders, E: Write>(
+        &mut self,
+        folders: &mut F,
+        released: &[Number],
+        now: u64,
+        log: &mut Log<'_, E>,
+    )
+        ensures does { NotesBefore released.now (F.doings folders.old) (F.doings folders.new) }
+        ensures off { IsOff self.old → IsOff self.new }
     {
-        self.begin_again(folders, now, log);
+        self.begin_again(folders, released, now, log);
         self.catch_up.look();
         look_by_hand(&mut self.ask);
         self.tell_missed(now, log);
         self.tell_wave(log);
-        tell_from_before(self.alloc, &mut self.catch_up, &mut self.unnoted, log);
+        tell_from_before(self.alloc, &mut self.catch_up, &mut self.before, log);
+        if released.is_empty() {
+            self.note_before(folders, now, log);
+        }
     }
 }

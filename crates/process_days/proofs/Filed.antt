@@ -14,7 +14,7 @@ use Rattle.refusals.specs.declared.refusal.StepRefusal.{StepRefusal}
 use Rattle.station.specs.declared.answer.Answer.{Answer}
 use Rattle.station.specs.declared.answer.Release.{Release}
 use Rattle.station.specs.Readiness.{slugs_of, IsNumber}
-use Rattle.folders.specs.Doings.{Doing, saw_file, read_file, wrote_file, moved_file, removed_file}
+use Rattle.folders.specs.Doings.{Doing, saw_file, read_file, wrote_file, noted_gone, noted_before, moved_file, removed_file}
 use Rattle.folders.specs.Written.{File}
 use Rattle.run_command.specs.ReleaseFiles.{entry_files, files_of, filing, release_files}
 use Rattle.driver.specs.Events.{Event, asked, took, stored, aside}
@@ -103,7 +103,7 @@ files_agree g days p day at d =
     }
 
 -- what was written in a story
-written_in : (story : List Run) (f : File) → IsAmong (doings_of story) (wrote_file f) → IsAmong (files_of_story story) f
+pub written_in : (story : List Run) (f : File) → IsAmong (doings_of story) (wrote_file f) → IsAmong (files_of_story story) f
 written_in [] f i = absurd i
 written_in (stepped e ∷ story) f i = written_in story f i
 written_in (done (saw_file name) ∷ story) f (inl e) = absurd cc
@@ -112,6 +112,10 @@ written_in (done (read_file g) ∷ story) f (inl e) = absurd cc
 written_in (done (read_file g) ∷ story) f (inr i) = written_in story f i
 written_in (done (wrote_file g) ∷ story) f (inl e) = inl cc
 written_in (done (wrote_file g) ∷ story) f (inr i) = inr (written_in story f i)
+written_in (done (noted_gone numbers) ∷ story) f (inl e) = absurd cc
+written_in (done (noted_gone numbers) ∷ story) f (inr i) = written_in story f i
+written_in (done (noted_before numbers) ∷ story) f (inl e) = absurd cc
+written_in (done (noted_before numbers) ∷ story) f (inr i) = written_in story f i
 written_in (done (moved_file name to) ∷ story) f (inl e) = absurd cc
 written_in (done (moved_file name to) ∷ story) f (inr i) = written_in story f i
 written_in (done (removed_file name) ∷ story) f (inl e) = absurd cc
@@ -164,7 +168,7 @@ module _ (k : ℕ) (e : Event) (rest : Order) (day : List Happened) (m : ℕ) (f
   ]
   filed_either false far later i = later i
 
-filed : (order : Order) (day : List Happened) (m : ℕ) (f : File) → IsAmong (flat_map filing (log_of m order)) f → IsFiled (day_after day order) m f
+pub filed : (order : Order) (day : List Happened) (m : ℕ) (f : File) → IsAmong (flat_map filing (log_of m order)) f → IsFiled (day_after day order) m f
 filed [] day m f i = absurd i
 filed ((k, e) ∷ rest) day m f i = filed_either k e rest day m f (k == m) refl (λ j. filed rest (day_with k e day) m f j) i
 

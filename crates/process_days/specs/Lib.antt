@@ -1,3 +1,7 @@
+pub mod Cutting
+pub mod Ends
 pub mod Keyed
+pub mod Restarting
+pub mod Saved
 pub mod Seeing
 pub mod Telling

@@ -1,5 +1,5 @@
 -- The logs of a circuit's processes, taken together in one order: that they make a day.
-use Rattle.std.specs.Prelude.{◌≡◌, ◌==◌, if◌then◌else◌, ℕ, List, [], ◌∷◌, Result, Ok, Err}
+use Rattle.std.specs.Prelude.{◌≡◌, ◌==◌, if◌then◌else◌, true, ℕ, List, [], ◌∷◌, Result, Ok, Err}
 use Rattle.protocol.specs.Ballots.{IsMember}
 use Rattle.protocol.specs.Refusals.{Call, Offering, Seeking, Falling_due, Receiving, Recalling}
 use Rattle.rows_saved.specs.declared.rows.Rows.{Ghosts}
@@ -9,8 +9,7 @@ use Rattle.station.specs.declared.station.Station.{Station}
 use Rattle.wire.specs.Passing.{Trace, untold, listed, guarded}
 use Rattle.command_ends.specs.declared.end.End.{End}
 use Rattle.driver.specs.Events.{Event, asked, took, stored, aside}
-use Rattle.driver.specs.declared.sink.Sink.{Ghosts as SinkGhosts}
-use Rattle.driver.specs.Driving.{Post, Driven, Stepped, known, fate_of}
+use Rattle.driver.specs.Driving.{Post, Fate, Driven, Stepped, known}
 use Rattle.days.specs.Happening.{Happened, did, ended, At_rest, Came}
 use Rattle.days.specs.Handing.{Plants, Member, runs, over}
 use Rattle.days.specs.Days.{Day, IsDayAgreed, OfferedFirst}
@@ -62,9 +61,9 @@ HasLog g is_settled (over ending s) last log = log ≡ []
 
 -- a station that is driven by these events, on whichever wire and with whatever becomes of its releases, has this log, as a process that
 -- runs; so have those of `serve_run` and `run_station`
-abbrev pub DrivenHaveLogs : {R N S : Type 0} → Ghosts R → (R → Type 0) → (N → Trace) → SinkGhosts S → Type 0
-DrivenHaveLogs {R = R} {N = N} {S = S} g is_settled passed sink =
-    (old new : Post R N S) (end : End) (log : List Event) → Driven (known g is_settled passed (fate_of sink)) old new end log → g.kept new.station.rows
+abbrev pub DrivenHaveLogs : {R N S : Type 0} → Ghosts R → (R → Type 0) → (N → Trace) → Fate S → Type 0
+DrivenHaveLogs {R = R} {N = N} {S = S} g is_settled passed fate =
+    (old new : Post R N S) (end : End) (log : List Event) → Driven (known g is_settled passed fate) old new end log → g.kept new.station.rows
     → HasLog g is_settled (runs old.station) new.station log
 
 -- what a call takes in is such
@@ -94,27 +93,37 @@ ReceivesLetIn (listed passed) log = Unit {0}
 ReceivesLetIn (guarded Is clean) log = clean → AllTaken Is log
 
 -- a station that is driven by these events takes in such packets alone as its wire lets in
-abbrev pub DrivenTakeLetIn : {R N S : Type 0} → Ghosts R → (R → Type 0) → (N → Trace) → SinkGhosts S → Type 0
-DrivenTakeLetIn {R = R} {N = N} {S = S} g is_settled passed sink =
-    (old new : Post R N S) (end : End) (log : List Event) → Driven (known g is_settled passed (fate_of sink)) old new end log
+abbrev pub DrivenTakeLetIn : {R N S : Type 0} → Ghosts R → (R → Type 0) → (N → Trace) → Fate S → Type 0
+DrivenTakeLetIn {R = R} {N = N} {S = S} g is_settled passed fate =
+    (old new : Post R N S) (end : End) (log : List Event) → Driven (known g is_settled passed fate) old new end log
     → ReceivesLetIn (passed old.wire) log
 
--- Each member's process has its log of this order, and leaves its station so. A process that ended before it had stored what its last steps
--- saved sent nothing of them: where the next start does not find their rows, its log is told up to the event before, in which it stored all.
+-- each member's process has its log of this order, and leaves its station so
 abbrev pub HaveLogs : {R : Type 0} → Ghosts R → (R → Type 0) → ℕ → (ℕ → Member R) → (ℕ → Station R) → Order → Type 0
 HaveLogs g is_settled count at last order = (m : ℕ) → IsMember count m → HasLog g is_settled (at m) (last m) (log_of m order)
 
--- a member whose process still runs has the station that its process left
-abbrev pub IsLeftWith : {R : Type 0} → Member R → Station R → Type 0
-IsLeftWith (runs s) last = last ≡ s
-IsLeftWith (over ending s) last = Unit {0}
+-- a member's process is over
+abbrev pub IsOver : {R : Type 0} → Member R → Type 0
+IsOver (runs s) = ⊥
+IsOver (over ending s) = Unit {0}
+
+-- a process that ran is over once it has stopped its station
+abbrev pub WasLeft : {R : Type 0} → Member R → Station R → Type 0
+WasLeft (runs s) last = last.stopped ≡ true
+WasLeft (over ending s) last = Unit {0}
+
+-- A member whose process still runs has the station that its process left. If its process ran at the start and is over, the station has
+-- stopped.
+abbrev pub IsLeftWith : {R : Type 0} → Member R → Member R → Station R → Type 0
+IsLeftWith first (runs s) last = last ≡ s
+IsLeftWith first (over ending s) last = WasLeft first last
 
 -- the processes of a day go on, each as its log says, in any one order in which what they take in was handed out before: that is a day again
 abbrev pub LogsMakeDays : {R : Type 0} → Ghosts R → (R → Type 0) → Type 0
 LogsMakeDays {R = R} g is_settled =
     (p : Plants) (day : List Happened) (at : ℕ → Member R) (order : Order) (last : ℕ → Station R)
     → Day g p day at → HaveLogs g is_settled p.count at last order → IsInTurn p.count day order
-    → (now : ℕ → Member R) × Day g p (day_after day order) now × ((m : ℕ) → IsMember p.count m → IsLeftWith (now m) (last m))
+    → (now : ℕ → Member R) × Day g p (day_after day order) now × ((m : ℕ) → IsMember p.count m → IsLeftWith (at m) (now m) (last m))
 
 -- so what they release agrees, with all that was released before in the day
 abbrev pub LogsAgree : {R : Type 0} → Ghosts R → (R → Type 0) → Type 0

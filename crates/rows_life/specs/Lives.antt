@@ -24,7 +24,7 @@ pub record IsBegun (n : ℕ) (file wal : List ℕ) : Type 0 where
   pub in_use : IsInUse n file
   pub log : log_of wal ≡ Blank (Some n)
 
--- this front of a file is of bytes
+-- the first n numbers of a file are bytes
 abbrev pub BeginsWithBytes : ℕ → List ℕ → Type 0
 BeginsWithBytes n file = (i : ℕ) → i < n → slice_index file i < 0x100
 

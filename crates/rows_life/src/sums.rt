@@ -1,5 +1,5 @@
-//! Whether the pages of a database keep sums, as a program other than this one may have set them to. Such a database is opened as it is:
-//! no life of it begins.
+//! Whether the pages of a database keep sums. Another program may have set them to; this one never does, and begins no life of such a
+//! database.
 
 ghost use Rattle.std.specs.Prelude.{◌<◌, OnOk};
 ghost use Rattle.sqlite_wal.specs.Files.{seen_image};
@@ -14,10 +14,11 @@ use sqlite_disk::{Disk, Files};
 use sqlite_wal::{Error, probe_first_page, probe_page_size};
 use std::alloc::Global;
 
-/// The least number in bytes 20 to 23 of a first page that keeps some bytes of each page for a sum: their count is the first of the four.
+/// The least number in bytes 20 to 23 of a first page where each page keeps some bytes for a sum: the first of the four is their count.
 const RESERVES: u32 = 0x100_0000;
 
-/// Refuses a first page that keeps some bytes of each page for a sum. `settings` are its bytes 20 to 23.
+/// Refuses a database whose first page says that its pages keep sums. `settings` are bytes 20 to 23 of that page. The file's own header
+/// says that they keep none, or the file would have been refused before: so the file and its log do not belong together.
 fn plain(settings: u32) -> Result<(), RefusedRows>
     ensures { OnOk result (settings < 0x100_0000) }
 {
@@ -28,8 +29,8 @@ fn plain(settings: u32) -> Result<(), RefusedRows>
     }
 }
 
-/// Refuses files whose pages keep sums. The first page is looked at as recovery finds it, which may be in the log: there it can say other
-/// than in the file, which was looked at before. Nothing is written.
+/// Refuses files whose pages keep sums, by the first page that recovery finds. That may be in the log, and say something else there than in
+/// the file, which was looked at before. Nothing is written.
 pub(crate) fn without_sums<D: Disk>(alloc: Global, files: &mut Files<D>) -> Result<(), RefusedRows>
     ensures unwritten { AreUnwritten D.Disk files.old files.new }
     ensures clean { WereClean D.Disk files.old files.new }

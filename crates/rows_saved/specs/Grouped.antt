@@ -46,3 +46,12 @@ pub record MayBeSaved (is_open : Type 0) (version : Version) (waits : List (ℕ 
 -- a fault that is none of the rows inside
 abbrev pub IsOwnFault : RowsFault → Type 0
 IsOwnFault fault = (fault ≡ OutOfMemory) ⊎ (fault ≡ Store)
+
+-- all that waited was saved in the rows inside, by one call; where nothing waited nothing was done
+abbrev pub HasSavedGroup : {R : Type 0} → (R → R → List (ℕ × Row) → Type 0) → (R → R → List (ℕ × Row) → Type 0) → GroupedOf R → GroupedOf R → Type 0
+HasSavedGroup stores leaves old new =
+    ((old.waits ≡ []) × (new ≡ old)) ⊎ ((new.waits ≡ []) × stores old.rows new.rows old.waits × leaves old.rows new.rows old.waits)
+
+-- the save of all that waited was refused, and nothing waits any more
+abbrev pub HasTornGroup : {R : Type 0} → (R → R → List (ℕ × Row) → Type 0) → GroupedOf R → GroupedOf R → Type 0
+HasTornGroup leaves old new = (new.waits ≡ []) × leaves old.rows new.rows old.waits

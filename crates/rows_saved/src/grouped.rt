@@ -4,7 +4,7 @@ ghost use Rattle.std.specs.Prelude.{◌≡◌, ◌≤◌, ◌⊎◌, ◌+◌, []
 ghost use Rattle.std.specs.Borrow.{LendsIf, sem};
 ghost use Rattle.rows_saved.specs.Saved.{RowFits, Rises};
 ghost use Rattle.rows_saved.specs.Groups.{PutsAll, last_of};
-ghost use Rattle.rows_saved.specs.Grouped.{IsOwnFault};
+ghost use Rattle.rows_saved.specs.Grouped.{IsOwnFault, HasSavedGroup, HasTornGroup};
 
 use crate::fault::{RowsFault, refuse};
 use crate::rows::Rows;
@@ -126,7 +126,6 @@ impl<R: SavesAll> Grouped<R> {
 
 impl<R: SavesAll> Rows for Grouped<R> {
     ghost use Rattle.rows_saved.specs.Groups.{with_all};
-    ghost use Rattle.rows_saved.specs.Grouped.{IsOwnFault};
 
     ghost made = { λ s. R.Rows.made s.rows };
 
@@ -152,6 +151,13 @@ impl<R: SavesAll> Rows for Grouped<R> {
     ghost tells = { λ old new _ _. (new.rows ≡ old.rows) × (new.waits ≡ old.waits) };
 
     ghost upgrades = { λ old new. (old.waits ≡ []) × (new.waits ≡ []) × R.Rows.upgrades old.rows new.rows };
+
+    ghost balks = { λ old new. (new.waits ≡ old.waits) × ((new.rows ≡ old.rows) ⊎ R.Rows.balks old.rows new.rows) };
+
+    // What the rows inside show and tell of the save of all that waited.
+    ghost shows = { λ old new. HasSavedGroup R.SavesAll.stores R.SavesAll.leaves old new };
+
+    ghost torn = { λ old new. HasTornGroup R.SavesAll.leaves old new };
 
     ghost blames = { λ old new fault. IsOwnFault fault ⊎ R.Rows.blames old.rows new.rows fault };
 
@@ -242,15 +248,22 @@ impl<R: SavesAll> Settles for Grouped<R> {
         ensures nothing { self.old.waits ≡ [] → (result ≡ Ok tt) × (self.new ≡ self.old) }
 
         // What the rows inside show and tell of the save of all that waited.
-        ensures stores { ¬ (self.old.waits ≡ []) → OnOk result (R.SavesAll.stores self.old.rows self.new.rows self.old.waits) }
-        ensures leaves { ¬ (self.old.waits ≡ []) → R.SavesAll.leaves self.old.rows self.new.rows self.old.waits }
+        ensures shows { OnOk result (HasSavedGroup R.SavesAll.stores R.SavesAll.leaves self.old self.new) }
+        ensures torn { OnErr result (HasTornGroup R.SavesAll.leaves self.old self.new) }
     {
         if self.waits.is_empty() {
             return Ok(());
         }
-        let saved = self.rows.put_all(self.waits.as_slice());
-        self.waits.clear();
-        self.answers = self.answers && saved.is_ok();
-        saved
+        match self.rows.put_all(self.waits.as_slice()) {
+            Ok(()) => {
+                self.waits.clear();
+                Ok(())
+            }
+            Err(fault) => {
+                self.waits.clear();
+                self.answers = false;
+                Err(fault)
+            }
+        }
     }
 }

@@ -56,6 +56,11 @@ pub trait Rows: Drop {
 
     ghost balks: { Self → Self → Type 0 } = { λ _ _. Unit {0} };
 
+    // Of rows whose saves wait: what else the Ok of a `settle` shows, and what else its Err tells, for such a caller.
+    ghost shows: { Self → Self → Type 0 } = { λ _ _. Unit {0} };
+
+    ghost torn: { Self → Self → Type 0 } = { λ _ _. Unit {0} };
+
     // Which fault a refused call answers, for such a caller.
     ghost blames: { Self → Self → FaultValue → Type 0 } = { λ _ _ _. Unit {0} };
 

@@ -1,6 +1,6 @@
 //! What is asked of rows that are read as they were saved before they are stored.
 
-ghost use Rattle.std.specs.Prelude.{◌≡◌, OnOk, Ok};
+ghost use Rattle.std.specs.Prelude.{◌≡◌, OnOk, OnErr, Ok};
 ghost use Rattle.rows_saved.specs.Called.{IsCalled};
 ghost use Rattle.rows_saved.specs.Saved.{Saved, SameRows};
 
@@ -25,6 +25,8 @@ pub trait Settles: Rows {
         ensures settled { OnOk result (is_settled self.new) }
         ensures same { Self.Rows.kept self.new → OnOk result (SameRows (Self.Rows.saved self.old) (Self.Rows.saved self.new)) }
         ensures version { Self.Rows.version self.new ≡ Self.Rows.version self.old }
+        ensures shows { OnOk result (Self.Rows.shows self.old self.new) }
+        ensures torn { OnErr result (Self.Rows.torn self.old self.new) }
 
         // Where all is stored already, nothing is done.
         ensures nothing { is_settled self.old → (result ≡ Ok tt) × (self.new ≡ self.old) }

@@ -1,12 +1,12 @@
 -- Looks at the offers, files that leave them, and what follows of it.
-use Rattle.std.proofs.Common.{◌≡◌, ◌+◌, ◌++◌, ◌∙◌, ◌⊎◌, ℕ, Bool, zero, suc, drop, false, true, List, [], ◌∷◌, Option, Some, None, Result, Ok, Err, Vec, Global, inl, inr, refl, sym, ap, subst, append-nil, length, ◌==◌, arith}
+use Rattle.std.proofs.Common.{◌≡◌, ◌+◌, ◌++◌, ◌∙◌, ◌⊎◌, ℕ, Bool, zero, suc, drop, false, true, List, [], ◌∷◌, Option, Some, None, Result, Ok, Err, Vec, Global, inl, inr, refl, sym, ap, subst, append-nil, length, map, arith}
 use Rattle.std.specs.Prelude.{flat_map, IfOk, IfSome, IfNone, IsErr, OnOk, OnErr}
 use Rattle.std.proofs.lemmas.Bool.Decides.{nat_tests}
 use Rattle.protocol.specs.Lists.{IsAmong}
 use Rattle.code_table.specs.Tables.{Places}
 use Rattle.tape_frames.specs.declared.entry.Entry.{Entry}
 use Rattle.station.specs.declared.answer.Release.{Release}
-use Rattle.folders.specs.Doings.{Doing, saw_file, read_file, moved_file, writing, Does, MayDo}
+use Rattle.folders.specs.Doings.{Doing, saw_file, read_file, wrote_file, noted_before, moved_file, writing, Does, MayDo}
 use Rattle.folders.specs.Offers.{IsNameOf}
 use Rattle.folders.specs.Written.{File}
 use Rattle.folders.specs.declared.leaving.Place.{Place}
@@ -29,16 +29,18 @@ use Rattle.offers.specs.declared.stage.Stage.TheVariants as stages
 use Rattle.offers.specs.Order.{rank}
 use Rattle.offers.specs.Stages.{after, changed, news_of}
 use Rattle.offers.specs.Turns.{IsInTurn}
+use Rattle.plant_care.specs.Caring.{AreNotedBefore, AreNotedGone}
 use Rattle.driver.specs.Events.{Event}
 use Rattle.run_command.specs.Standing.{Texts}
 use Rattle.run_command.specs.Departing.{departure_of, task_of, way_to, place_of, IsFree, IsFreeWay, IsFreeTask}
 use Rattle.run_command.specs.Minding.{name_of, WasRead, WereRead, HasRelease, HaveReleases, onto, IsOfRelease, AreLooks, IsLook, AreSettlings, IsSettling}
 use Rattle.run_command.specs.Story.{IsReleasedIn}
-use Rattle.run_command.specs.Working.{Follows, Looks, LooksOnly, Looked, Departs, IsOfKnown, Settles, IfRead, IsTapeOrFault, BecameTape, Keeps, Releases}
+use Rattle.run_command.specs.Waiting.{Waiting, IsFiled, with_files, with_numbers}
+use Rattle.run_command.specs.Working.{EndsRange, Follows, Looks, Looked, Departs, IsOfKnown, Settles, IfRead, IsTapeOrFault, BecameTape, Keeps, Releases}
 use Rattle.run_command.specs.declared.departures.Departure.{Departure}
 use Rattle.run_command.specs.declared.departures.LeavingCause.{LeavingCause}
 use Rattle.run_command.specs.declared.departures.LeavingCause.TheVariants.{Released, NoOffer, Answered}
-use Rattle.run_command.proofs.Story.{read_here, taken_more, looks_then, settlings_then, settlings_weaker, silent_looks, silent_settlings, settlings_look}
+use Rattle.run_command.proofs.Story.{read_here, taken_more, settlings_then, settlings_weaker, silent_looks, silent_settlings, settlings_look}
 use Rattle.run_command.proofs.Wishes.{landed_still, read_now, IfOffer}
 
 -- what a call may have done
@@ -48,12 +50,12 @@ may_not None b d same = tt
 may_not (Some x) None d same = absurd cc
 may_not (Some x) (Some y) d same = let e : y ≡ x = cc in inl e
 
-record Did (a b : Option (List Doing)) (d : Doing) : Type 0 where
-  doings : List Doing
-  does : Does a b doings
-  either : (doings ≡ []) ⊎ (doings ≡ d ∷ [])
+pub record Did (a b : Option (List Doing)) (d : Doing) : Type 0 where
+  pub doings : List Doing
+  pub does : Does a b doings
+  pub either : (doings ≡ []) ⊎ (doings ≡ d ∷ [])
 
-did_of : (a b : Option (List Doing)) (d : Doing) → MayDo a b d → Did a b d
+pub did_of : (a b : Option (List Doing)) (d : Doing) → MayDo a b d → Did a b d
 did_of None b d p = record { doings = []; does = tt; either = inl refl }
 did_of (Some x) None d p = absurd p
 did_of (Some x) (Some y) d (inl e) = record { doings = []; does = e ∙ sym (append-nil x); either = inl refl }
@@ -184,17 +186,17 @@ follows_landed m n number l now same = record {
 
 -- what was done with files among the offers, texts being read by this table: nothing was written; files left for those that were sent or
 -- lost only under released numbers, and none did where a file waits to be written; and what is known then was read, or was released
-pub record Deals (t : Texts) (old new : Option (List Doing)) (waits : List File) (was is : Standing) : Type 0 where
+pub record Deals (t : Texts) (old new : Option (List Doing)) (waits : Waiting) (was is : Standing) : Type 0 where
   pub doings : List Doing
   pub does : Does old new doings
   pub silent : flat_map writing doings ≡ []
   pub settles : (log : List Event) → HaveReleases log was → AreSettlings (IsOfRelease log) doings
-  pub none : (waits ≡ [] → ⊥) → AreLooks doings
+  pub none : (IsFiled waits → ⊥) → AreLooks doings
   pub taken : (shown : List Doing) → WereRead t shown was.files → WereRead t (onto doings shown) is.files
   pub released : is.released ≡ was.released
 
 pub deals_look :
-    (t : Texts) (a b : Option (List Doing)) (w : List File) (P : List Doing → Type 0) (m n : Standing) (l : Looks a b P)
+    (t : Texts) (a b : Option (List Doing)) (w : Waiting) (P : List Doing → Type 0) (m n : Standing) (l : Looks a b P)
     → ((shown : List Doing) → WereRead t shown m.files → WereRead t (onto l.doings shown) n.files) → n.released ≡ m.released → Deals t a b w m n
 deals_look t a b w P m n l taken same = record {
   doings = l.doings;
@@ -207,13 +209,13 @@ deals_look t a b w P m n l taken same = record {
 }
 
 -- a look, and then a change that reads nothing
-pub deals_looks : (t : Texts) (a b : Option (List Doing)) (w : List File) (P : List Doing → Type 0) (m n : Standing) → Looks a b P → Follows m n → Deals t a b w m n
+pub deals_looks : (t : Texts) (a b : Option (List Doing)) (w : Waiting) (P : List Doing → Type 0) (m n : Standing) → Looks a b P → Follows m n → Deals t a b w m n
 deals_looks t a b w P m n l f = deals_look t a b w P m n l (λ shown h. taken_more t l.doings shown n.files (f.taken t shown h)) f.released
 
-pub deals_looked : (t : Texts) (a b : Option (List Doing)) (w : List File) (m n : Standing) → Looked a b m n → Deals t a b w m n
+pub deals_looked : (t : Texts) (a b : Option (List Doing)) (w : Waiting) (m n : Standing) → Looked a b m n → Deals t a b w m n
 deals_looked t a b w m n l = deals_looks t a b w (λ doings. Unit {0}) m n l.looks l.follows
 
-pub deals_follows : (t : Texts) (a b : Option (List Doing)) (w : List File) (m n : Standing) → b ≡ a → Follows m n → Deals t a b w m n
+pub deals_follows : (t : Texts) (a b : Option (List Doing)) (w : Waiting) (m n : Standing) → b ≡ a → Follows m n → Deals t a b w m n
 deals_follows t a b w m n same f = deals_looks t a b w (λ doings. Unit {0}) m n (looks_none a b (λ doings. Unit {0}) same tt) f
 
 -- a file was read, and what it asks for is told
@@ -236,14 +238,14 @@ read_by t D a b r result wish m n is l files shown h =
     (read_now t (onto l.doings shown) r wish 0 m.files here (taken_more t l.doings shown m.files h))
 
 pub deals_read :
-    (t : Texts) (D : Type 0) (a b : Option (List Doing)) (w : List File) (r : FileRequest) (result : Result (Result Wish OfferFault) D) (wish : Result Wish OfferFault) (m n : Standing) → result ≡ Ok wish
+    (t : Texts) (D : Type 0) (a b : Option (List Doing)) (w : Waiting) (r : FileRequest) (result : Result (Result Wish OfferFault) D) (wish : Result Wish OfferFault) (m n : Standing) → result ≡ Ok wish
     → Looks a b (λ doings. IfRead result (λ x. WasRead t doings r x)) → n.files ≡ changed (rank r) (after (news_of wish) 0) m.files → n.released ≡ m.released
     → Deals t a b w m n
 deals_read t D a b w r result wish m n is l files released =
     deals_look t a b w (λ doings. IfRead result (λ x. WasRead t doings r x)) m n l (read_by t D a b r result wish m n is l files) released
 
 -- before it something was chosen
-pub deals_from : (t : Texts) (a b : Option (List Doing)) (w : List File) (m n o : Standing) → Follows m n → Deals t a b w n o → Deals t a b w m o
+pub deals_from : (t : Texts) (a b : Option (List Doing)) (w : Waiting) (m n o : Standing) → Follows m n → Deals t a b w n o → Deals t a b w m o
 deals_from t a b w m n o f d = record {
   doings = d.doings;
   does = d.does;
@@ -270,7 +272,7 @@ way_settles b written r Answered free = tt
 way_looks : (b : Standing) (r : FileRequest) (way : LeavingCause) → IsFreeWay b false r.number way → IsLook (moved_file (name_of r) (place_of way))
 way_looks b r (Released to) free = let never : false ≡ true = free.1 in absurd cc
 way_looks b r (NoOffer why) free = tt
-way_looks b r Answered free = tt
+way_looks b r Answered free = let never : false ≡ true = free in absurd cc
 
 -- it may, where all that was released is written
 pub settles_departs : (a b : Option (List Doing)) (written : Bool) (d : Departure) (m n : Standing) → Departs d a b m n → IsFree m written d → Settles a b m n
@@ -286,7 +288,7 @@ settles_departs a b written d m n p free =
       follows = p.follows;
     }
 
--- and else only where it was none, or was answered
+-- and else only where it was none
 looked_departs : (a b : Option (List Doing)) (d : Departure) (m n : Standing) → Departs d a b m n → IsFree m false d → Looked a b m n
 looked_departs a b d m n p free =
     record { looks = looks_may a b (moved_file (name_of d.found.request) (place_of d.way)) (way_looks m d.found.request d.way free) p.departs; follows = p.follows }
@@ -303,31 +305,35 @@ known_released b log name all k =
     }
 
 -- where nothing waits files leave so
-pub deals_settled : (t : Texts) (a b : Option (List Doing)) (w : List File) (m n : Standing) → w ≡ [] → Settles a b m n → Deals t a b w m n
-deals_settled t a b w m n none d = record {
+pub deals_settled : (t : Texts) (a b : Option (List Doing)) (w : Waiting) (m n : Standing) → IsFiled w → Settles a b m n → Deals t a b w m n
+deals_settled t a b w m n filed d = record {
   doings = d.doings;
   does = d.does;
   silent = silent_settlings (IsOfKnown m) d.doings d.settles;
   settles = λ log known. settlings_weaker (IsOfKnown m) (IsOfRelease log) d.doings (λ name k. known_released m log name known k) d.settles;
-  none = λ full. absurd (full none);
+  none = λ full. absurd (full filed);
   taken = λ shown h. taken_more t d.doings shown n.files (d.follows.taken t shown h);
   released = d.follows.released;
 }
 
 -- a file leaves the offers where it may
-pub deals_left : (t : Texts) (a b : Option (List Doing)) (w : List File) (written : Bool) (d : Departure) (m n : Standing) → (written ≡ true → w ≡ [])
+pub deals_left : (t : Texts) (a b : Option (List Doing)) (w : Waiting) (written : Bool) (d : Departure) (m n : Standing) → (written ≡ true → IsFiled w)
     → Departs d a b m n → IsFree m written d → Deals t a b w m n
 deals_left t a b w true d m n empty p free = deals_settled t a b w m n (empty refl) (settles_departs a b true d m n p free)
 deals_left t a b w false d m n empty p free = deals_looked t a b w m n (looked_departs a b d m n p free)
 
--- a list that has a first is not empty
-not_none : {A : Type 0} (w : List A) (x : A) (xs : List A) → w ≡ x ∷ xs → w ≡ [] → ⊥
+pub not_stored : {b : Bool} → b ≡ false → b ≡ true → ⊥
+not_stored waits stored = cc
+
+-- a list that has a first element is not empty
+pub not_none : {A : Type 0} (w : List A) (x : A) (xs : List A) → w ≡ x ∷ xs → w ≡ [] → ⊥
 not_none w x xs e none = cc
 
 -- none did where a file waits
-pub deals_out : (t : Texts) (a b : Option (List Doing)) (w v : List File) (m n : Standing) → w ≡ v → ((w ≡ [] → ⊥) → b ≡ a) → Settles a b m n → Deals t a b w m n
-deals_out t a b w [] m n is stay d = deals_settled t a b w m n is d
-deals_out t a b w (x ∷ xs) m n is stay d = deals_follows t a b w m n (stay (not_none w x xs is)) d.follows
+pub deals_out : (t : Texts) (a b : Option (List Doing)) (w : Waiting) (v : List File) (stored : Bool) (m n : Standing) → w.files ≡ v → w.stored ≡ stored → ((IsFiled w → ⊥) → b ≡ a) → Settles a b m n → Deals t a b w m n
+deals_out t a b w [] true m n is sure stay d = deals_settled t a b w m n (record { none = is; stored = sure }) d
+deals_out t a b w [] false m n is sure stay d = deals_follows t a b w m n (stay (λ filed. not_stored sure filed.stored)) d.follows
+deals_out t a b w (x ∷ xs) stored m n is sure stay d = deals_follows t a b w m n (stay (λ filed. not_none w.files x xs is filed.none)) d.follows
 
 -- one file after the other
 pub settles_none : (a b : Option (List Doing)) (m n : Standing) → b ≡ a → Follows m n → Settles a b m n
@@ -346,14 +352,61 @@ settles_then a b c m n o d e = record {
   follows = follows_then m n o d.follows e.follows;
 }
 
--- one look after the other
-pub looks_both : (a b c : Option (List Doing)) → LooksOnly a b → LooksOnly b c → LooksOnly a c
-looks_both a b c d e = record {
-  doings = d.doings ++ e.doings;
-  does = does_then a b c d.doings e.doings d.does e.does;
-  looks = looks_then d.doings e.doings d.looks e.looks;
-  finds = tt;
-}
+-- the files that were written are all that waited, where none waits any more
+pub all_wrote : (a b : Option (List Doing)) (had files waits : List File) → had ≡ files ++ waits → waits ≡ [] → Does a b (map wrote_file files) → Does a b (map wrote_file had)
+all_wrote a b had files waits split none does =
+    subst (λ (l : List File). Does a b (map wrote_file l)) (sym (split ∙ ap (λ (l : List File). files ++ l) none ∙ append-nil files)) does
+
+-- what waits is the same if its parts are
+pub same_waits : (v w : Waiting) → v.files ≡ w.files → v.numbers ≡ w.numbers → v.stored ≡ w.stored → v ≡ w
+same_waits v w files numbers stored =
+    ap (λ (l : List File). with_files l v) files ∙ ap (λ (l : List ℕ). with_numbers l (with_files w.files v)) numbers ∙ ap (λ (b : Bool). record w { stored = b }) stored
+
+-- numbers were noted that are the same as these
+pub noted_same :
+    {F : Type 0} (doings : F → Option (List Doing)) (refuses : F → F → Type 0) (f g : F) (had was left : List ℕ) → had ≡ was
+    → AreNotedGone doings refuses f g had left → AreNotedGone doings refuses f g was left
+noted_same doings refuses f g had was left same it = subst (λ (l : List ℕ). AreNotedGone doings refuses f g l left) same it
+
+-- what is done at a look
+
+-- numbers from before were noted, or not
+pub did_before : (a b : Option (List Doing)) (numbers : List ℕ) → AreNotedBefore a b numbers → Did a b (noted_before numbers)
+did_before a b numbers (inl same) = record { doings = []; does = does_nothing a b same; either = inl refl }
+did_before a b numbers (inr (inl does)) = record { doings = noted_before numbers ∷ []; does = does; either = inr refl }
+did_before a b numbers (inr (inr may)) = did_of a b (noted_before numbers) may
+
+-- the file of a range left the offers, or not
+ended_by : (t : Texts) (a b : Option (List Doing)) (w : Waiting) (m : Standing) (name : List ℕ) → IsFiled w → MayDo a b (moved_file name places.Done) → Deals t a b w m m
+ended_by t a b w m name filed may =
+    let found = did_of a b (moved_file name places.Done) may in
+    record {
+      doings = found.doings;
+      does = found.does;
+      silent = elim found.either [
+        | inl none ↦ ap (λ (ds : List Doing). flat_map writing ds) none
+        | inr one ↦ ap (λ (ds : List Doing). flat_map writing ds) one
+      ];
+      settles = λ log known. elim found.either [
+        | inl none ↦ subst (λ (ds : List Doing). AreSettlings (IsOfRelease log) ds) (sym none) tt
+        | inr one ↦ subst (λ (ds : List Doing). AreSettlings (IsOfRelease log) ds) (sym one) (tt, tt)
+      ];
+      none = λ full. absurd (full filed);
+      taken = λ shown h. taken_more t found.doings shown m.files h;
+      released = refl;
+    }
+
+ends : (t : Texts) (a b : Option (List Doing)) (w : Waiting) (m : Standing) → IsFiled w → EndsRange a b → Deals t a b w m m
+ends t a b w m filed (inl same) = deals_follows t a b w m m same (follows_same m m refl)
+ends t a b w m filed (inr it) = ended_by t a b w m it.0 filed it.1
+
+-- none did where something waits
+pub deals_ends :
+    (t : Texts) (a b : Option (List Doing)) (w : Waiting) (v : List File) (stored : Bool) (m : Standing) → w.files ≡ v → w.stored ≡ stored
+    → ((IsFiled w → ⊥) → b ≡ a) → EndsRange a b → Deals t a b w m m
+deals_ends t a b w [] true m is sure stay e = ends t a b w m (record { none = is; stored = sure }) e
+deals_ends t a b w [] false m is sure stay e = deals_follows t a b w m m (stay (λ filed. not_stored sure filed.stored)) (follows_same m m refl)
+deals_ends t a b w (x ∷ xs) stored m is sure stay e = deals_follows t a b w m m (stay (λ filed. not_none w.files x xs is filed.none)) (follows_same m m refl)
 
 -- nothing was done with files
 pub looked_none : (a b : Option (List Doing)) (m n : Standing) → b ≡ a → Follows m n → Looked a b m n
@@ -382,7 +435,7 @@ way_free b c written n s places.Lost same is h =
 way_free b c written n s places.Refused same is h =
     let known = leaves_known (entry_of b n) b.looked s places.Refused (λ e. cc) h in
     ((known.0, ap (λ l. entry_in l n) same ∙ known.1), is)
-way_free b c written n s places.Done same is h = tt
+way_free b c written n s places.Done same is h = is
 
 -- where files that were released may leave only if all of that is written, what may be done is free
 pub task_free : (b c : Standing) (allowed : Allowed) (d : Deed) → c.released ≡ b.released → MayDoDeed b d → IsInTurn b allowed (Some d) → IfSome (task_of d) (IsFreeTask c allowed.moves)
@@ -427,11 +480,6 @@ keeps_kept_or r e now m n (Err why) ok err = keeps_follows (λ log. IsReleasedIn
 -- what was released, if anything was
 pub keeps_some : (o : Option Release) (r : Release) (m n : Standing) → o ≡ Some r → Keeps (λ log. IsReleasedIn log r) m n → Keeps (Releases o) m n
 keeps_some o r m n is k = subst (λ (p : Option Release). Keeps (Releases p) m n) (sym is) k
-
--- nothing waits where its count is none
-pub no_items : (w : List File) (n : ℕ) → n ≡ length w → (n == 0) ≡ true → w ≡ []
-no_items [] n same e = refl
-no_items (x ∷ w) n same e = let none : n ≡ 0 = grind (arith, nat_tests) in absurd (omega arith)
 
 -- what is left of a list once its next is taken, if there is one
 rest_suc : {X : Type 0} (i : ℕ) (xs : List X) (x : X) (rest : List X) → drop i xs ≡ x ∷ rest → drop (suc i) xs ≡ rest

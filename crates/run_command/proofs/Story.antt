@@ -1,43 +1,29 @@
 -- Stories, one behind the other, and what may happen in them.
-use Rattle.std.proofs.Common.{◌≡◌, ◌++◌, ◌∙◌, ◌⊎◌, ℕ, List, [], ◌∷◌, Option, Some, None, Ok, inl, inr, refl, sym, ap, subst, map}
+use Rattle.std.proofs.Common.{◌≡◌, ◌++◌, ◌∙◌, ℕ, List, [], ◌∷◌, true, Option, Some, None, Ok, inl, inr, refl, sym, ap, subst, map}
 use Rattle.std.specs.Prelude.{flat_map}
 use Rattle.std.proofs.lemmas.List.Elements.{All-weaker}
 use Rattle.protocol.specs.Lists.{IsAmong}
 use Rattle.protocol.specs.Refusals.{Call}
 use Rattle.station.specs.declared.answer.Answer.{Answer}
 use Rattle.station.specs.declared.answer.Release.{Release}
-use Rattle.folders.specs.Doings.{Doing, saw_file, read_file, wrote_file, moved_file, removed_file, writing}
+use Rattle.folders.specs.Doings.{Doing, saw_file, read_file, wrote_file, noted_gone, noted_before, moved_file, removed_file, writing}
 use Rattle.folders.specs.Written.{File}
 use Rattle.folders.specs.declared.leaving.Place.TheVariants as places
 use Rattle.folders.specs.declared.names.OfferKind.{OfferKind}
 use Rattle.folders.specs.declared.names.OfferKind.TheVariants as kinds
 use Rattle.folders.specs.declared.names.FileRequest.{FileRequest}
 use Rattle.folders.specs.declared.wishes.Wish.{Wish}
-use Rattle.offers.specs.Rules.{Standing}
 use Rattle.offers.specs.Stages.{wish_of}
 use Rattle.offers.specs.declared.offer.Offer.{Offer}
 use Rattle.run_command.specs.ReleaseFiles.{files_of, filing, release_files}
 use Rattle.run_command.specs.Standing.{Texts, LayThere}
 use Rattle.driver.specs.Events.{Event, took}
-use Rattle.run_command.specs.Minding.{WasRead, IsRead, IsReadOffer, WereRead, HasRelease, HaveReleases, onto, IsOfRelease, IsLook, IsSettling, AreLooks, AreSettlings}
-use Rattle.run_command.specs.Story.{Happened, did, events_of, doings_of, files_of_story, IsReleasedIn, MayBeDone, IsInOrder}
+use Rattle.run_command.specs.Minding.{WasRead, IsRead, IsReadOffer, WereRead, onto, HasRelease, AreAllStored, IsOfRelease, IsLook, IsSettling, AreLooks, AreSettlings}
+use Rattle.run_command.specs.Lives.{among_behind, counted_happened, file_to, files_part}
+use Rattle.run_command.specs.Story.{Happened, did, events_of, doings_of, files_of_story, stored_of, AreAllOut, IsOut, IsReleasedIn, MayBeDone, IsInOrder}
 use Rattle.run_command.specs.Working.{Releases}
 
 -- lists
-
-pub among_front : {A : Type 0} (xs ys : List A) (x : A) → IsAmong xs x → IsAmong (xs ++ ys) x
-among_front [] ys x i = absurd i
-among_front (y ∷ xs) ys x (inl e) = inl e
-among_front (y ∷ xs) ys x (inr i) = inr (among_front xs ys x i)
-
-pub among_behind : {A : Type 0} (xs ys : List A) (x : A) → IsAmong ys x → IsAmong (xs ++ ys) x
-among_behind [] ys x i = i
-among_behind (y ∷ xs) ys x i = inr (among_behind xs ys x i)
-
-pub among_either : {A : Type 0} (xs ys : List A) (x : A) → IsAmong (xs ++ ys) x → IsAmong xs x ⊎ IsAmong ys x
-among_either [] ys x i = inr i
-among_either (y ∷ xs) ys x (inl e) = inl (inl e)
-among_either (y ∷ xs) ys x (inr i) = elim (among_either xs ys x i) [ inl k ↦ inl (inr k) | inr k ↦ inr k ]
 
 pub among_onto : {A : Type 0} (xs past : List A) (x : A) → IsAmong past x → IsAmong (onto xs past) x
 among_onto [] past x i = i
@@ -47,10 +33,6 @@ pub among_here : {A : Type 0} (xs past : List A) (x : A) → IsAmong xs x → Is
 among_here [] past x i = absurd i
 among_here (y ∷ xs) past x (inl e) = among_onto xs (y ∷ past) x (inl e)
 among_here (y ∷ xs) past x (inr i) = among_here xs (y ∷ past) x i
-
-pub onto_then : {A : Type 0} (xs ys past : List A) → onto (xs ++ ys) past ≡ onto ys (onto xs past)
-onto_then [] ys past = refl
-onto_then (x ∷ xs) ys past = onto_then xs ys (x ∷ past)
 
 -- what was done leaves the events as they were, and stands in front of what was done before
 
@@ -117,47 +99,28 @@ module _ (t : Texts) where
   taken_more ds shown files all =
       All-weaker (IsReadOffer t shown) (IsReadOffer t (onto ds shown)) (λ o r. read_more ds shown o.request (wish_of o.stage) r) files all
 
-release_more : (e : Event) (log : List Event) (n : ℕ) → HasRelease log n → HasRelease (e ∷ log) n
-release_more e log n h = record {
-  release = h.release;
-  released = record { call = h.released.call; answer = h.released.answer; among = inr h.released.among; releases = h.released.releases };
-  number = h.number;
-}
-
-pub releases_more : (e : Event) (log : List Event) (b : Standing) → HaveReleases log b → HaveReleases (e ∷ log) b
-releases_more e log b all = λ n entry is. release_more e log n (all n entry is)
-
 -- what is released now
 pub releases_here : (call : Call) (answer : Answer) (log : List Event) (o : Option Release) → answer.release ≡ o → Releases o (took call (Ok answer) ∷ log)
 releases_here call answer log None e = tt
 releases_here call answer log (Some r) e = record { call = call; answer = answer; among = inl refl; releases = e }
 
 -- the files of a release are among those of what happened
-
-among_filing : (log : List Event) (e : Event) (f : File) → IsAmong log e → IsAmong (filing e) f → IsAmong (flat_map filing log) f
-among_filing [] e f i j = absurd i
-among_filing (x ∷ log) e f (inl same) j = among_front (filing x) (flat_map filing log) f (subst (λ (y : Event). IsAmong (filing y) f) same j)
-among_filing (x ∷ log) e f (inr i) j = among_behind (filing x) (flat_map filing log) f (among_filing log e f i j)
-
 of_release : (log : List Event) (r : Release) (f : File) → IsReleasedIn log r → IsAmong (release_files r) f → IsAmong (flat_map filing log) f
 of_release log r f it i =
-    among_filing log (took it.call (Ok it.answer)) f it.among (subst (λ (o : Option Release). IsAmong (files_of o) f) (sym it.releases) i)
+    file_to log (took it.call (Ok it.answer)) f it.among (subst (λ (o : Option Release). IsAmong (files_of o) f) (sym it.releases) i)
 
 -- what happens is in order
-
-module _ (t : Texts) where
-  pub in_order_then : (xs ys past : List Happened) → IsInOrder t past xs → IsInOrder t (onto xs past) ys → IsInOrder t past (xs ++ ys)
-  in_order_then [] ys past p q = q
-  in_order_then (x ∷ xs) ys past p q = (p.0, in_order_then xs ys (x ∷ past) p.1 q)
 
 may_look : (past : List Happened) (d : Doing) → IsLook d → MayBeDone past d
 may_look past (saw_file name) p = tt
 may_look past (read_file file) p = tt
 may_look past (wrote_file file) p = absurd p
+may_look past (noted_gone numbers) p = absurd p
+may_look past (noted_before numbers) p = absurd p
 may_look past (moved_file name places.Sent) p = absurd p
 may_look past (moved_file name places.Lost) p = absurd p
 may_look past (moved_file name places.Refused) p = tt
-may_look past (moved_file name places.Done) p = tt
+may_look past (moved_file name places.Done) p = absurd p
 may_look past (removed_file name) p = p
 
 module _ (t : Texts) where
@@ -166,48 +129,62 @@ module _ (t : Texts) where
   in_order_looks (d ∷ ds) past p = (may_look past d p.0, in_order_looks ds (did d ∷ past) p.1)
 
   pub in_order_wrote :
-      (fs : List File) (past : List Happened) → ((f : File) → IsAmong fs f → IsAmong (flat_map filing (events_of past)) f)
+      (fs : List File) (past : List Happened) → ((f : File) → IsAmong fs f → IsAmong (flat_map filing (stored_of (events_of past))) f)
       → IsInOrder t past (map did (map wrote_file fs))
   in_order_wrote [] past of = tt
   in_order_wrote (f ∷ fs) past of = (of f (inl refl), in_order_wrote fs (did (wrote_file f) ∷ past) (λ h i. of h (inr i)))
 
 -- all files of what was released are written
-abbrev AllWritten : List Happened → Type 0
+abbrev pub AllWritten : List Happened → Type 0
 AllWritten past = (f : File) → IsAmong (flat_map filing (events_of past)) f → IsAmong (files_of_story past) f
 
-may_settle : (past : List Happened) (d : Doing) → AllWritten past → IsSettling (IsOfRelease (events_of past)) d → MayBeDone past d
-may_settle past (saw_file name) all p = tt
-may_settle past (read_file file) all p = tt
-may_settle past (wrote_file file) all p = absurd p
-may_settle past (moved_file name places.Sent) all p = record {
+-- of what was released in steps of which the saves are stored too
+stored_written : (past : List Happened) (r : Release) → AllWritten past → IsReleasedIn (stored_of (events_of past)) r
+    → (f : File) → IsAmong (release_files r) f → IsAmong (files_of_story past) f
+stored_written past r all it f i =
+    all f (files_part (stored_of (events_of past)) (events_of past) (counted_happened true (events_of past)) f (of_release (stored_of (events_of past)) r f it i))
+
+-- a number whose release is stored and written is out
+pub out_of : (past : List Happened) (n : ℕ) → AllWritten past → HasRelease (stored_of (events_of past)) n → IsOut past n
+out_of past n all h = record { release = h.release; number = h.number; released = h.released; written = stored_written past h.release all h.released }
+
+-- if all that was released is stored and written, all is out
+all_out : (past : List Happened) → AllWritten past → AreAllStored (events_of past) → AreAllOut past
+all_out past all saved r it = out_of past r.number all (record { release = r; released = saved r it; number = refl })
+
+may_settle : (past : List Happened) (d : Doing) → AllWritten past → AreAllStored (events_of past) → IsSettling (IsOfRelease (stored_of (events_of past))) d → MayBeDone past d
+may_settle past (saw_file name) all saved p = tt
+may_settle past (read_file file) all saved p = tt
+may_settle past (wrote_file file) all saved p = absurd p
+may_settle past (noted_gone numbers) all saved p = absurd p
+may_settle past (noted_before numbers) all saved p = absurd p
+may_settle past (moved_file name places.Sent) all saved p = record {
   release = p.release;
   kind = p.kind;
   named = p.named;
   released = p.released;
-  written = λ f i. all f (of_release (events_of past) p.release f p.released i);
+  written = stored_written past p.release all p.released;
 }
-may_settle past (moved_file name places.Lost) all p = record {
+may_settle past (moved_file name places.Lost) all saved p = record {
   release = p.release;
   kind = p.kind;
   named = p.named;
   released = p.released;
-  written = λ f i. all f (of_release (events_of past) p.release f p.released i);
+  written = stored_written past p.release all p.released;
 }
-may_settle past (moved_file name places.Refused) all p = tt
-may_settle past (moved_file name places.Done) all p = tt
-may_settle past (removed_file name) all p = p
+may_settle past (moved_file name places.Refused) all saved p = tt
+may_settle past (moved_file name places.Done) all saved p = all_out past all saved
+may_settle past (removed_file name) all saved p = p
 
 module _ (t : Texts) where
-  pub in_order_settled : (ds : List Doing) (past : List Happened) → AllWritten past → AreSettlings (IsOfRelease (events_of past)) ds → IsInOrder t past (map did ds)
-  in_order_settled [] past all p = tt
-  in_order_settled (d ∷ ds) past all p =
-      (may_settle past d all p.0, in_order_settled ds (did d ∷ past) (λ f i. among_behind (writing d) (files_of_story past) f (all f i)) p.1)
+  pub in_order_settled :
+      (ds : List Doing) (past : List Happened) → AllWritten past → AreAllStored (events_of past) → AreSettlings (IsOfRelease (stored_of (events_of past))) ds
+      → IsInOrder t past (map did ds)
+  in_order_settled [] past all saved p = tt
+  in_order_settled (d ∷ ds) past all saved p =
+      (may_settle past d all saved p.0, in_order_settled ds (did d ∷ past) (λ f i. among_behind (writing d) (files_of_story past) f (all f i)) saved p.1)
 
 -- doings, one after the other
-
-pub looks_then : (ds es : List Doing) → AreLooks ds → AreLooks es → AreLooks (ds ++ es)
-looks_then [] es p q = q
-looks_then (d ∷ ds) es p q = (p.0, looks_then ds es p.1 q)
 
 pub settlings_then : (P : List ℕ → Type 0) (ds es : List Doing) → AreSettlings P ds → AreSettlings P es → AreSettlings P (ds ++ es)
 settlings_then P [] es p q = q
@@ -217,6 +194,8 @@ silent_look : (d : Doing) → IsLook d → writing d ≡ []
 silent_look (saw_file name) p = refl
 silent_look (read_file file) p = refl
 silent_look (wrote_file file) p = absurd p
+silent_look (noted_gone numbers) p = refl
+silent_look (noted_before numbers) p = absurd p
 silent_look (moved_file name to) p = refl
 silent_look (removed_file name) p = refl
 
@@ -229,10 +208,12 @@ settling_look : (P : List ℕ → Type 0) (d : Doing) → IsLook d → IsSettlin
 settling_look P (saw_file name) p = tt
 settling_look P (read_file file) p = tt
 settling_look P (wrote_file file) p = absurd p
+settling_look P (noted_gone numbers) p = absurd p
+settling_look P (noted_before numbers) p = absurd p
 settling_look P (moved_file name places.Sent) p = absurd p
 settling_look P (moved_file name places.Lost) p = absurd p
 settling_look P (moved_file name places.Refused) p = tt
-settling_look P (moved_file name places.Done) p = tt
+settling_look P (moved_file name places.Done) p = absurd p
 settling_look P (removed_file name) p = p
 
 -- a look settles nothing
@@ -244,6 +225,8 @@ settling_weaker : (P Q : List ℕ → Type 0) (d : Doing) → ((name : List ℕ)
 settling_weaker P Q (saw_file name) w p = tt
 settling_weaker P Q (read_file file) w p = tt
 settling_weaker P Q (wrote_file file) w p = absurd p
+settling_weaker P Q (noted_gone numbers) w p = absurd p
+settling_weaker P Q (noted_before numbers) w p = absurd p
 settling_weaker P Q (moved_file name places.Sent) w p = w name p
 settling_weaker P Q (moved_file name places.Lost) w p = w name p
 settling_weaker P Q (moved_file name places.Refused) w p = tt
@@ -258,6 +241,8 @@ silent_settling : (P : List ℕ → Type 0) (d : Doing) → IsSettling P d → w
 silent_settling P (saw_file name) p = refl
 silent_settling P (read_file file) p = refl
 silent_settling P (wrote_file file) p = absurd p
+silent_settling P (noted_gone numbers) p = refl
+silent_settling P (noted_before numbers) p = absurd p
 silent_settling P (moved_file name to) p = refl
 silent_settling P (removed_file name) p = refl
 

@@ -57,11 +57,12 @@ task_of (deeds.Refuse r found why) = Some (Leave (record { found = record { requ
 abbrev pub IsKnown : Standing → ℕ → Type 0
 IsKnown b n = (e : Entry) × (entry_of b n ≡ Some e)
 
--- a file of this number leaves the offers for what was released only where the entry is known, and all that was released is written
+-- a file of this number leaves the offers for what was released only where the entry is known, and all that was released is written; so one
+-- does that was answered
 abbrev pub IsFreeWay : Standing → Bool → ℕ → LeavingCause → Type 0
 IsFreeWay b written n (Released to) = IsKnown b n × (written ≡ true)
 IsFreeWay b written n (NoOffer reason) = Unit {0}
-IsFreeWay b written n Answered = Unit {0}
+IsFreeWay b written n Answered = written ≡ true
 
 abbrev pub IsFree : Standing → Bool → Departure → Type 0
 IsFree b written d = IsFreeWay b written d.found.request.number d.way

@@ -10,4 +10,5 @@ pub mod Running
 pub mod Standing
 pub mod Story
 pub mod Straying
+pub mod Waiting
 pub mod Working

@@ -1,5 +1,5 @@
 -- What `run` did with its folders, by a story of its events: what a driver promises of `run` is told in its words.
-use Rattle.std.specs.Prelude.{◌≡◌, ◌++◌, List, [], Option, Result, flat_map}
+use Rattle.std.specs.Prelude.{◌≡◌, ◌⊎◌, ◌++◌, List, [], Option, Result, flat_map}
 use Rattle.rows_saved.specs.declared.rows.Rows.{Ghosts}
 use Rattle.wire.specs.Passing.{Trace}
 use Rattle.command_ends.specs.declared.fault.Fault.{Fault}
@@ -26,15 +26,25 @@ pub record Tells {F : Type 0} (texts : Texts) (doings : F → Option (List Doing
   pub front : WritesFront (flat_map filing log) story
   pub ordered : IsInOrder texts [] story
 
--- what becomes of folders is told so, wherever it ends
-abbrev pub tells : {F : Type 0} → Texts → (F → Option (List Doing)) → Fate F
-tells texts doings = record { lived = Tells texts doings; front = Tells texts doings }
+-- something that was to be written among the releases, or noted, was refused
+abbrev pub WasRefused : {F : Type 0} → (F → F → Type 0) → Type 0
+WasRefused {F = F} refuses = (before : F) × (after : F) × refuses before after
+
+-- The same at a good end: all files of what was released were written, unless something was refused.
+pub record TellsAll {F : Type 0} (texts : Texts) (doings : F → Option (List Doing)) (refuses : F → F → Type 0) (old new : F) (log : List Event) : Type 0 where
+  pub told : Tells texts doings old new log
+  pub all : (files_of_story told.story ≡ flat_map filing log) ⊎ WasRefused refuses
+
+-- what becomes of folders is told so, at a good end and at any other
+abbrev pub tells : {F : Type 0} → Texts → (F → Option (List Doing)) → (F → F → Type 0) → Fate F
+tells texts doings refuses = record { lived = TellsAll texts doings refuses; front = Tells texts doings }
 
 -- what `run` did up to this result, on a machine with the folders of a plant, as it was and as it is: the station took the steps of its events
 -- and no others; what passed over the wire is what came for them and, once what they saved was stored, what they handed out; and its folders
--- are told of so, texts being read by this table
+-- are told of so, texts being read by this table. At a good end nothing waits to be sent, and all files were written, unless something was
+-- refused.
 abbrev pub RunsUpTo :
-    {R N F : Type 0} → Texts → Result (Unit {0}) Fault → Ghosts R → (R → Type 0) → (N → Trace) → (F → Option (List Doing)) → Machine R N F
-    → Machine R N F → Type 0
-RunsUpTo texts result rows is_settled passed doings old new =
-    Drove (known rows is_settled passed (tells texts doings)) (post_in old) (post_in new) (ended result) Anyhow
+    {R N F : Type 0} → Texts → Result (Unit {0}) Fault → Ghosts R → (R → Type 0) → (N → Trace) → (F → Option (List Doing)) → (F → F → Type 0)
+    → Machine R N F → Machine R N F → Type 0
+RunsUpTo texts result rows is_settled passed doings refuses old new =
+    Drove (known rows is_settled passed (tells texts doings refuses)) (post_in old) (post_in new) (ended result) Anyhow

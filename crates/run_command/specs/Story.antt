@@ -1,10 +1,10 @@
 -- The story of a run: what happened in it, in order, and what may happen behind what happened before.
-use Rattle.std.specs.Prelude.{◌≡◌, ℕ, List, [], ◌∷◌, flat_map, Some, Ok}
+use Rattle.std.specs.Prelude.{◌≡◌, ℕ, List, [], ◌∷◌, flat_map, Some, Ok, Err}
 use Rattle.protocol.specs.Lists.{IsAmong}
 use Rattle.protocol.specs.Refusals.{Call, Offering, Seeking, Falling_due, Receiving, Recalling}
 use Rattle.station.specs.declared.answer.Answer.{Answer}
 use Rattle.station.specs.declared.answer.Release.{Release}
-use Rattle.folders.specs.Doings.{Doing, saw_file, read_file, wrote_file, moved_file, removed_file, writing}
+use Rattle.folders.specs.Doings.{Doing, saw_file, read_file, wrote_file, noted_gone, noted_before, moved_file, removed_file, writing}
 use Rattle.folders.specs.Offers.{IsNameOf, IsStop}
 use Rattle.folders.specs.Written.{File}
 use Rattle.folders.specs.declared.leaving.Place.TheVariants as places
@@ -43,6 +43,15 @@ file_in (did doing) = writing doing
 abbrev pub files_of_story : List Happened → List File
 files_of_story story = flat_map file_in story
 
+-- of events, the latest first, those whose saves are stored: all before the last event in which all that the station had saved was stored
+abbrev pub stored_of : List Event → List Event
+stored_of [] = []
+stored_of (asked moment ∷ before) = stored_of before
+stored_of (took call answer ∷ before) = stored_of before
+stored_of (stored (Ok done) ∷ before) = before
+stored_of (stored (Err refusal) ∷ before) = stored_of before
+stored_of (aside what ∷ before) = stored_of before
+
 -- the station released this in one of these events
 pub record IsReleasedIn (log : List Event) (r : Release) : Type 0 where
   pub call : Call
@@ -50,25 +59,45 @@ pub record IsReleasedIn (log : List Event) (r : Release) : Type 0 where
   pub among : IsAmong log (took call (Ok answer))
   pub releases : answer.release ≡ Some r
 
--- a file of this name is of a number that the station released, and all files of that release were written before
+-- A file of this name is of a number that the station released. The save of that step is stored, and all files of the release were written
+-- before.
 pub record IsBehindRelease (before : List Happened) (name : List ℕ) : Type 0 where
   pub release : Release
   pub kind : OfferKind
   pub named : IsNameOf name release.number kind
-  pub released : IsReleasedIn (events_of before) release
+  pub released : IsReleasedIn (stored_of (events_of before)) release
   pub written : (f : File) → IsAmong (release_files release) f → IsAmong (files_of_story before) f
 
--- what may be done with the folders behind what happened before: only a file of what was released is written among the releases, a file
--- leaves the offers for those that were sent or lost only behind all files of a release of its number, and nothing is taken away but the
--- file that ends a run
+-- The number was released in a step whose save is stored, and all files of the release were written before.
+pub record IsOut (before : List Happened) (n : ℕ) : Type 0 where
+  pub release : Release
+  pub number : release.number ≡ n
+  pub released : IsReleasedIn (stored_of (events_of before)) release
+  pub written : (f : File) → IsAmong (release_files release) f → IsAmong (files_of_story before) f
+
+-- each number that was released is out
+abbrev pub AreAllOut : List Happened → Type 0
+AreAllOut before = (r : Release) → IsReleasedIn (events_of before) r → IsOut before r.number
+
+-- each of these numbers that was released is out
+abbrev pub AreOutIfReleased : List Happened → List ℕ → Type 0
+AreOutIfReleased before numbers = (r : Release) → IsReleasedIn (events_of before) r → IsAmong numbers r.number → IsOut before r.number
+
+-- What may be done with the folders behind what happened before. A file is written among the releases only if it is of a release whose save
+-- is stored. A number is noted as gone out, and a file leaves the offers for those that were sent or lost, only behind all files of such a
+-- release of the number. Numbers from before what went out was kept need no release; but one of them that was released is noted as any other.
+-- A file is moved to those that are done only if each number that was released is out. Nothing is taken away except the file that ends a run.
+-- A file that is refused is one that the station takes no entry from: that is free.
 abbrev pub MayBeDone : List Happened → Doing → Type 0
 MayBeDone before (saw_file name) = Unit {0}
 MayBeDone before (read_file file) = Unit {0}
-MayBeDone before (wrote_file file) = IsAmong (flat_map filing (events_of before)) file
+MayBeDone before (wrote_file file) = IsAmong (flat_map filing (stored_of (events_of before))) file
+MayBeDone before (noted_gone numbers) = (n : ℕ) → IsAmong numbers n → IsOut before n
+MayBeDone before (noted_before numbers) = AreOutIfReleased before numbers
 MayBeDone before (moved_file name places.Sent) = IsBehindRelease before name
 MayBeDone before (moved_file name places.Lost) = IsBehindRelease before name
 MayBeDone before (moved_file name places.Refused) = Unit {0}
-MayBeDone before (moved_file name places.Done) = Unit {0}
+MayBeDone before (moved_file name places.Done) = AreAllOut before
 MayBeDone before (removed_file name) = IsStop name
 
 -- an entry is offered only where a file that lay among the offers stands for it, a text by this table; a search, what is due, what comes

@@ -1,5 +1,5 @@
 -- What the parts of a run promise one another: what each did with the folders, and what is kept in mind then.
-use Rattle.std.specs.Prelude.{◌≡◌, ◌++◌, ℕ, List, [], Option, Some, None, Result, Ok, Err}
+use Rattle.std.specs.Prelude.{◌≡◌, ◌⊎◌, ◌++◌, ℕ, List, [], Option, Some, None, Result, Ok, Err}
 use Rattle.protocol.specs.Lists.{IsAmong}
 use Rattle.code_table.specs.Tables.{Places, mean}
 use Rattle.tape_frames.specs.Frames.{most_frames}
@@ -8,6 +8,7 @@ use Rattle.station.specs.declared.answer.Release.{Release}
 use Rattle.folders.specs.Doings.{Doing, read_file, moved_file, Does, MayDo}
 use Rattle.folders.specs.Offers.{IsNameOf}
 use Rattle.folders.specs.Written.{File}
+use Rattle.folders.specs.declared.leaving.Place.TheVariants.{Done}
 use Rattle.folders.specs.declared.names.OfferKind.{OfferKind}
 use Rattle.folders.specs.declared.names.OfferKind.TheVariants as kinds
 use Rattle.folders.specs.declared.names.FileRequest.{FileRequest}
@@ -15,12 +16,14 @@ use Rattle.folders.specs.declared.wishes.Wish.{Wish}
 use Rattle.offers.specs.Rules.{Standing}
 use Rattle.offers.specs.declared.stage.OfferFault.{OfferFault}
 use Rattle.offers.specs.declared.stage.OfferFault.TheVariants as reasons
+use Rattle.plant_care.specs.Caring.{NotesBefore}
 use Rattle.run_command.specs.Standing.{Texts, StandsFor, wished, LayThere}
 use Rattle.driver.specs.Events.{Event}
 use Rattle.run_command.specs.Departing.{IsKnown, place_of}
 use Rattle.run_command.specs.Minding.{name_of, WereRead, HaveReleases, AreLooks, AreSettlings}
 use Rattle.run_command.specs.declared.departures.Departure.{Departure}
 use Rattle.run_command.specs.Story.{Happened, files_of_story, IsReleasedIn}
+use Rattle.run_command.specs.Waiting.{Waiting, IsFiled}
 
 -- no file was read, and no number released
 pub record Follows (was is : Standing) : Type 0 where
@@ -75,9 +78,21 @@ BecameTape table doings name (Err d) = Unit {0}
 abbrev pub IsWishOfText : Texts → List Doing → List ℕ → Wish → Type 0
 IsWishOfText texts doings name wish = TextLay doings name (λ text. StandsFor texts kinds.Text text (wished wish))
 
--- files were found and read, or left the offers where they are none or were answered; nothing else was done
+-- files were found and read, or left the offers where they are none; nothing else was done
 abbrev pub LooksOnly : Option (List Doing) → Option (List Doing) → Type 0
 LooksOnly old new = Looks old new (λ doings. Unit {0})
+
+-- the file of a range was moved to those that are done, or nothing was done
+abbrev pub EndsRange : Option (List Doing) → Option (List Doing) → Type 0
+EndsRange old new = (new ≡ old) ⊎ ((name : List ℕ) × MayDo old new (moved_file name Done))
+
+-- It was looked at what is missing. Numbers from before what went out was kept may have been noted, if no number waits to be noted. Then the file
+-- of a range may have been moved to those that are done, if nothing waits.
+pub record LooksBy {F : Type 0} (doings : F → Option (List Doing)) (w : Waiting) (old new : F) : Type 0 where
+  pub mid : F
+  pub notes : NotesBefore w.numbers (doings old) (doings mid)
+  pub ends : EndsRange (doings mid) (doings new)
+  pub none : (IsFiled w → ⊥) → doings new ≡ doings mid
 
 -- a look at the offers, or a part of one: nothing more was done, no file was read that is asked for, and no number released
 pub record Looked (old new : Option (List Doing)) (was is : Standing) : Type 0 where

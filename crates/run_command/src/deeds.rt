@@ -157,7 +157,7 @@ impl<F: Folders, S: StatusFile> PlantDesk<'_, F, S> {
         ensures { LivedOn F.doings self.old self.new [] }
     {
         let allowed = Allowed {
-            moves: self.plant.waits.is_empty(),
+            moves: self.plant.waits.is_filed(),
             asks: chance.may_ask,
         };
         match self.plant.papers.next_task(allowed) {

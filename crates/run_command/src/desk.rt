@@ -8,7 +8,6 @@ ghost use Rattle.run_command.specs.Lives.{plant_fates};
 use crate::calls::{call_for, is_of_offer};
 use crate::plant::Plant;
 use crate::range_asks::released_tape;
-use crate::release_files::keep_files;
 use crate::status::note_asked;
 use command_ends::Fault;
 use driver::{
@@ -46,7 +45,7 @@ impl<'d, F: Folders, S: StatusFile> PlantDesk<'d, F, S> {
     ) -> PlantDesk<'d, F, S>
         ensures folders { result.folders.ghost_name ≡ folders.entry.ghost_name }
         ensures texts { texts_of result ≡ plant.old.texts }
-        ensures kept { kept_of result ≡ kept folders.old plant.old.waits.items plant.old.papers.book }
+        ensures kept { kept_of result ≡ kept folders.old plant.old.waits plant.old.papers.book }
     {
         PlantDesk {
             folders,
@@ -73,7 +72,7 @@ impl<F: Folders, S: StatusFile> Sink for PlantDesk<'_, F, S> {
 impl<F: Folders, S: StatusFile> Desk for PlantDesk<'_, F, S> {
     ghost is_still = { λ old new. F.doings new.folders.now ≡ F.doings old.folders.now };
 
-    ghost handed = { λ old new _. HandsOut F.doings (kept_of old) (kept_of new) };
+    ghost handed = { λ old new _. HandsOut F.doings F.refuses (kept_of old) (kept_of new) };
 
     fn note<E: Write>(
         &mut self,
@@ -81,20 +80,20 @@ impl<F: Folders, S: StatusFile> Desk for PlantDesk<'_, F, S> {
         log: &mut Log<'_, E>,
     ) -> Result<(), Fault<'static>> {
         let alloc = self.plant.papers.journal.alloc;
-        keep_files(alloc, &step.answer.release, &mut self.plant.waits)?;
+        self.plant.waits.keep(alloc, &step.answer.release)?;
         self.plant.papers.note(step, log);
         Ok(())
     }
 
-    // All files that wait are written in one go, so that one save of the folder is enough for them; what the folder does not take waits on.
-    // Then each release is told, and files leave the offers that asked for it.
+    // All that was saved is stored. All files that wait are written together, so that one save of the folder is enough for them. What the
+    // folder does not take waits on. Then each release is told, and files leave the offers that asked for it.
     fn hand_out<E: Write>(&mut self, steps: &[TakenStep], now: u64, log: &mut Log<'_, E>) {
-        self.plant.write(self.folders, now, log);
+        self.plant.write(self.folders, true, now, log);
         self.plant.settle_each(self.folders, steps, now, log);
     }
 
     fn tasks(&mut self) -> Tasks {
-        let is_all_written = self.plant.waits.is_empty();
+        let is_all_written = self.plant.waits.is_filed();
         let deeds = self.plant.papers.book.deeds(is_all_written);
         let under_way = self.plant.papers.book.under_way();
         Tasks {
@@ -105,11 +104,11 @@ impl<F: Folders, S: StatusFile> Desk for PlantDesk<'_, F, S> {
 
     // What waits is written; whether the file that ends the run lies there is looked for each time.
     fn look<E: Write>(&mut self, now: u64, log: &mut Log<'_, E>) -> bool {
-        self.plant.write(self.folders, now, log);
+        self.plant.write(self.folders, false, now, log);
         let unwritten = self.plant.waits.len();
+        self.plant.papers.look_if_due(self.folders, now, log);
+        self.plant.see_to_missing(self.folders, now, log);
         let papers = &mut self.plant.papers;
-        papers.look_if_due(self.folders, now, log);
-        papers.journal.look(self.folders, now, log);
         let is_over = papers.journal.is_over(self.folders, now, log);
         papers.journal.tell_status(unwritten, self.status, now, log);
         is_over

@@ -1,8 +1,9 @@
 //! What is told of a plant, and what is noted and caught up with there.
 
 ghost use Rattle.std.specs.Prelude.{◌≡◌};
-ghost use Rattle.run_command.specs.Working.{LooksOnly};
+ghost use Rattle.run_command.specs.Working.{EndsRange, LooksBy};
 
+use crate::backlog::Backlog;
 use crate::status::note_heard;
 use driver::{HeardDatagram, Log};
 use folders::{FolderFault, Folders};
@@ -59,23 +60,34 @@ impl Journal {
         }
     }
 
-    /// Sees at a look to what is missing here: what went out is read, where it could not be before; what is told, is told; and the file of a
-    /// range whose numbers have answers leaves the offers, with what came of them beside it.
-    pub(crate) fn look<F: Folders, E: Write>(
-        &mut self,
-        folders: &mut F,
-        now: u64,
-        log: &mut Log<'_, E>,
-    )
-        ensures { LooksOnly (F.doings folders.old) (F.doings folders.new) }
+    /// The file of a range whose numbers have answers leaves the offers, with what came of them beside it.
+    fn end_range<F: Folders, E: Write>(&mut self, folders: &mut F, log: &mut Log<'_, E>)
+        ensures { EndsRange (F.doings folders.old) (F.doings folders.new) }
     {
-        self.care.look(folders, now, log);
         let Some(ask) = self.care.asked() else {
             return;
         };
         if ask.is_done() {
             let moved = ask.set_aside(self.alloc, folders);
             self.end_ask(&moved, log);
+        }
+    }
+
+    /// Sees at a look to what is missing here: what went out is read, where it could not be before; what is told, is told; and what went out
+    /// before that was kept is noted, if no number waits to be noted. Once all is stored and written that was released, the file of a range
+    /// whose numbers have answers leaves the offers.
+    pub(crate) fn look<F: Folders, E: Write>(
+        &mut self,
+        folders: &mut F,
+        waits: &Backlog,
+        now: u64,
+        log: &mut Log<'_, E>,
+    )
+        ensures { LooksBy F.doings waits.now folders.old folders.new }
+    {
+        self.care.look(folders, waits.unnoted(), now, log);
+        if waits.is_filed() {
+            self.end_range(folders, log);
         }
     }
 

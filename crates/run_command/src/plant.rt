@@ -4,13 +4,15 @@ ghost use Rattle.std.specs.Prelude.{◌≡◌};
 ghost use Rattle.offers.specs.Book.{IsFresh, still_for};
 ghost use Rattle.looks.specs.Strays.{none_known};
 ghost use Rattle.run_command.specs.Minding.{WasRead};
-ghost use Rattle.run_command.specs.Working.{IfRead, Looks};
+ghost use Rattle.run_command.specs.Working.{IfRead, Looks, LooksBy};
 
+use crate::backlog::Backlog;
 use crate::journal::Journal;
 use crate::reading::read;
 use crate::unseen::Unseen;
 use code_table::CodeTable;
-use folders::{FolderFault, Folders, NamedFile, Wish};
+use driver::Log;
+use folders::{FolderFault, Folders, Wish};
 use log_terms::Loudness;
 use looks::{Looking, Strays};
 use offers::{Book, FoundOffer, OfferFault};
@@ -18,6 +20,7 @@ use plant_care::Care;
 use plant_log::Told;
 use plant_status::{Keeper, StationId};
 use std::alloc::Global;
+use std::io::Write;
 
 /// What is known of what lies among the offers, and what is told and noted at a plant.
 #[derive(Drop)]
@@ -36,7 +39,7 @@ pub(crate) struct Papers {
 #[derive(Drop)]
 pub(crate) struct Plant {
     /// The files that wait to be written among the releases.
-    pub(crate) waits: Vec<NamedFile>,
+    pub(crate) waits: Backlog,
     /// By which code table texts among the offers become tapes; by none where no text may be offered.
     pub(crate) texts: Option<CodeTable>,
     pub(crate) papers: Papers,
@@ -109,5 +112,18 @@ impl Plant {
         ensures { Looks (F.doings folders.old) (F.doings folders.new) (λ doings. IfRead result (λ wish. WasRead self.now.texts doings found.now.request wish)) }
     {
         read(self.papers.journal.alloc, folders, found, &self.texts)
+    }
+
+    /// Sees at a look to what is missing here, at a moment. The journal does it, by what waits.
+    pub(crate) fn see_to_missing<F: Folders, E: Write>(
+        &mut self,
+        folders: &mut F,
+        now: u64,
+        log: &mut Log<'_, E>,
+    )
+        ensures looks { LooksBy F.doings self.old.waits folders.old folders.new }
+        ensures rest { self.new ≡ record self.old { papers = record self.old.papers { journal = self.new.papers.journal } } }
+    {
+        self.papers.journal.look(folders, &self.waits, now, log);
     }
 }

@@ -1,19 +1,23 @@
 //! Releases as files.
 
-ghost use Rattle.std.specs.Prelude.{◌≡◌, ◌++◌, OnOk, IfOk, codes, string_bytes};
+ghost use Rattle.std.specs.Prelude.{◌≡◌, ◌++◌, IfOk, codes, string_bytes};
 ghost use Rattle.refusals.specs.CauseWords.{cause_text};
 ghost use Rattle.station.specs.Readiness.{slugs_of};
-ghost use Rattle.run_command.specs.ReleaseFiles.{file, galley_text, files_of};
+ghost use Rattle.run_command.specs.ReleaseFiles.{file, galley_text};
 
 use folders::{NamedFile, file_name};
 use line_check::{SetFault, Slug, galley};
 use refusals::CauseText;
-use station::Release;
 use std::alloc::{AllocError, Global};
-use tape_frames::{Entry, Tape};
+use tape_frames::Tape;
 
 /// A file of this number and kind.
-fn file(alloc: Global, number: u32, kind: &str, bytes: Vec<u8>) -> Result<NamedFile, AllocError>
+pub(crate) fn file(
+    alloc: Global,
+    number: u32,
+    kind: &str,
+    bytes: Vec<u8>,
+) -> Result<NamedFile, AllocError>
     ensures { IfOk result (λ p. p ≡ file number kind.now bytes.items) }
 {
     let name = file_name(alloc, number, kind)?;
@@ -21,7 +25,7 @@ fn file(alloc: Global, number: u32, kind: &str, bytes: Vec<u8>) -> Result<NamedF
 }
 
 /// The file of a tape, one frame a byte, which it shares with the tape.
-fn tape_file(alloc: Global, number: u32, tape: &Tape) -> Result<NamedFile, AllocError>
+pub(crate) fn tape_file(alloc: Global, number: u32, tape: &Tape) -> Result<NamedFile, AllocError>
     ensures { IfOk result (λ p. p ≡ file number (codes ".tape") tape.now) }
 {
     let name = file_name(alloc, number, ".tape")?;
@@ -38,7 +42,10 @@ fn text_of_fault(alloc: Global, fault: SetFault) -> Result<String, AllocError>
 }
 
 /// The text of a galley, a line for each slug, or of why there is none.
-fn galley_text(alloc: Global, set: &Result<Vec<Slug>, SetFault>) -> Result<Vec<u8>, AllocError>
+pub(crate) fn galley_text(
+    alloc: Global,
+    set: &Result<Vec<Slug>, SetFault>,
+) -> Result<Vec<u8>, AllocError>
     ensures { IfOk result (λ v. v.items ≡ galley_text (slugs_of set.now)) }
 {
     match set {
@@ -51,28 +58,4 @@ fn galley_text(alloc: Global, set: &Result<Vec<Slug>, SetFault>) -> Result<Vec<u
         }
         Err(fault) => Ok(text_of_fault(alloc, *fault)?.into_bytes()),
     }
-}
-
-/// Lets the files of a release, if there is one, wait behind the others: of a tape `12.tape` with its frames and `12.galley` with its
-/// slugs, or with why it does not set; of a withdrawal `12.void`, which is empty. Where there is no memory for them, `AllocError`.
-pub(crate) fn keep_files(
-    alloc: Global,
-    release: &Option<Release>,
-    waits: &mut Vec<NamedFile>,
-) -> Result<(), AllocError>
-    ensures { OnOk result (waits.new.items ≡ waits.old.items ++ files_of release.now) }
-{
-    let Some(release) = release else {
-        return Ok(());
-    };
-    let number = release.number.get();
-    match &release.entry {
-        Entry::Void => waits.push(file(alloc, number, ".void", Vec::new(alloc))?)?,
-        Entry::Tape(tape) => {
-            let text = galley_text(alloc, &release.set)?;
-            waits.push(tape_file(alloc, number, tape)?)?;
-            waits.push(file(alloc, number, ".galley", text)?)?;
-        }
-    }
-    Ok(())
 }

@@ -4,6 +4,7 @@ ghost use Rattle.std.specs.Prelude.{◌≡◌, OnOk, false, codes};
 ghost use Rattle.folders.specs.Doings.{removed_file, MayDo};
 ghost use Rattle.run_command.specs.Running.{RunsUpTo};
 
+use crate::backlog::Backlog;
 use crate::desk::PlantDesk;
 use crate::plant::{Manner, Papers, Plant};
 use code_table::CodeTable;
@@ -70,7 +71,7 @@ fn drive<R: Settles, N: Wire + Drop, F: Folders + Drop, E: Write, S: StatusFile 
     outset: Outset<S>,
     err: &mut E,
 ) -> Result<(), Fault<'static>>
-    ensures { RunsUpTo outset.texts result R.Rows R.Settles.is_settled N.passed F.doings machine.old machine.new }
+    ensures { RunsUpTo outset.texts result R.Rows R.Settles.is_settled N.passed F.doings F.refuses machine.old machine.new }
 {
     let Outset {
         manner,
@@ -81,7 +82,7 @@ fn drive<R: Settles, N: Wire + Drop, F: Folders + Drop, E: Write, S: StatusFile 
     } = outset;
     let alloc = machine.alloc;
     remove_stop(alloc, &mut machine.outside, err);
-    let waits = Vec::new(alloc);
+    let waits = Backlog::new(alloc);
     let papers = Papers::new(alloc, manner, care);
     let mut plant = Plant {
         waits,
@@ -108,7 +109,7 @@ pub fn run_station<R: Settles, N: Wire + Drop, F: Folders + Drop, E: Write, S: S
     err: &mut E,
 ) -> Result<(), Fault<'static>>
     ensures was_kept { R.kept machine.new.station.rows → R.kept machine.old.station.rows }
-    ensures runs { RunsUpTo terms.texts result R.Rows R.Settles.is_settled N.passed F.doings machine.old machine.new }
+    ensures runs { RunsUpTo terms.texts result R.Rows R.Settles.is_settled N.passed F.doings F.refuses machine.old machine.new }
     ensures goes_on { OnOk result (machine.new.station.stopped ≡ false) }
 {
     let loudness = terms.loudness;

@@ -137,7 +137,7 @@ impl Plant {
             return;
         };
         self.papers.journal.tell_release(release, now, log);
-        if self.waits.is_empty() {
+        if self.waits.is_filed() {
             self.papers.leave_all(folders, release.number, now, log);
         }
     }

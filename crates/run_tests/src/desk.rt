@@ -131,7 +131,7 @@ impl Sink for CountingDesk {
     ghost fates = { record {
       rests = λ _. tt;
       clock = λ _ _. tt;
-      stores = λ _ _. tt;
+      unstored = λ _ _. tt;
       withheld = λ _ _ _ _ _. tt;
       besides = λ _ _. tt;
       refuses = λ _ _ _ _. tt;

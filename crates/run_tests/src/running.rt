@@ -79,10 +79,10 @@ pub fn count_filed(folders: &MemoryFolders) -> usize {
     count
 }
 
-/// Writes a line for something that was done, unless a file was found. Returns whether there was memory for it.
+/// Writes a line for something that was done, unless a file was found or numbers were noted. Returns whether there was memory for it.
 fn write_act(act: &Act, text: &mut Vec<u8>) -> bool {
     match act {
-        Act::Saw(_) => true,
+        Act::Saw(_) | Act::NotedGone(_) | Act::NotedBefore(_) => true,
         Act::Read(named) => {
             let name = named.name.as_str();
             writeln!(text, "read {name}").is_ok()

@@ -284,6 +284,10 @@ impl Folders for OffersStage {
         self.folders.note_gone(alloc, numbers)
     }
 
+    fn note_before(&mut self, alloc: Global, numbers: &[Number]) -> Result<(), FolderFault> {
+        self.folders.note_before(alloc, numbers)
+    }
+
     fn settle(&mut self, alloc: Global) -> Result<(), FolderFault> {
         self.folders.settle(alloc)
     }

@@ -1,5 +1,5 @@
 -- What `serve` did: what its station was asked and which turns it took, and what was printed of that.
-use Rattle.std.specs.Prelude.{◌≡◌, ◌+◌, ℕ, List, [], ◌∷◌, ◌++◌, flat_map, false, Option, Some, None, Result, Ok, Err, OnOk}
+use Rattle.std.specs.Prelude.{◌≡◌, ◌+◌, ℕ, List, [], ◌∷◌, ◌++◌, false, Option, Some, None, Result, Ok, Err, OnOk}
 use Rattle.std.specs.Io.KnownBytes.{Appends}
 use Rattle.streams.specs.Fronts.{AppendsFront}
 use Rattle.protocol.specs.Entries.{Entry, Tape, Void, Taped}
@@ -32,18 +32,39 @@ abbrev pub written : Result Answer StepRefusal → List ℕ
 written (Ok answer) = printing answer.release
 written (Err refusal) = []
 
--- what is written in an event; that what the station saved is stored writes nothing
-abbrev pub writing : Event → List ℕ
-writing (asked moment) = []
-writing (aside what) = []
-writing (stored answer) = []
-writing (took call answer) = written answer
+-- What is printed while these events happen, if this text waits before them. What a step releases waits until all that the station saved is
+-- stored. If that is refused, it is never printed.
+abbrev pub printed_behind : List ℕ → List Event → List ℕ
+printed_behind waits [] = []
+printed_behind waits (asked moment ∷ rest) = printed_behind waits rest
+printed_behind waits (took call answer ∷ rest) = printed_behind (waits ++ written answer) rest
+printed_behind waits (stored (Ok done) ∷ rest) = waits ++ printed_behind [] rest
+printed_behind waits (stored (Err refusal) ∷ rest) = printed_behind waits rest
+printed_behind waits (aside what ∷ rest) = printed_behind waits rest
 
--- what was printed of these events: the text of each release, in order; a front of it
+-- what waits to be printed behind these events
+abbrev pub unprinted_behind : List ℕ → List Event → List ℕ
+unprinted_behind waits [] = waits
+unprinted_behind waits (asked moment ∷ rest) = unprinted_behind waits rest
+unprinted_behind waits (took call answer ∷ rest) = unprinted_behind (waits ++ written answer) rest
+unprinted_behind waits (stored (Ok done) ∷ rest) = unprinted_behind [] rest
+unprinted_behind waits (stored (Err refusal) ∷ rest) = unprinted_behind waits rest
+unprinted_behind waits (aside what ∷ rest) = unprinted_behind waits rest
+
+-- While these events happened, the text of each release was printed whose save is stored, in order. There is no other release.
+pub record PrintsStored (old new : Option (List ℕ)) (log : List Event) : Type 0 where
+  pub text : Appends old new (printed_behind [] log)
+  pub none_waits : unprinted_behind [] log ≡ []
+
+-- a prefix of the text of those releases was printed whose saves are stored
+abbrev pub PrintsPrefix : Option (List ℕ) → Option (List ℕ) → List Event → Type 0
+PrintsPrefix old new log = AppendsFront old new (printed_behind [] log)
+
+-- what becomes of an output
 abbrev pub prints : {W : Type 0} → (W → Option (List ℕ)) → Fate W
 prints contents = record {
-  lived = λ old new log. Appends (contents old) (contents new) (flat_map writing log);
-  front = λ old new log. AppendsFront (contents old) (contents new) (flat_map writing log);
+  lived = λ old new log. PrintsStored (contents old) (contents new) log;
+  front = λ old new log. PrintsPrefix (contents old) (contents new) log;
 }
 
 -- what `serve` did up to this result by events of this form, on a machine with its output, as it was and as it is: rows that are kept in the

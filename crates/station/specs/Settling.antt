@@ -21,6 +21,8 @@ pub record HasSettled {R : Type 0} (g : Ghosts R) (is_settled : R → Type 0) (o
   pub goes : old.stopped ≡ false
   pub stored : is_settled new.rows
   pub reads : IsReadAlike g old new
+  -- what its rows show of that
+  pub shows : g.shows old.rows new.rows
 
 -- it can't be: the station has stopped, and what it saved is stored or is not
 pub record WasTorn {R : Type 0} (g : Ghosts R) (old new : Station R) : Type 0 where
@@ -30,6 +32,8 @@ pub record WasTorn {R : Type 0} (g : Ghosts R) (old new : Station R) : Type 0 wh
   pub was_kept : g.kept new.rows → g.kept old.rows
   pub made : g.made old.rows → g.made new.rows
   pub cause : Rises (g.refusals old.rows) (g.refusals new.rows)
+  -- what its rows tell of that
+  pub torn : g.torn old.rows new.rows
 
 -- what a station that is to store what it saved has done with this answer: one that has stopped does nothing
 abbrev pub Settling : {R : Type 0} → Ghosts R → (R → Type 0) → Station R → Station R → Result (Unit {0}) StepRefusal → Type 0

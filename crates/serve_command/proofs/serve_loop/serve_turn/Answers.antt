@@ -20,7 +20,7 @@ returns g c =
     let wire : last.wire.ghost_name ≡ _ = drove.hands.1 in
     let came = came_from _ _ (post_of last) _ _ _ end form c.new-driver.ensures.is drove.done in
     let same : last.sink.out.ghost_name ≡ _ = came.1.0 in
-    let told = seen_from _ (prints g.W.Write.contents) _ (post_of last) _ _ _ end form c.args.machine.now.outside last.sink.out.now c.new-driver.ensures.is drove.done (λ log p. p.1) (λ log p. p.1) in
+    let told = seen_from _ (prints g.W.Write.contents) _ (post_of last) _ _ _ end form c.args.machine.now.outside last.sink.out.now c.new-driver.ensures.is drove.done (λ log p. p.1) (λ log done p. p.1) in
     let kept : (g.R.Rows.kept last.station.now.rows → g.R.Rows.kept c.args.machine.now.station.rows) = drove_kept k was there end form told in
     let goes : (end ≡ ends.Done → last.station.now.stopped ≡ false) = went_on c.turn_at-outcome.result (last.station.now.stopped ≡ false) drove.goes_on in
     record {

@@ -44,58 +44,70 @@ returns-in-Ok-clause-puts g c = record {
 }
 
 pub returns-in-Ok-clause-stores : goal.returns-in-Ok-clause-stores
-returns-in-Ok-clause-stores g c = rw (← c.self.view_is) (λ kept left may n.
-    let running : c.self.inside.stopped ≡ false = search rules in
-    let layout = c.self.inside.layout in
-    let stands : Stands g.S.Store layout c.self.inside.conn c.self.inside.identity = c.self.invariant.1 running kept.1 in
-    let old = state g.S.Store c.self.inside.conn in
-    let new = state g.S.Store c.save_all.new.conn in
-    let items = c.args.items.now in
-    let saved = c.in-Ok.ensures.saved stands.serves kept.0 in
-    ap (λ m. m n) may.2 ∙ ap (λ t. saved_in layout t n) (saved.crash may.0 may.1)
-    ∙ (each_saved layout items old.now.trees new.now.trees saved.puts) n)
+returns-in-Ok-clause-stores g c = (
+  search rules,
+  search rules,
+  rw (← c.self.view_is) (λ kept left may n.
+      let running : c.self.inside.stopped ≡ false = search rules in
+      let layout = c.self.inside.layout in
+      let stands : Stands g.S.Store layout c.self.inside.conn c.self.inside.identity = c.self.invariant.1 running kept.1 in
+      let old = state g.S.Store c.self.inside.conn in
+      let new = state g.S.Store c.save_all.new.conn in
+      let items = c.args.items.now in
+      let saved = c.in-Ok.ensures.saved stands.serves kept.0 in
+      ap (λ m. m n) may.2 ∙ ap (λ t. saved_in layout t n) (saved.crash may.0 may.1)
+      ∙ (each_saved layout items old.now.trees new.now.trees saved.puts) n),
+)
 
 pub returns-in-Ok-clause-leaves : goal.returns-in-Ok-clause-leaves
-returns-in-Ok-clause-leaves g c = rw (← c.self.view_is) (λ kept. (
-  λ opened running left may.
-      let layout = c.self.inside.layout in
-      let stands : Stands g.S.Store layout c.self.inside.conn c.self.inside.identity = c.self.invariant.1 running kept.1 in
-      let old = state g.S.Store c.self.inside.conn in
-      let new = state g.S.Store c.save_all.new.conn in
-      let items = c.args.items.now in
-      let here : IsAllOrNone (saved_in layout old.now.trees) items (saved_in layout may.0) =
-      (left_all_or_none layout items old.now.trees may.0 (c.save_all.ensures.crash stands.serves kept.0 opened may.0 may.1)) in
-      subst (IsAllOrNone (saved_in layout old.now.trees) items) (sym may.2) here,
-  λ opened running left may.
-      let layout = c.self.inside.layout in
-      let stands : Stands g.S.Store layout c.self.inside.conn c.self.inside.identity = c.self.invariant.1 running kept.1 in
-      let old = state g.S.Store c.self.inside.conn in
-      let new = state g.S.Store c.save_all.new.conn in
-      let items = c.args.items.now in
-      (left_of_station layout c.self.inside.identity items old.now.trees left
-      (stands.holds (was_clean old new c.save_all.ensures.clean kept.0) opened) (c.save_all.ensures.crash stands.serves kept.0 opened left may)),
-))
+returns-in-Ok-clause-leaves g c = (
+  search rules,
+  search rules,
+  rw (← c.self.view_is) (λ kept. (
+    λ opened running left may.
+        let layout = c.self.inside.layout in
+        let stands : Stands g.S.Store layout c.self.inside.conn c.self.inside.identity = c.self.invariant.1 running kept.1 in
+        let old = state g.S.Store c.self.inside.conn in
+        let new = state g.S.Store c.save_all.new.conn in
+        let items = c.args.items.now in
+        let here : IsAllOrNone (saved_in layout old.now.trees) items (saved_in layout may.0) =
+        (left_all_or_none layout items old.now.trees may.0 (c.save_all.ensures.crash stands.serves kept.0 opened may.0 may.1)) in
+        subst (IsAllOrNone (saved_in layout old.now.trees) items) (sym may.2) here,
+    λ opened running left may.
+        let layout = c.self.inside.layout in
+        let stands : Stands g.S.Store layout c.self.inside.conn c.self.inside.identity = c.self.invariant.1 running kept.1 in
+        let old = state g.S.Store c.self.inside.conn in
+        let new = state g.S.Store c.save_all.new.conn in
+        let items = c.args.items.now in
+        (left_of_station layout c.self.inside.identity items old.now.trees left
+        (stands.holds (was_clean old new c.save_all.ensures.clean kept.0) opened) (c.save_all.ensures.crash stands.serves kept.0 opened left may)),
+  )),
+)
 
 pub returns-in-Err-clause-leaves : goal.returns-in-Err-clause-leaves
-returns-in-Err-clause-leaves g c = rw (← c.self.view_is) (λ kept. (
-  λ opened running left may.
-      let layout = c.self.inside.layout in
-      let stands : Stands g.S.Store layout c.self.inside.conn c.self.inside.identity = c.self.invariant.1 running kept.1 in
-      let old = state g.S.Store c.self.inside.conn in
-      let new = state g.S.Store c.save_all.new.conn in
-      let items = c.args.items.now in
-      let here : IsAllOrNone (saved_in layout old.now.trees) items (saved_in layout may.0) =
-      (left_all_or_none layout items old.now.trees may.0 (c.save_all.ensures.crash stands.serves kept.0 opened may.0 may.1)) in
-      subst (IsAllOrNone (saved_in layout old.now.trees) items) (sym may.2) here,
-  λ opened running left may.
-      let layout = c.self.inside.layout in
-      let stands : Stands g.S.Store layout c.self.inside.conn c.self.inside.identity = c.self.invariant.1 running kept.1 in
-      let old = state g.S.Store c.self.inside.conn in
-      let new = state g.S.Store c.save_all.new.conn in
-      let items = c.args.items.now in
-      (left_of_station layout c.self.inside.identity items old.now.trees left
-      (stands.holds (was_clean old new c.save_all.ensures.clean kept.0) opened) (c.save_all.ensures.crash stands.serves kept.0 opened left may)),
-))
+returns-in-Err-clause-leaves g c = (
+  search rules,
+  search rules,
+  rw (← c.self.view_is) (λ kept. (
+    λ opened running left may.
+        let layout = c.self.inside.layout in
+        let stands : Stands g.S.Store layout c.self.inside.conn c.self.inside.identity = c.self.invariant.1 running kept.1 in
+        let old = state g.S.Store c.self.inside.conn in
+        let new = state g.S.Store c.save_all.new.conn in
+        let items = c.args.items.now in
+        let here : IsAllOrNone (saved_in layout old.now.trees) items (saved_in layout may.0) =
+        (left_all_or_none layout items old.now.trees may.0 (c.save_all.ensures.crash stands.serves kept.0 opened may.0 may.1)) in
+        subst (IsAllOrNone (saved_in layout old.now.trees) items) (sym may.2) here,
+    λ opened running left may.
+        let layout = c.self.inside.layout in
+        let stands : Stands g.S.Store layout c.self.inside.conn c.self.inside.identity = c.self.invariant.1 running kept.1 in
+        let old = state g.S.Store c.self.inside.conn in
+        let new = state g.S.Store c.save_all.new.conn in
+        let items = c.args.items.now in
+        (left_of_station layout c.self.inside.identity items old.now.trees left
+        (stands.holds (was_clean old new c.save_all.ensures.clean kept.0) opened) (c.save_all.ensures.crash stands.serves kept.0 opened left may)),
+  )),
+)
 
 pub returns-in-Err-clause-all_or_none : goal.returns-in-Err-clause-all_or_none
 returns-in-Err-clause-all_or_none g c = rw (← c.self.view_is) (λ kept.

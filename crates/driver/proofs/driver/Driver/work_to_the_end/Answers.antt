@@ -3,7 +3,7 @@ use Rattle.std.proofs.Common.{rules, ◌≡◌}
 use Rattle.command_ends.specs.Ends.{end_of}
 use Rattle.driver.specs.Events.{ended}
 use Rattle.driver.specs.Driving.{known, fate_of, post_behind, sends_of, AtClock, IsStoring, Anyhow}
-use Rattle.driver.proofs.Driven.{answered, clocked, hands_then, none_left_in, of_form, then_any}
+use Rattle.driver.proofs.Driven.{answered, clocked, ended_last, hands_then, of_form, then_any}
 use Rattle.driver.proofs.driver.Driver.work_to_the_end.Goals as goal
 
 pub returns-in_err-work_on-clause-drove : goal.returns-in_err-work_on-clause-drove
@@ -30,6 +30,6 @@ returns-clause-drove g c =
           (clocked k g.S.Sink.may g.met.S.Sink.fates mid.station.now mid.wire.now c.now-now.new.self mid.sink q new c.now-now.result end (λ now. IsStoring) c.now-now.ensures.passes c.settle_group.ensures.drove.done));
     }
 
-pub returns-clause-all : goal.returns-clause-all
-returns-clause-all g c =
-    none_left_in g.S.Desk.handed c.settle_group.result c.work_on.new.self.sink c.settle_group.new.self.sink c.work_on.new.group c.settle_group.new.group c.settle_group.ensures.ended
+pub returns-clause-ended : goal.returns-clause-ended
+returns-clause-ended g c =
+    ended_last g.S.Desk.handed c.settle_group.result c.work_on.new.self.sink c.settle_group.new.self.sink c.work_on.new.group c.settle_group.new.group c.settle_group.ensures.ended

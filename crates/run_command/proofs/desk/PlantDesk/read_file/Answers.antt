@@ -15,8 +15,8 @@ returns-then-replaced g c =
     let doings = g.F.Folders.doings in
     let last = c.read-read.new.folders in (
       (refl, refl),
-      dealt it.plant.now.texts doings it.folders.now last it.plant.now.waits.items it.plant.now.papers.book c.was_read.new.self
-          (deals_read it.plant.now.texts FolderFault (doings it.folders.now) (doings last) it.plant.now.waits.items c.args.found.now.request c.read-read.result c.in-Ok.wish it.plant.now.papers.book c.was_read.new.self c.in-Ok.is c.read-read.ensures
+      dealt it.plant.now.texts doings it.folders.now last it.plant.now.waits it.plant.now.papers.book c.was_read.new.self
+          (deals_read it.plant.now.texts FolderFault (doings it.folders.now) (doings last) it.plant.now.waits c.args.found.now.request c.read-read.result c.in-Ok.wish it.plant.now.papers.book c.was_read.new.self c.in-Ok.is c.read-read.ensures
           (ap (λ b. b.files) c.was_read.ensures) (ap (λ b. b.released) c.was_read.ensures)),
     )
 
@@ -26,8 +26,8 @@ returns-else-replaced g c =
     let doings = g.F.Folders.doings in
     let last = c.read-read.new.folders in (
       (refl, refl),
-      dealt it.plant.now.texts doings it.folders.now last it.plant.now.waits.items it.plant.now.papers.book c.was_read.new.self
-          (deals_read it.plant.now.texts FolderFault (doings it.folders.now) (doings last) it.plant.now.waits.items c.args.found.now.request c.read-read.result c.in-Ok.wish it.plant.now.papers.book c.was_read.new.self c.in-Ok.is c.read-read.ensures
+      dealt it.plant.now.texts doings it.folders.now last it.plant.now.waits it.plant.now.papers.book c.was_read.new.self
+          (deals_read it.plant.now.texts FolderFault (doings it.folders.now) (doings last) it.plant.now.waits c.args.found.now.request c.read-read.result c.in-Ok.wish it.plant.now.papers.book c.was_read.new.self c.in-Ok.is c.read-read.ensures
           (ap (λ b. b.files) c.was_read.ensures) (ap (λ b. b.released) c.was_read.ensures)),
     )
 
@@ -40,7 +40,7 @@ returns-in-Err g c =
     let new = c.could_not.new.self in
     let k = rank c.args.found.now.request in (
       (refl, refl),
-      dealt it.plant.now.texts doings it.folders.now last it.plant.now.waits.items m new
-          (deals_looks it.plant.now.texts (doings it.folders.now) (doings last) it.plant.now.waits.items _ m new c.read-read.ensures
+      dealt it.plant.now.texts doings it.folders.now last it.plant.now.waits m new
+          (deals_looks it.plant.now.texts (doings it.folders.now) (doings last) it.plant.now.waits _ m new c.read-read.ensures
           (follows_of m new (changed k (after PutOff c.args.now) m.files) (ap (λ b. b.files) c.could_not.ensures) (λ t shown h. put_off_still t shown k c.args.now m.files h) (ap (λ b. b.released) c.could_not.ensures))),
     )

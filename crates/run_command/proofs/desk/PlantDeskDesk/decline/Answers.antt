@@ -7,4 +7,4 @@ use Rattle.run_command.proofs.desk.PlantDeskDesk.decline.Goals as goal
 pub returns : goal.returns
 returns g c =
     let it = c.args.self.now in
-    ((refl, refl), beside it.plant.now.texts g.F.Folders.doings it.folders.now it.plant.now.waits.items it.plant.now.papers.book it.plant.now.papers.book (follows_same it.plant.now.papers.book it.plant.now.papers.book refl))
+    ((refl, refl), beside it.plant.now.texts g.F.Folders.doings it.folders.now it.plant.now.waits it.plant.now.papers.book it.plant.now.papers.book (follows_same it.plant.now.papers.book it.plant.now.papers.book refl))

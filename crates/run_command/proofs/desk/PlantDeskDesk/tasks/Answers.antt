@@ -10,5 +10,5 @@ returns g c =
     let it = c.args.self.now in
     let new = c.has_more.new.self in (
       (refl, refl),
-      beside it.plant.now.texts g.F.Folders.doings it.folders.now it.plant.now.waits.items it.plant.now.papers.book new.book (follows_same it.plant.now.papers.book new.book (ap (λ (p : Papers). p.book) c.has_more.ensures)),
+      beside it.plant.now.texts g.F.Folders.doings it.folders.now it.plant.now.waits it.plant.now.papers.book new.book (follows_same it.plant.now.papers.book new.book (ap (λ (p : Papers). p.book) c.has_more.ensures)),
     )

@@ -1,7 +1,7 @@
 -- What became of the number of the step.
 use Rattle.std.proofs.Common.{refl}
 use Rattle.run_command.specs.Working.{Releases}
-use Rattle.run_command.proofs.Looking.{follows_same, keeps_follows, keeps_some}
+use Rattle.run_command.proofs.Looking.{follows_same, keeps_follows}
 use Rattle.run_command.proofs.plant.Papers.note.Goals as goal
 
 pub returns-in-None-None : goal.returns-in-None-None
