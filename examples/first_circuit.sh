@@ -10,7 +10,7 @@ circuitd=$top/crates/circuitd/out/circuitd
 work=$(mktemp -d)
 trap 'kill $(jobs -p) 2> /dev/null || true; rm -rf "$work"' EXIT
 
-echo "Proving and building the program: about 45 minutes on four cores, seconds after that."
+echo "Proving and building the program: about 55 minutes on four cores, seconds after that."
 "$examples/build.py" circuitd
 
 cp station?.toml codes.toml widths.toml ./*.tape "$work"

@@ -4,10 +4,11 @@ use std::alloc::Global;
 use std::io;
 use std::io::{ErrorKind, Read, Write};
 
-/// A writer that takes one byte a call, and at most so many.
+/// A writer that takes so many bytes a call, and so many in all; then it takes none.
 #[derive(Drop)]
 pub struct SlowWriter {
     pub taken: Vec<u8>,
+    pub stride: usize,
     pub room: usize,
     /// Whether it tells a call that it has no room for that it was interrupted, and not that it took nothing.
     pub interrupts: bool,
@@ -16,9 +17,11 @@ pub struct SlowWriter {
 }
 
 impl SlowWriter {
+    /// One that takes one byte a call.
     pub fn new(alloc: Global, room: usize) -> SlowWriter {
         SlowWriter {
             taken: Vec::new(alloc),
+            stride: 1,
             room,
             interrupts: false,
             flushes: true,
@@ -45,14 +48,11 @@ impl Write for SlowWriter {
         if self.room == 0 && self.interrupts {
             return Err(io::Error::from(ErrorKind::Interrupted));
         }
-        match buf.first() {
-            Some(byte) if self.room > 0 => {
-                self.taken.push(*byte)?;
-                self.room -= 1;
-                Ok(1)
-            }
-            _ => Ok(0),
-        }
+        let some = buf.len().min(self.stride).min(self.room);
+        let (front, _) = buf.split_at(some);
+        self.taken.extend_from_slice(front)?;
+        self.room -= some;
+        Ok(some)
     }
 
     fn flush(&mut self) -> io::Result<()> {

@@ -82,7 +82,12 @@ fn tells_of_memory(alloc: Global) -> bool {
         Fault::of_step(StepRefusal::OutOfMemory),
         Fault::of_step(StepRefusal::Store(RowsFault::OutOfMemory)),
     ];
-    faults.iter().all(|fault| is_told(alloc, *fault, "out of memory", End::Memory))
+    for fault in &faults {
+        if !is_told(alloc, *fault, "out of memory", End::Memory) {
+            return false;
+        }
+    }
+    true
 }
 
 #[test]

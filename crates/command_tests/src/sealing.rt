@@ -5,5 +5,6 @@ mod circuit;
 mod doors;
 mod gathered;
 mod opened;
+mod sealed;
 mod tags;
 mod wires;

@@ -96,7 +96,12 @@ fn first_wrong(alloc: Global, work: WriterWork, text: &str) -> Option<usize> {
     {
         return Some(all);
     }
-    (0..all).find(|room| !fills(alloc, command, SlowWriter::new(alloc, *room), &cannot_write))
+    for room in 0..all {
+        if !fills(alloc, command, SlowWriter::new(alloc, room), &cannot_write) {
+            return Some(room);
+        }
+    }
+    None
 }
 
 const WORKS: &[(WriterWork, &str)] = &[

@@ -1,8 +1,9 @@
 //! What a plant does to catch up, in stories whose moments were worked out by hand.
 
+use crate::host_acts::set_of;
 use ballots::{Ballot, Member, Number};
 use catch_up::{CatchUp, Errand, PacketHead, Start};
-use gone_out::{Known, Numbers, Origin};
+use gone_out::{Known, Origin};
 use node_core::Note;
 use recalls::{Recall, Ticket};
 use rolls::Aside;
@@ -27,6 +28,8 @@ enum CatchUpStep {
     Declined(u32, u64),
     /// This number goes out.
     Out(u32),
+    /// It went out before.
+    IsOut(u32),
     /// A member asks for the numbers from the first to the last.
     Ask(u8, u32, u32),
     /// A member was told so many bytes, at a moment.
@@ -147,6 +150,57 @@ const UNKNOWN: &[CatchUpStep] = &[
     CatchUpStep::Tell(60_000, 3, 1),
 ];
 
+// Of numbers that had a row at the start, just the one that did not go out is recalled.
+const STARTED: &[CatchUpStep] = &[
+    CatchUpStep::Nothing(4_999),
+    CatchUpStep::Send(5_000, 1, 1, 6, 6),
+    CatchUpStep::IsOut(5),
+];
+
+/// What a plant starts from.
+#[derive(Clone, Copy)]
+pub struct PlantStart {
+    /// The members of its circuit.
+    pub count: u8,
+    /// The numbers that have a row, each with a vote.
+    pub known: &'static [u32],
+    /// Those that went out, where that is known.
+    pub out: Option<&'static [u32]>,
+    /// Whether it is the first start that keeps what went out.
+    pub is_first: bool,
+    pub asks: bool,
+}
+
+/// A start of one of three, at which no number has a row.
+pub const BLANK: PlantStart = PlantStart {
+    count: 3,
+    known: &[],
+    out: Some(&[]),
+    is_first: false,
+    asks: true,
+};
+
+const STORIES: &[(PlantStart, &[CatchUpStep])] = &[
+    (BLANK, ALONE),
+    (BLANK, TURNS),
+    (BLANK, LIMIT),
+    (
+        PlantStart {
+            known: &[5, 6],
+            out: Some(&[5]),
+            ..BLANK
+        },
+        STARTED,
+    ),
+];
+
+const MORE_STORIES: &[(PlantStart, &[CatchUpStep])] = &[
+    (BLANK, OUT),
+    (BLANK, TWICE),
+    (PlantStart { count: 1, ..BLANK }, SINGLE),
+    (PlantStart { out: None, ..BLANK }, UNKNOWN),
+];
+
 /// The plant: a member of a circuit of so many, the last where they are fewer.
 fn origin(count: u8) -> Option<Origin> {
     Some(Origin {
@@ -265,6 +319,7 @@ fn goes(alloc: Global, plant: &mut CatchUp, step: CatchUpStep) -> Option<bool> {
             plant.went_out(Number::new(n)?);
             Some(plant.has_gone_out(Number::new(n)?))
         }
+        CatchUpStep::IsOut(n) => Some(plant.has_gone_out(Number::new(n)?)),
         CatchUpStep::Ask(from, first, last) => ask(alloc, plant, from, (first, last)),
         CatchUpStep::Told(to, bytes, now) => {
             plant.told(Member::new(to)?, bytes, now);
@@ -278,26 +333,30 @@ fn goes(alloc: Global, plant: &mut CatchUp, step: CatchUpStep) -> Option<bool> {
     }
 }
 
-/// A plant of a circuit of so many members, at its start: no number has a row.
-fn plant_of(alloc: Global, count: u8, knows: bool) -> Option<CatchUp> {
-    let gone = if knows {
-        Some(Numbers::new(alloc).ok()?)
-    } else {
-        None
+/// A plant at its start.
+pub fn plant_of(alloc: Global, start: PlantStart) -> Option<CatchUp> {
+    let own = origin(start.count)?;
+    let mut known = Known::new(alloc).ok()?;
+    for number in start.known {
+        known.add(Number::new(*number)?, true);
+    }
+    let gone = match start.out {
+        Some(numbers) => Some(set_of(alloc, numbers)?),
+        None => None,
     };
     let start = Start {
-        own: origin(count)?,
-        known: Some(Known::new(alloc).ok()?),
+        own,
+        known: Some(known),
         gone,
-        is_first: false,
-        asks: true,
+        is_first: start.is_first,
+        asks: start.asks,
     };
     CatchUp::new(alloc, start, 0).ok()
 }
 
 /// The place of the first step that does not go as it says, or how many there are.
-fn gone(alloc: Global, count: u8, knows: bool, steps: &[CatchUpStep]) -> Option<usize> {
-    let mut plant = plant_of(alloc, count, knows)?;
+fn gone(alloc: Global, start: PlantStart, steps: &[CatchUpStep]) -> Option<usize> {
+    let mut plant = plant_of(alloc, start)?;
     for (place, step) in steps.iter().enumerate() {
         if goes(alloc, &mut plant, *step) != Some(true) {
             return Some(place);
@@ -308,41 +367,14 @@ fn gone(alloc: Global, count: u8, knows: bool, steps: &[CatchUpStep]) -> Option<
 
 #[test]
 fn stories(rt: HostRuntime) {
-    for steps in &[ALONE, TURNS, LIMIT] {
-        assert!(rt; gone(rt.alloc(), 3, true, steps) == Some(steps.len()));
+    for (start, steps) in STORIES {
+        assert!(rt; gone(rt.alloc(), *start, steps) == Some(steps.len()));
     }
 }
 
 #[test]
 fn more_stories(rt: HostRuntime) {
-    for steps in &[OUT, TWICE] {
-        assert!(rt; gone(rt.alloc(), 3, true, steps) == Some(steps.len()));
+    for (start, steps) in MORE_STORIES {
+        assert!(rt; gone(rt.alloc(), *start, steps) == Some(steps.len()));
     }
-    assert!(rt; gone(rt.alloc(), 1, true, SINGLE) == Some(SINGLE.len()));
-    assert!(rt; gone(rt.alloc(), 3, false, UNKNOWN) == Some(UNKNOWN.len()));
-}
-
-/// Of numbers that had a row at the start, whether just the one that did not go out is recalled: 5 went out, 6 did not.
-fn starts(alloc: Global) -> Option<bool> {
-    let mut known = Known::new(alloc).ok()?;
-    known.add(Number::new(5)?, true);
-    known.add(Number::new(6)?, true);
-    let mut out = Numbers::new(alloc).ok()?;
-    out.insert(Number::new(5)?);
-    let start = Start {
-        own: origin(3)?,
-        known: Some(known),
-        gone: Some(out),
-        is_first: false,
-        asks: true,
-    };
-    let mut plant = CatchUp::new(alloc, start, 0).ok()?;
-    let early = comes(&mut plant, CatchUpStep::Nothing(4_999), 4_999)?;
-    let late = comes(&mut plant, CatchUpStep::Send(5_000, 1, 1, 6, 6), 5_000)?;
-    Some(early && late && plant.has_gone_out(Number::new(5)?))
-}
-
-#[test]
-fn start(rt: HostRuntime) {
-    assert!(rt; starts(rt.alloc()) == Some(true));
 }

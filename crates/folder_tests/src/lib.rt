@@ -5,6 +5,8 @@
 #[cfg(test)]
 mod catching_up;
 #[cfg(test)]
+mod host_acts;
+#[cfg(test)]
 mod look_turns;
 #[cfg(test)]
 mod offers_shelf;

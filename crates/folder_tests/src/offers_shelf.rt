@@ -110,76 +110,37 @@ fn story(alloc: Global) -> Option<Entry> {
     Some(Entry::Tape(tape))
 }
 
+/// A file that is laid.
+fn laid(number: u32, kind: OfferKind) -> Option<FoundOffer> {
+    let request = request(number, kind)?;
+    let file = FileId {
+        device: 0,
+        inode: 0,
+    };
+    let stamp = Stamp {
+        file,
+        length: 0,
+        changed: (0, 0),
+        touched: (0, 0),
+    };
+    Some(FoundOffer { request, stamp })
+}
+
+/// What a file of this kind asks for.
+fn wish_of(alloc: Global, kind: OfferKind) -> Option<Wish> {
+    match kind {
+        OfferKind::Tape | OfferKind::Text => Some(Wish::Offered(story(alloc)?)),
+        OfferKind::Withdraw => Some(Wish::Offered(Entry::Void)),
+        OfferKind::Seek => Some(Wish::Sought),
+    }
+}
+
+/// Why a file is no offer.
+const NO_TAPE: OfferFault = OfferFault::Tape(TapeFault::Empty);
+
 impl Shelf {
-    fn lay(&mut self, number: u32, kind: OfferKind) -> Option<bool> {
-        let request = request(number, kind)?;
-        let file = FileId {
-            device: 0,
-            inode: 0,
-        };
-        let stamp = Stamp {
-            file,
-            length: 0,
-            changed: (0, 0),
-            touched: (0, 0),
-        };
-        Some(self.found.push(FoundOffer { request, stamp }).is_ok())
-    }
-
-    fn change(&mut self, place: usize, length: u64) -> Option<bool> {
-        self.found.get_mut(place)?.stamp.length = length;
-        Some(true)
-    }
-
     fn next(&mut self, moves: bool, asks: bool, wanted: (FileTold, u32)) -> bool {
         word_of(self.book.next(Allowed { moves, asks })) == wanted
-    }
-
-    fn leaving(&self, number: u32, wanted: FileTold) -> Option<bool> {
-        let leaving = word_of(self.book.leaving(Number::new(number)?));
-        Some(leaving.0 == wanted)
-    }
-
-    fn holds(&mut self, number: u32, kind: OfferKind) -> Option<bool> {
-        let request = request(number, kind)?;
-        let wish = match kind {
-            OfferKind::Tape | OfferKind::Text => Wish::Offered(story(self.alloc)?),
-            OfferKind::Withdraw => Wish::Offered(Entry::Void),
-            OfferKind::Seek => Wish::Sought,
-        };
-        self.book.was_read(request, Ok(wish));
-        Some(true)
-    }
-
-    fn holds_none(&mut self, number: u32, kind: OfferKind) -> Option<bool> {
-        self.book.was_read(
-            request(number, kind)?,
-            Err(OfferFault::Tape(TapeFault::Empty)),
-        );
-        Some(true)
-    }
-
-    fn could_not(&mut self, number: u32, kind: OfferKind, now: u64) -> Option<bool> {
-        self.book.could_not(request(number, kind)?, now);
-        Some(true)
-    }
-
-    fn moved(&mut self, number: u32, kind: OfferKind) -> Option<bool> {
-        self.book.moved(request(number, kind)?);
-        Some(true)
-    }
-
-    fn ended(&mut self, number: u32, now: u64, was: bool) -> Option<bool> {
-        Some(self.book.ended(Number::new(number)?, now) == was)
-    }
-
-    fn busy(&mut self, number: u32, now: u64) -> Option<bool> {
-        Some(self.book.busy(Number::new(number)?, now))
-    }
-
-    fn barred(&mut self, number: u32) -> Option<bool> {
-        let reason = OfferFault::Tape(TapeFault::Empty);
-        Some(self.book.barred(Number::new(number)?, reason))
     }
 
     fn released(&mut self, number: u32, entry: Entry) -> Option<bool> {
@@ -187,36 +148,65 @@ impl Shelf {
         Some(self.book.released(number, entry, 0).is_ok())
     }
 
-    /// What the station or the folders tell.
+    /// What is told of a file that was asked for or read.
+    fn hears_of_file(&mut self, event: ShelfEvent) -> Option<()> {
+        match event {
+            ShelfEvent::Holds(number, kind) => {
+                let request = request(number, kind)?;
+                let wish = wish_of(self.alloc, kind)?;
+                self.book.was_read(request, Ok(wish));
+            }
+            ShelfEvent::HoldsNone(number, kind) => {
+                self.book.was_read(request(number, kind)?, Err(NO_TAPE));
+            }
+            ShelfEvent::CouldNot(number, kind, now) => {
+                self.book.could_not(request(number, kind)?, now);
+            }
+            ShelfEvent::Moved(number, kind) => self.book.moved(request(number, kind)?),
+            _ => return None,
+        }
+        Some(())
+    }
+
+    /// Whether what the station tells of a number is taken as it has to be.
     fn hears(&mut self, event: ShelfEvent) -> Option<bool> {
         match event {
-            ShelfEvent::Holds(number, kind) => self.holds(number, kind),
-            ShelfEvent::HoldsNone(number, kind) => self.holds_none(number, kind),
-            ShelfEvent::CouldNot(number, kind, now) => self.could_not(number, kind, now),
-            ShelfEvent::Moved(number, kind) => self.moved(number, kind),
-            ShelfEvent::Ended(number, now, was) => self.ended(number, now, was),
-            ShelfEvent::Busy(number, now) => self.busy(number, now),
-            ShelfEvent::Barred(number) => self.barred(number),
+            ShelfEvent::Ended(number, now, was) => {
+                Some(self.book.ended(Number::new(number)?, now) == was)
+            }
+            ShelfEvent::Busy(number, now) => Some(self.book.busy(Number::new(number)?, now)),
+            ShelfEvent::Barred(number) => Some(self.book.barred(Number::new(number)?, NO_TAPE)),
             ShelfEvent::Withdrawn(number) => self.released(number, Entry::Void),
             ShelfEvent::Story(number) => {
                 let entry = story(self.alloc)?;
                 self.released(number, entry)
             }
-            _ => None,
+            _ => {
+                self.hears_of_file(event)?;
+                Some(true)
+            }
         }
     }
 
     /// Whether what has to be is, once this has happened.
     fn takes(&mut self, event: ShelfEvent) -> Option<bool> {
         match event {
-            ShelfEvent::Lay(number, kind) => self.lay(number, kind),
-            ShelfEvent::Change(place, length) => self.change(place, length),
+            ShelfEvent::Lay(number, kind) => {
+                let file = laid(number, kind)?;
+                Some(self.found.push(file).is_ok())
+            }
+            ShelfEvent::Change(place, length) => {
+                self.found.get_mut(place)?.stamp.length = length;
+                Some(true)
+            }
             ShelfEvent::Take => Some(self.found.pop().is_some()),
             ShelfEvent::Look(now) => Some(self.book.see(&self.found, now).is_ok()),
             ShelfEvent::Next(told, number) => Some(self.next(true, true, (told, number))),
             ShelfEvent::Unmoved(told, number) => Some(self.next(false, true, (told, number))),
             ShelfEvent::Unasked(told, number) => Some(self.next(true, false, (told, number))),
-            ShelfEvent::Leaving(told, number) => self.leaving(number, told),
+            ShelfEvent::Leaving(told, number) => {
+                Some(word_of(self.book.leaving(Number::new(number)?)).0 == told)
+            }
             ShelfEvent::UnderWay(many) => Some(self.book.under_way() == many),
             _ => self.hears(event),
         }

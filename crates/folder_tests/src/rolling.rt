@@ -1,8 +1,9 @@
 //! What a plant makes of rolls, in stories that were worked out by hand. The plant is member 2 of three.
 
+use crate::catching_up::{BLANK, PlantStart, plant_of};
 use ballots::{Ballot, Member, Number};
-use catch_up::{CatchUp, Errand, Start};
-use gone_out::{Known, Numbers, Origin};
+use catch_up::{CatchUp, Errand};
+use gone_out::Numbers;
 use node_core::Note;
 use recalls::Ticket;
 use rolls::{Aside, Counts, Page, Roll, RollBody, Votes};
@@ -223,26 +224,29 @@ fn goes(alloc: Global, plant: &mut CatchUp, step: RollStep) -> Option<bool> {
     }
 }
 
-/// A plant at a start without rows.
-fn plant_of(alloc: Global, is_first: bool, asks: bool) -> Option<CatchUp> {
-    let own = Origin {
-        circuit: CIRCUIT,
-        member: Member::new(2)?,
-        count: 3,
-    };
-    let start = Start {
-        own,
-        known: Some(Known::new(alloc).ok()?),
-        gone: Some(Numbers::new(alloc).ok()?),
-        is_first,
-        asks,
-    };
-    CatchUp::new(alloc, start, 0).ok()
-}
+/// Starts without rows, and what comes of rolls then.
+const STORIES: &[(PlantStart, &[RollStep])] = &[
+    (BLANK, AT_ONCE),
+    (
+        PlantStart {
+            is_first: true,
+            ..BLANK
+        },
+        FIRST,
+    ),
+    (
+        PlantStart {
+            asks: false,
+            ..BLANK
+        },
+        OFF,
+    ),
+    (BLANK, AGAIN),
+];
 
 /// The place of the first step that does not go as it says, or how many there are.
-fn gone(alloc: Global, is_first: bool, asks: bool, steps: &[RollStep]) -> Option<usize> {
-    let mut plant = plant_of(alloc, is_first, asks)?;
+fn gone(alloc: Global, start: PlantStart, steps: &[RollStep]) -> Option<usize> {
+    let mut plant = plant_of(alloc, start)?;
     for (place, step) in steps.iter().enumerate() {
         if goes(alloc, &mut plant, *step) != Some(true) {
             return Some(place);
@@ -252,21 +256,8 @@ fn gone(alloc: Global, is_first: bool, asks: bool, steps: &[RollStep]) -> Option
 }
 
 #[test]
-fn pages_are_recalled_at_once(rt: HostRuntime) {
-    assert!(rt; gone(rt.alloc(), false, true, AT_ONCE) == Some(AT_ONCE.len()));
-}
-
-#[test]
-fn first_starts_tell(rt: HostRuntime) {
-    assert!(rt; gone(rt.alloc(), true, true, FIRST) == Some(FIRST.len()));
-}
-
-#[test]
-fn off_answers(rt: HostRuntime) {
-    assert!(rt; gone(rt.alloc(), false, false, OFF) == Some(OFF.len()));
-}
-
-#[test]
-fn another_voter_wakes(rt: HostRuntime) {
-    assert!(rt; gone(rt.alloc(), false, true, AGAIN) == Some(AGAIN.len()));
+fn rolls_are_told_and_heard(rt: HostRuntime) {
+    for (start, steps) in STORIES {
+        assert!(rt; gone(rt.alloc(), *start, steps) == Some(steps.len()));
+    }
 }

@@ -61,13 +61,17 @@ fn take_a_turn<'a>(posts: &mut [Post<'a>], newer: &mut NewerLayouts) -> bool {
     true
 }
 
+/// Whether all have printed this, and none has a fault.
 fn all_have_printed<'a>(posts: &[Post<'a>], out: &str) -> bool {
-    posts
-        .iter()
-        .all(|post| post.machine.outside.as_slice() == out.as_bytes())
+    for post in posts {
+        if !post.has_printed(out, "") {
+            return false;
+        }
+    }
+    true
 }
 
-/// Whether each turn ended well, up to the one after which all have printed this, or 300.
+/// Whether all come to print this within 300 turns, each of which ends well.
 fn all_come_to<'a>(posts: &mut [Post<'a>], out: &str) -> bool {
     let mut newer = NewerLayouts::new();
     for _ in 0..300 {
@@ -75,10 +79,10 @@ fn all_come_to<'a>(posts: &mut [Post<'a>], out: &str) -> bool {
             return false;
         }
         if all_have_printed(posts, out) {
-            break;
+            return true;
         }
     }
-    true
+    false
 }
 
 /// Whether the first takes the offer.
@@ -91,9 +95,7 @@ fn offers<'a>(posts: &mut [Post<'a>]) -> bool {
 
 /// Whether these agree on what the first offers, and none has a fault.
 fn come_to_agree<'a>(posts: &mut [Post<'a>]) -> bool {
-    offers(posts)
-        && all_come_to(posts, RELEASE)
-        && posts.iter().all(|post| post.has_printed(RELEASE, ""))
+    offers(posts) && all_come_to(posts, RELEASE)
 }
 
 /// Whether three stations agree.

@@ -1,6 +1,6 @@
 //! Files that change while they lie among the offers: before they are read, while they are, while their ballots are under way, and later.
 
-use crate::running::{PlantRun, RUN, is_true};
+use crate::running::{PlantRun, RUN, first_amiss};
 use crate::stage::OfferHeld::{Flood, Harvest, Ligature, Nothing, Start};
 use crate::stage::OfferName::{Stop, Tape12};
 use crate::stage::StageChange::{Full, Laid, LaidAt, Taken};
@@ -32,13 +32,6 @@ const GROWING: &[PlantRun] = &[
         ..RUN
     },
 ];
-
-#[test]
-fn growing(rt: HostRuntime) {
-    for (place, run) in GROWING.iter().enumerate() {
-        assert!(rt; is_true(rt.alloc(), run), "{place}");
-    }
-}
 
 /// A story is released and sent.
 const LOUD: PlantRun = PlantRun {
@@ -86,13 +79,6 @@ read 12.tape\nlost 12.tape.txt: release 12 01020301030204\nlost 12.tape\n",
     },
 ];
 
-#[test]
-fn changed(rt: HostRuntime) {
-    for (place, run) in CHANGED.iter().enumerate() {
-        assert!(rt; is_true(rt.alloc(), run), "{place}");
-    }
-}
-
 /// A file that lies there at one look alone goes out where files are renamed, and not where they may be written as they lie there. Where
 /// one is written on nevertheless, what the first look found goes out, and the rest is lost.
 const RENAMED: &[PlantRun] = &[
@@ -129,13 +115,6 @@ read 12.tape\nlost 12.tape.txt: release 12 01020301030204\nlost 12.tape\n",
         ..RUN
     },
 ];
-
-#[test]
-fn renamed(rt: HostRuntime) {
-    for (place, run) in RENAMED.iter().enumerate() {
-        assert!(rt; is_true(rt.alloc(), run), "{place}");
-    }
-}
 
 /// Where nobody answers, a file that is replaced while it is under way is read once its ballots are given up, and not before; one that is
 /// taken away is not asked for again. In the usual log the second ballot is told, and that they are given up.
@@ -191,15 +170,8 @@ const GIVEN_UP: &[PlantRun] = &[
     },
 ];
 
-#[test]
-fn under_way(rt: HostRuntime) {
-    for (place, run) in GIVEN_UP.iter().enumerate() {
-        assert!(rt; is_true(rt.alloc(), run), "{place}");
-    }
-}
-
 /// A file that was written anew once it was taken up is no longer the one that was: it is taken up again, and loses the number.
-const WRITTEN_ANEW: PlantRun = PlantRun {
+const WRITTEN_ANEW: &[PlantRun] = &[PlantRun {
     acts: &[
         StageAct(1, Full(true)),
         StageAct(1, Laid(Tape12, Flood)),
@@ -212,9 +184,11 @@ read 12.tape\nread 12.tape\nwrote 12.tape 7\nwrote 12.galley 25\n\
 lost 12.tape.txt: release 12 01020301030204\nlost 12.tape\n",
     err: "folders: cannot write releases: the disk is full\n12 released\n12 lost\n",
     ..RUN
-};
+}];
+
+const STORIES: &[&[PlantRun]] = &[GROWING, CHANGED, RENAMED, GIVEN_UP, WRITTEN_ANEW];
 
 #[test]
-fn written_anew(rt: HostRuntime) {
-    assert!(rt; is_true(rt.alloc(), &WRITTEN_ANEW));
+fn files_that_change(rt: HostRuntime) {
+    assert_eq!(rt; first_amiss(rt.alloc(), STORIES), None);
 }

@@ -103,10 +103,13 @@ fn count(place: &mut usize, by: usize) {
 
 /// How many of these steps released something.
 fn released_by(steps: &[TakenStep]) -> usize {
-    steps
-        .iter()
-        .filter(|step| step.answer.release.is_some())
-        .count()
+    let mut many: usize = 0;
+    for step in steps {
+        if step.answer.release.is_some() {
+            count(&mut many, 1);
+        }
+    }
+    many
 }
 
 impl Sink for CountingDesk {

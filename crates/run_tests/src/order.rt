@@ -1,6 +1,6 @@
 //! In which order it is worked with the files of one number, and what leaves the offers when.
 
-use crate::running::{PlantRun, RUN, is_true};
+use crate::running::{PlantRun, RUN, first_amiss};
 use crate::stage::OfferHeld::{Flood, Harvest, Nothing, Why};
 use crate::stage::OfferName::{Seek14, Stop, Tape12, Tape14, Withdraw14};
 use crate::stage::StageAct;
@@ -52,11 +52,9 @@ refused story3: no number\nrefused story4: no number\n",
     ..RUN
 };
 
-const RUNS: &[PlantRun] = &[LATE, THREE, BEFORE_STRAYS];
+const STORIES: &[&[PlantRun]] = &[&[LATE, THREE, BEFORE_STRAYS]];
 
 #[test]
 fn in_order(rt: HostRuntime) {
-    for (place, run) in RUNS.iter().enumerate() {
-        assert!(rt; is_true(rt.alloc(), run), "{place}");
-    }
+    assert_eq!(rt; first_amiss(rt.alloc(), STORIES), None);
 }

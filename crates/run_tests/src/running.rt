@@ -188,7 +188,15 @@ fn comes_to(alloc: Global, run: &PlantRun) -> Option<bool> {
     Some(is_told(&mut machine, run) && has_done(alloc, &machine.outside.folders, run.folders))
 }
 
-/// Returns whether a run comes to what it has to. Without memory for the run it does not.
-pub fn is_true(alloc: Global, run: &PlantRun) -> bool {
-    comes_to(alloc, run) == Some(true)
+/// The first story, and the first run of it, that comes to something else than it has to; nothing where there is none. Without memory for it a
+/// run does not come to it.
+pub fn first_amiss(alloc: Global, stories: &[&[PlantRun]]) -> Option<(usize, usize)> {
+    for (story, runs) in stories.iter().enumerate() {
+        for (place, run) in runs.iter().enumerate() {
+            if comes_to(alloc, run) != Some(true) {
+                return Some((story, place));
+            }
+        }
+    }
+    None
 }

@@ -1,6 +1,6 @@
 //! What waits: a release while the disk is full, a file that can't be moved, an offer while no majority is there, a search of what is not there.
 
-use crate::running::{PlantRun, RUN, is_true};
+use crate::running::{PlantRun, RUN, first_amiss};
 use crate::stage::OfferHeld::{Flood, Nothing};
 use crate::stage::OfferName::{Seek12, Stop, Tape12};
 use crate::stage::StageAct;
@@ -31,13 +31,6 @@ const FULL_DISK: &[PlantRun] = &[
         ..RUN
     },
 ];
-
-#[test]
-fn full_disk(rt: HostRuntime) {
-    for (place, run) in FULL_DISK.iter().enumerate() {
-        assert!(rt; is_true(rt.alloc(), run), "{place}");
-    }
-}
 
 /// A file that can't be moved once its number is released is moved a second later.
 const MOVED_LATER: PlantRun = PlantRun {
@@ -72,13 +65,6 @@ folders: cannot read a\\nfifo: it is no plain file\nfolders: cannot read a\\nfif
 
 const FAILING: &[PlantRun] = &[MOVED_LATER, TOLD_ONCE];
 
-#[test]
-fn folders_that_fail(rt: HostRuntime) {
-    for (place, run) in FAILING.iter().enumerate() {
-        assert!(rt; is_true(rt.alloc(), run), "{place}");
-    }
-}
-
 /// Where nobody answers one ballot follows the other; the run goes on until the network fails.
 const ALONE: PlantRun = PlantRun {
     members: 3,
@@ -108,13 +94,6 @@ const GIVEN_UP: PlantRun = PlantRun {
 };
 
 const UNANSWERED: &[PlantRun] = &[ALONE, GIVEN_UP];
-
-#[test]
-fn unanswered(rt: HostRuntime) {
-    for (place, run) in UNANSWERED.iter().enumerate() {
-        assert!(rt; is_true(rt.alloc(), run), "{place}");
-    }
-}
 
 /// A search finds what was voted for; where there is nothing, it is made again after a pause that grows, and given back after ten times.
 const SOUGHT: &[PlantRun] = &[
@@ -150,9 +129,9 @@ const SOUGHT: &[PlantRun] = &[
     },
 ];
 
+const STORIES: &[&[PlantRun]] = &[FULL_DISK, FAILING, UNANSWERED, SOUGHT];
+
 #[test]
-fn sought(rt: HostRuntime) {
-    for (place, run) in SOUGHT.iter().enumerate() {
-        assert!(rt; is_true(rt.alloc(), run), "{place}");
-    }
+fn what_waits(rt: HostRuntime) {
+    assert_eq!(rt; first_amiss(rt.alloc(), STORIES), None);
 }

@@ -210,11 +210,16 @@ fn counted(alloc: Global, story: &CircuitStory) -> Option<usize> {
     come(alloc, parts(alloc, &story.members)?, story)
 }
 
-/// The place of the first step of a story that does not come to what it has to, or its length where only the logs are
-/// not what they have to be; nothing where all is.
-pub fn fails_at(alloc: Global, story: &CircuitStory) -> Option<usize> {
-    let count = counted(alloc, story).unwrap_or(0);
-    (count <= story.lines.len()).then_some(count)
+/// The first of these stories, and the first step of it, that does not come to what it has to, or the story's length where only
+/// the logs are not what they have to be; nothing where all is.
+pub fn first_amiss(alloc: Global, stories: &[CircuitStory]) -> Option<(usize, usize)> {
+    for (place, story) in stories.iter().enumerate() {
+        let count = counted(alloc, story).unwrap_or(0);
+        if count <= story.lines.len() {
+            return Some((place, count));
+        }
+    }
+    None
 }
 
 /// Whether a circuit that was played stopped where a story has to, and its logs are what they have to be.
@@ -224,7 +229,7 @@ fn has_played<R: Rows>(alloc: Global, played: &Played<R>, story: &CircuitStory) 
 
 /// Whether the steps of a story whose members have one version, taken in one run from the beginning of its circuit, leave the
 /// logs as they have to be.
-pub fn plays(alloc: Global, story: &CircuitStory) -> Option<bool> {
+fn plays(alloc: Global, story: &CircuitStory) -> Option<bool> {
     let founders = Founders {
         circuit: 7,
         version: story.members.version,
@@ -233,4 +238,14 @@ pub fn plays(alloc: Global, story: &CircuitStory) -> Option<bool> {
     let steps = steps_of(alloc, story.lines)?;
     let played = play_in_memory(alloc, founders, steps.as_slice()).ok()?;
     Some(has_played(alloc, &played, story))
+}
+
+/// The place of the first of these stories that does not come to what it has to in one run; nothing where all do.
+pub fn first_unplayed(alloc: Global, stories: &[CircuitStory]) -> Option<usize> {
+    for (place, story) in stories.iter().enumerate() {
+        if plays(alloc, story) != Some(true) {
+            return Some(place);
+        }
+    }
+    None
 }

@@ -2,7 +2,7 @@
 
 use crate::circuits::bodies::SentBody::{FloodTape, NoReport, Prepare};
 use crate::circuits::bodies::SentPacket;
-use crate::circuits::checking::fails_at;
+use crate::circuits::checking::first_amiss;
 use crate::circuits::members::{Members, THREE};
 use crate::circuits::stories::StepEnding::{Done, Refused, Restarted, Upgraded};
 use crate::circuits::stories::StoryAct::{Deliver, OfferFlood, Restart, Seek, Upgrade, Withdraw};
@@ -78,7 +78,5 @@ const STORIES: &[CircuitStory] = &[UNREAD_ROW, UNREAD_ROWS];
 
 #[test]
 fn where_memory_is_refused_nothing_else_changes(rt: HostRuntime) {
-    for (place, story) in STORIES.iter().enumerate() {
-        assert!(rt; fails_at(rt.alloc(), story).is_none(), "{place}");
-    }
+    assert_eq!(rt; first_amiss(rt.alloc(), STORIES), None);
 }

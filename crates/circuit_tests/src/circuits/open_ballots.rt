@@ -2,7 +2,7 @@
 
 use crate::circuits::bodies::SentBody::{NoReport, Prepare};
 use crate::circuits::bodies::SentPacket;
-use crate::circuits::checking::{fails_at, open_ballot, takes};
+use crate::circuits::checking::{first_amiss, open_ballot, takes};
 use crate::circuits::members::{Members, Parts, THREE, parts};
 use crate::circuits::stories::StepEnding::Done;
 use crate::circuits::stories::StoryAct::{Deliver, Due, OfferFlood, OfferLigature};
@@ -37,9 +37,7 @@ const PASSED: &[CircuitStory] = &[CircuitStory {
 
 #[test]
 fn an_overtaken_ballot(rt: HostRuntime) {
-    for story in PASSED {
-        assert!(rt; fails_at(rt.alloc(), story).is_none());
-    }
+    assert_eq!(rt; first_amiss(rt.alloc(), PASSED), None);
 }
 
 /// Whether member 1 of two begins its first ballot, and the one after each so many, when it is due.

@@ -2,7 +2,7 @@
 
 use crate::circuits::bodies::SentBody::{NoReport, Prepare};
 use crate::circuits::bodies::SentPacket;
-use crate::circuits::checking::{fails_at, plays};
+use crate::circuits::checking::{first_amiss, first_unplayed};
 use crate::circuits::members::{Members, Parts, THREE, parts, settings};
 use crate::circuits::stories::StepEnding::Done;
 use crate::circuits::stories::StoryAct::{Deliver, OfferFlood, Seek, Upgrade};
@@ -95,14 +95,10 @@ const TOO_EARLY: &[CircuitStory] = &[CircuitStory {
 
 #[test]
 fn steps_that_there_are_not(rt: HostRuntime) {
-    for story in STRANGE {
-        assert!(rt; fails_at(rt.alloc(), story).is_none());
-    }
+    assert_eq!(rt; first_amiss(rt.alloc(), STRANGE), None);
 }
 
 #[test]
 fn a_run_stops_before_what_there_is_not(rt: HostRuntime) {
-    for story in TOO_EARLY {
-        assert!(rt; plays(rt.alloc(), story) == Some(true));
-    }
+    assert_eq!(rt; first_unplayed(rt.alloc(), TOO_EARLY), None);
 }

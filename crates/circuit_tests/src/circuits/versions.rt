@@ -4,7 +4,7 @@ use crate::circuits::bodies::SentBody::{
     FloodPacked, FloodReportPacked, FloodTape, NoReport, Prepare,
 };
 use crate::circuits::bodies::SentPacket;
-use crate::circuits::checking::{fails_at, plays};
+use crate::circuits::checking::{first_amiss, first_unplayed};
 use crate::circuits::members::{Members, THREE};
 use crate::circuits::stories::StepEnding::{Done, Upgraded};
 use crate::circuits::stories::StoryAct::{Deliver, OfferFlood, Upgrade, Withdraw};
@@ -46,9 +46,7 @@ const APART: &[CircuitStory] = &[CircuitStory {
 
 #[test]
 fn members_at_two_versions(rt: HostRuntime) {
-    for story in APART {
-        assert!(rt; fails_at(rt.alloc(), story).is_none());
-    }
+    assert_eq!(rt; first_amiss(rt.alloc(), APART), None);
 }
 
 /// Member 2 votes for the flood story and is upgraded. Member 3, which is upgraded too, withdraws the number, and hears of the
@@ -95,8 +93,6 @@ const OUTLIVED: &[CircuitStory] = &[CircuitStory {
 
 #[test]
 fn members_are_upgraded_one_at_a_time(rt: HostRuntime) {
-    for story in OUTLIVED {
-        assert!(rt; fails_at(rt.alloc(), story).is_none());
-        assert!(rt; plays(rt.alloc(), story) == Some(true));
-    }
+    assert_eq!(rt; first_amiss(rt.alloc(), OUTLIVED), None);
+    assert_eq!(rt; first_unplayed(rt.alloc(), OUTLIVED), None);
 }

@@ -20,20 +20,13 @@ fn is_spelled(alloc: Global, packet: &PacketRef<'_>, bytes: &[u8]) -> bool {
     }
 }
 
-/// Whether a copy of the packet, lent, is.
-fn copy_is_spelled(alloc: Global, packet: &PacketRef<'_>, bytes: &[u8]) -> bool {
-    match packet.copy(alloc) {
-        Ok(copy) => is_spelled(alloc, &copy.lend(), bytes),
-        Err(_) => false,
-    }
-}
-
 /// Whether a station of this version reads the bytes as a packet that is spelled so, and its copy too.
 pub fn comes_again(alloc: Global, station: Version, bytes: &[u8]) -> bool {
-    match decode(bytes, station) {
-        Ok(packet) => {
-            is_spelled(alloc, &packet, bytes) && copy_is_spelled(alloc, &packet, bytes)
-        }
+    let Ok(packet) = decode(bytes, station) else {
+        return false;
+    };
+    match packet.copy(alloc) {
+        Ok(copy) => { is_spelled(alloc, &packet, bytes) && is_spelled(alloc, &copy.lend(), bytes) }
         Err(_) => false,
     }
 }

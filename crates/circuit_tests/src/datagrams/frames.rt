@@ -1,6 +1,6 @@
 //! Tapes, a frame a byte or packed, the entries that they are, and the holes of a frame.
 
-use fixtures::FLOOD;
+use fixtures::{FLOOD, LONGEST};
 use std::alloc::Global;
 use tape_frames::{EntryRef, PackedRef, Tape, TapeFault, TapeRef, holes};
 
@@ -22,18 +22,18 @@ fn fault_of(alloc: Global, bytes: &[u8]) -> Option<TapeFault> {
     }
 }
 
-fn fault_of_zeros(alloc: Global, len: usize) -> Option<TapeFault> {
-    match vec![in alloc; 0u8; len] {
-        Ok(zeros) => fault_of(alloc, &zeros),
-        Err(_) => None,
-    }
-}
+/// Bytes, and what is wrong with them.
+const NO_TAPES: &[(&[u8], TapeFault)] = &[
+    (&[], TapeFault::Empty),
+    (&[1, 0x40], TapeFault::BadFrame { at: 1 }),
+    (&[0; 16_385], TapeFault::TooLong { len: 16_385 }),
+];
 
 #[test]
 fn no_tapes(rt: HostRuntime) {
-    assert!(rt; fault_of(rt.alloc(), &[]) == Some(TapeFault::Empty));
-    assert!(rt; fault_of(rt.alloc(), &[1, 0x40]) == Some(TapeFault::BadFrame { at: 1 }));
-    assert!(rt; fault_of_zeros(rt.alloc(), 16_385) == Some(TapeFault::TooLong { len: 16_385 }));
+    for (bytes, fault) in NO_TAPES {
+        assert!(rt; fault_of(rt.alloc(), bytes) == Some(*fault));
+    }
 }
 
 /// Two copies of a tape, itself and lent, which is gone then.
@@ -69,19 +69,11 @@ fn are_kept(alloc: Global, frames: &[u8]) -> bool {
     }
 }
 
-/// So many frames.
-fn many_are_kept(alloc: Global, len: usize) -> bool {
-    match vec![in alloc; 63u8; len] {
-        Ok(frames) => are_kept(alloc, &frames),
-        Err(_) => false,
-    }
-}
-
 /// One frame, and the most that a tape has.
 #[test]
 fn tapes(rt: HostRuntime) {
     assert!(rt; are_kept(rt.alloc(), &[1]));
-    assert!(rt; many_are_kept(rt.alloc(), 16_384));
+    assert!(rt; are_kept(rt.alloc(), LONGEST));
 }
 
 /// The flood story, six bits a frame, and six zero bits behind them.

@@ -150,9 +150,10 @@ fn step<R: Rows>(
     })
 }
 
-/// Whether a step, a restart or an upgrade ends as expected.
-fn goes<R: Rows>(alloc: Global, station: &mut Station<R>, turn: &StationTurn) -> bool {
+/// Whether what is done ends as expected.
+fn goes<R: Changing>(alloc: Global, station: &mut Station<R>, turn: &StationTurn) -> bool {
     match turn.act {
+        StationAct::Arm(_) | StationAct::Refuse(_) => station.rows_mut().change(turn.act),
         StationAct::Restart => {
             station.restart();
             true
@@ -162,14 +163,6 @@ fn goes<R: Rows>(alloc: Global, station: &mut Station<R>, turn: &StationTurn) ->
             Some(end) => is_wanted(end, turn),
             None => false,
         },
-    }
-}
-
-/// Whether what is done ends as expected.
-fn acts<R: Changing>(alloc: Global, station: &mut Station<R>, turn: &StationTurn) -> bool {
-    match turn.act {
-        StationAct::Arm(_) | StationAct::Refuse(_) => station.rows_mut().change(turn.act),
-        _ => goes(alloc, station, turn),
     }
 }
 
@@ -190,7 +183,7 @@ fn takes<R: Changing>(
     number: Number,
     turn: &StationTurn,
 ) -> bool {
-    acts(alloc, station, turn)
+    goes(alloc, station, turn)
         && station.stopped() == turn.stopped
         && station.released(number) == turn.released
         && is_open(station, number, turn.open)
@@ -252,11 +245,13 @@ fn matched(alloc: Global, story: &StationStory) -> Option<usize> {
     come(alloc, story, UnreadRows::new(Balky::new(rows)))
 }
 
-/// The place of the first turn of a story that does not come to what it has to; nothing where all do.
-pub fn fails_at(alloc: Global, story: &StationStory) -> Option<usize> {
-    match matched(alloc, story) {
-        Some(count) if count > story.turns.len() => None,
-        Some(place) => Some(place),
-        None => Some(0),
+/// The first of these stories, and the first turn of it, that does not come to what it has to; nothing where all do.
+pub fn first_amiss(alloc: Global, stories: &[StationStory]) -> Option<(usize, usize)> {
+    for (place, story) in stories.iter().enumerate() {
+        let count = matched(alloc, story).unwrap_or(0);
+        if count <= story.turns.len() {
+            return Some((place, count));
+        }
     }
+    None
 }

@@ -1,6 +1,6 @@
 //! Rows that are not read.
 
-use crate::stations::benches::{LeftSaved, SECOND, StationStory, fails_at};
+use crate::stations::benches::{LeftSaved, SECOND, StationStory, first_amiss};
 use crate::stations::messages::Message::{Prepare, Promise, ToMemberThree};
 use crate::stations::turns::Ends::{Always, Done, Refused};
 use crate::stations::turns::StationAct::{Due, Offer, Receive, Refuse, Restart, Seek};
@@ -113,7 +113,5 @@ const UNREAD: &[StationStory] = &[StationStory {
 
 #[test]
 fn rows_that_are_not_read(rt: HostRuntime) {
-    for story in UNREAD {
-        assert!(rt; fails_at(rt.alloc(), story).is_none());
-    }
+    assert_eq!(rt; first_amiss(rt.alloc(), UNREAD), None);
 }

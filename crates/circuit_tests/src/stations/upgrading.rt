@@ -1,6 +1,6 @@
 //! One station is upgraded to version 2 with its saved rows.
 
-use crate::stations::benches::{ALONE, FIRST, LeftSaved, SECOND, StationStory, fails_at};
+use crate::stations::benches::{ALONE, FIRST, LeftSaved, SECOND, StationStory, first_amiss};
 use crate::stations::messages::Message::{PrepareAgain, PrepareTwo, PromiseTwo};
 use crate::stations::turns::Ends::{Always, Done, Refused};
 use crate::stations::turns::StationAct::{Arm, Due, Receive, Refuse, Restart, Upgrade, Withdraw};
@@ -164,7 +164,5 @@ const STORIES: &[StationStory] = &[
 
 #[test]
 fn one_station_is_upgraded(rt: HostRuntime) {
-    for (place, story) in STORIES.iter().enumerate() {
-        assert!(rt; fails_at(rt.alloc(), story).is_none(), "{place}");
-    }
+    assert_eq!(rt; first_amiss(rt.alloc(), STORIES), None);
 }

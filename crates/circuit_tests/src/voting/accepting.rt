@@ -1,7 +1,7 @@
 //! An acceptor's replies: worked tables, and random requests beside an acceptor that keeps no row and looks through all that it was asked.
 
 use crate::voting::draws::{drawn_at, drawn_entry};
-use crate::voting::rows::{PlainBallot, Voted, ballot, is_entry, is_vote, owned, parts};
+use crate::voting::rows::{PlainBallot, Voted, ballot, is_entry, is_vote, owned, parts, parts_of};
 use acceptor::{Reply, Request, run};
 use ballots::Row;
 use fixtures::GivenEntry::{Flood, Ligature};
@@ -76,7 +76,7 @@ fn are_told(replies: &[Reply], steps: &[RunStep]) -> bool {
 
 /// Whether the row has the promise and the vote that the plain acceptor comes to.
 fn is_left(row: &Row, steps: &[RunStep]) -> bool {
-    row.promised().map(parts) == greatest(steps, steps.len()) && is_vote(row.vote(), vote_of(steps))
+    parts_of(row.promised()) == greatest(steps, steps.len()) && is_vote(row.vote(), vote_of(steps))
 }
 
 /// Whether a run of the requests is answered so, and leaves that row.
@@ -127,14 +127,6 @@ fn worked_runs(rt: HostRuntime) {
     }
 }
 
-/// Whether the ballot is above the other, or there is no other.
-fn is_above(at: PlainBallot, other: Option<PlainBallot>) -> bool {
-    match other {
-        None => true,
-        Some(other) => other < at,
-    }
-}
-
 fn at_of(asked: RunRequest) -> PlainBallot {
     match asked {
         RunRequest::Prepare(at) => at,
@@ -144,14 +136,14 @@ fn at_of(asked: RunRequest) -> PlainBallot {
 
 /// The greatest ballot of so many first requests.
 fn greatest(steps: &[RunStep], many: usize) -> Option<PlainBallot> {
-    let mut greatest: Option<PlainBallot> = None;
+    let mut greatest: PlainBallot = (0, 0);
     for (asked, _) in steps.iter().take(many) {
         let at = at_of(*asked);
-        if is_above(at, greatest) {
-            greatest = Some(at);
+        if greatest < at {
+            greatest = at;
         }
     }
-    greatest
+    (greatest != (0, 0)).then_some(greatest)
 }
 
 /// The vote of greatest ballot, the first where equal. An accept is voted for where no request before it has a greater ballot.
@@ -163,7 +155,11 @@ fn vote_of(steps: &[RunStep]) -> Option<Voted> {
                 None => true,
                 Some(promised) => promised <= *at,
             };
-            if is_voted_for && is_above(*at, vote.map(|voted| voted.0)) {
+            let is_greater = match vote {
+                None => true,
+                Some((voted, _)) => voted < *at,
+            };
+            if is_voted_for && is_greater {
                 vote = Some((*at, *given));
             }
         }

@@ -3,7 +3,7 @@
 ghost use Rattle.std.specs.Prelude.{◌≡◌, ◌≤◌, IfSome};
 
 use crate::voting::draws::{drawn_at, drawn_entry, drawn_member};
-use crate::voting::rows::{PlainBallot, Voted, ballot, is_this, lent, member_of, parts};
+use crate::voting::rows::{PlainBallot, Voted, ballot, is_this, lent, member_of, parts_of};
 use ballots::{Ballot, Member};
 use fixtures::GivenEntry::Flood;
 use fixtures::{Dice, GivenEntry};
@@ -34,7 +34,7 @@ fn hears(heard: &mut Heard, members: u8, one: HeardVote) -> bool
         return false;
     };
     match heard.hear(member, ballot, entry) {
-        Ok(answer) => answer.map(parts) == one.1 && is_this(heard.tape_at(ballot), one.2),
+        Ok(answer) => parts_of(answer) == one.1 && is_this(heard.tape_at(ballot), one.2),
         Err(_) => false,
     }
 }
@@ -77,14 +77,11 @@ const STORY: &[HeardVote] = &[
     HeardVote((1, (1, 1), Flood), Some((1, 3)), Some(Flood)),
 ];
 
-fn told(alloc: Global, times: u32) -> usize {
-    heard_of(alloc, 5, times, STORY)
-}
-
 #[test]
 fn a_majority_is_heard(rt: HostRuntime) {
-    assert!(rt; told(rt.alloc(), 1) == 7);
-    assert!(rt; told(rt.alloc(), 200) == 7);
+    for times in &[1, 200] {
+        assert!(rt; heard_of(rt.alloc(), 5, *times, STORY) == 7);
+    }
 }
 
 /// The member's vote of greatest ballot, the first where equal.

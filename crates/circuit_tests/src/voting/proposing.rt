@@ -84,16 +84,6 @@ fn does(proposal: &mut Proposal, promised: PlainBallot, now: u64, answer: DueAns
     }
 }
 
-/// Whether it begins this ballot at a moment.
-fn begins(proposal: &mut Proposal, promised: PlainBallot, now: u64, begun: PlainBallot) -> bool
-    ensures { proposal.new.members ≡ proposal.old.members }
-{
-    match ballot(begun) {
-        Some(ballot) => does(proposal, promised, now, DueAnswer::Began { ballot }),
-        None => false,
-    }
-}
-
 /// Whether a step comes to what it has to.
 fn takes(proposal: &mut Proposal, step: ProposalStep) -> bool
     requires { proposal.old.members ≡ 5 }
@@ -106,7 +96,10 @@ fn takes(proposal: &mut Proposal, step: ProposalStep) -> bool
         },
         ProposalStep::Nack(denied, promised, kept) => keeps(proposal, denied, promised, kept),
         ProposalStep::Waits(promised, now) => does(proposal, promised, now, DueAnswer::Wait),
-        ProposalStep::Begins(promised, now, begun) => begins(proposal, promised, now, begun),
+        ProposalStep::Begins(promised, now, begun) => match ballot(begun) {
+            Some(ballot) => does(proposal, promised, now, DueAnswer::Began { ballot }),
+            None => false,
+        },
     }
 }
 
@@ -171,13 +164,9 @@ const STORY: &[ProposalRow] = &[
     (ProposalStep::Begins((2, 1), 290, (4, 1)), Some(Unfinished)),
 ];
 
-fn told(alloc: Global) -> Option<usize> {
-    taken(alloc, SEEN, STORY)
-}
-
 #[test]
 fn a_quorum_promises(rt: HostRuntime) {
-    assert!(rt; told(rt.alloc()) == Some(8));
+    assert!(rt; taken(rt.alloc(), SEEN, STORY) == Some(8));
 }
 
 /// The first ballot of a proposal that begins so, and its due moment.
@@ -241,8 +230,10 @@ fn count(notes: &mut Notes, from: u8, at: PlainBallot, report: Option<Voted>) ->
     if at != notes.ballot {
         return Some(Counted::Stale);
     }
-    if notes.promises.iter().any(|promise| promise.0 == from) {
-        return Some(Counted::Repeated);
+    for (member, _) in &notes.promises {
+        if *member == from {
+            return Some(Counted::Repeated);
+        }
     }
     notes.promises.push((from, report)).ok()?;
     if notes.promises.len() < 3 {

@@ -70,6 +70,14 @@ pub fn parts(ballot: Ballot) -> PlainBallot {
     (ballot.round(), ballot.owner().get())
 }
 
+/// The parts of a ballot, where there is one.
+pub fn parts_of(ballot: Option<Ballot>) -> Option<PlainBallot> {
+    match ballot {
+        Some(ballot) => Some(parts(ballot)),
+        None => None,
+    }
+}
+
 /// The member of this number, in a circuit of so many.
 pub fn member_of(members: u8, number: u8) -> Option<Member>
     ensures { IfSome result (λ m. m ≤ members) }

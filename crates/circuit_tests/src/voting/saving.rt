@@ -1,6 +1,6 @@
 //! What members save: majorities of them, votes and rows that are copied, and rows that are read as they were saved.
 
-use crate::voting::rows::{ballot, is_vote, owned, parts};
+use crate::voting::rows::{ballot, is_vote, owned, parts_of};
 use ballots::{Number, Row, Vote, majority};
 use fixtures::GivenEntry;
 use fixtures::GivenEntry::{Flood, Void};
@@ -32,7 +32,7 @@ fn copied(alloc: Global, given: GivenEntry) -> Option<Row> {
 
 /// Whether a row is that one.
 fn is_row(row: &Row, given: GivenEntry) -> bool {
-    row.promised().map(parts) == Some((1, 3)) && is_vote(row.vote(), Some(((1, 1), given)))
+    parts_of(row.promised()) == Some((1, 3)) && is_vote(row.vote(), Some(((1, 1), given)))
 }
 
 /// Whether nothing is saved of the number yet.

@@ -1,8 +1,8 @@
 //! The keys of a circuit, and a datagram under one.
 
-use ballots::Member;
+use super::sealed::datagram_of;
 use circuit_keys::{SharedKeys, circuit_keys};
-use seals::{Keys, Label};
+use seals::Keys;
 use std::alloc::Global;
 
 /// The key of the examples: bytes 0 to 31.
@@ -35,17 +35,13 @@ const SEALED: &str = "54530101020000119eb13fe8552f16a6f3064e64f83fadc3\
 544e010100070102000000050000000101\
 84a51795e7afa0e9d2b179d1e1ef4d50";
 
-/// Whether it goes as that datagram.
+/// Whether it goes as that datagram alone.
 fn goes_as_worked(alloc: Global) -> Option<bool> {
     let keys = keys_of(alloc, 7, 3)?;
-    let label = Label::new(&keys.first, Member::new(1)?, Member::new(2)?, &PREPARE)?;
-    if label.count() != 1 {
-        return None;
-    }
-    let mut out = Vec::new(alloc);
-    label.seal(&keys.first, 0, &PREPARE, &mut out).ok()?;
-    let text = hex::encode(alloc, out.as_slice()).ok()?;
-    Some(text.as_str() == SEALED)
+    let is_alone = datagram_of(alloc, &keys.first, &PREPARE, 1).is_none();
+    let bytes = datagram_of(alloc, &keys.first, &PREPARE, 0)?;
+    let text = hex::encode(alloc, bytes.as_slice()).ok()?;
+    Some(is_alone && text.as_str() == SEALED)
 }
 
 #[test]

@@ -1,12 +1,12 @@
 //! What the door of member 2 lets in.
 
+use super::sealed::{datagram_of, keys_of, packet_of, stations};
 use ballots::Member;
 use hmac::Key;
 use sealed_door::SealedDoor;
-use seals::{Keys, Label};
 use std::alloc::Global;
 use std::net::{IpAddr, Ipv4Addr, SocketAddr};
-use wire::{Address, Brought, Door, Reason};
+use wire::{Brought, Door, Reason};
 
 /// The byte of the keys of the circuit, and of another.
 const OURS: u8 = 7;
@@ -77,28 +77,9 @@ const CASES: &[DoorCase] = &[
     },
 ];
 
-fn address_of(member: u8) -> Option<Address> {
-    Some(Address {
-        member: Member::new(member)?,
-        ip: [127, 0, 0, 1],
-        port: 7000 + u16::from(member),
-    })
-}
-
-fn stations(alloc: Global) -> Option<Vec<Address>> {
-    let mut all = Vec::new(alloc);
-    for member in 1..4u8 {
-        all.push(address_of(member)?).ok()?;
-    }
-    Some(all)
-}
-
 fn door(alloc: Global) -> Option<SealedDoor> {
-    let keys = Keys {
-        first: Key::new(&[OURS; 32]),
-        second: None,
-    };
-    SealedDoor::new(alloc, Member::new(2)?, keys, stations(alloc)?).ok()
+    let stations = stations(alloc, 7000)?;
+    SealedDoor::new(alloc, Member::new(2)?, keys_of(OURS, None), stations).ok()
 }
 
 /// What a door tells of bytes from this port.
@@ -114,33 +95,10 @@ fn tell_of(door: &mut SealedDoor, alloc: Global, bytes: &[u8], port: u16) -> Doo
     }
 }
 
-/// A packet of so many bytes that names these two.
-fn packet_of(alloc: Global, len: usize, from: u8, to: u8) -> Option<Vec<u8>> {
-    let mut packet = vec![in alloc; 1u8; len].ok()?;
-    if len < 8 {
-        return None;
-    }
-    packet[6] = from;
-    packet[7] = to;
-    Some(packet)
-}
-
-/// The datagram of this index of a packet of member 1 to member 2, under a key of this byte.
-fn datagram_of(alloc: Global, key: u8, packet: &[u8], index: u8) -> Option<Vec<u8>> {
-    let key = Key::new(&[key; 32]);
-    let label = Label::new(&key, Member::new(1)?, Member::new(2)?, packet)?;
-    if index >= label.count() {
-        return None;
-    }
-    let mut bytes = Vec::new(alloc);
-    label.seal(&key, index, packet, &mut bytes).ok()?;
-    Some(bytes)
-}
-
 /// Whether a new door tells of a case what it should.
 fn is_told(alloc: Global, case: &DoorCase) -> Option<bool> {
     let packet = packet_of(alloc, 30, case.from, case.to)?;
-    let bytes = datagram_of(alloc, case.key, &packet, 0)?;
+    let bytes = datagram_of(alloc, &Key::new(&[case.key; 32]), &packet, 0)?;
     let mut door = door(alloc)?;
     Some(tell_of(&mut door, alloc, &bytes, case.port) == case.told)
 }
@@ -158,11 +116,10 @@ fn told_otherwise(alloc: Global) -> u32 {
 
 /// Whether a packet of two parts is let in with the second that comes.
 fn in_two(alloc: Global, first: u8, second: u8) -> Option<bool> {
+    let key = Key::new(&[OURS; 32]);
     let packet = packet_of(alloc, 1500, 1, 2)?;
-    let (one, other) = (
-        datagram_of(alloc, OURS, &packet, first)?,
-        datagram_of(alloc, OURS, &packet, second)?,
-    );
+    let one = datagram_of(alloc, &key, &packet, first)?;
+    let other = datagram_of(alloc, &key, &packet, second)?;
     let mut door = door(alloc)?;
     let before = tell_of(&mut door, alloc, &one, 7001);
     let after = tell_of(&mut door, alloc, &other, 7001);

@@ -1,8 +1,9 @@
 //! Packets that are sealed, and gathered from their datagrams.
 
+use super::sealed::datagram_of;
 use ballots::Member;
 use hmac::Key;
-use seals::{Gathering, Keys, Label, open};
+use seals::{Gathering, Keys, open};
 use std::alloc::Global;
 
 /// Bytes 1 to 32.
@@ -28,18 +29,6 @@ fn keys() -> Keys {
     }
 }
 
-/// The datagram of this index of a packet of member 1 to member 2.
-fn datagram_of(alloc: Global, packet: &[u8], index: u8) -> Option<Vec<u8>> {
-    let key = Key::new(&KEY);
-    let label = Label::new(&key, Member::new(1)?, Member::new(2)?, packet)?;
-    if index >= label.count() {
-        return None;
-    }
-    let mut out = Vec::new(alloc);
-    label.seal(&key, index, packet, &mut out).ok()?;
-    Some(out)
-}
-
 /// What the gathering of member 2 answers to this datagram of a packet.
 fn taken(
     alloc: Global,
@@ -47,8 +36,8 @@ fn taken(
     packet: &[u8],
     index: u8,
 ) -> Option<Option<Vec<u8>>> {
-    let bytes = datagram_of(alloc, packet, index)?;
     let keys = keys();
+    let bytes = datagram_of(alloc, &keys.first, packet, index)?;
     match open(&keys, Member::new(2)?, &bytes) {
         Ok(piece) => gathering.push(alloc, &keys, &piece).ok(),
         Err(_) => None,
@@ -91,7 +80,7 @@ fn gives_between(alloc: Global, others: u8) -> Option<bool> {
 
 /// Worked out beside the program, with another HMAC: the packet `abc` of member 1 to member 2.
 fn worked(alloc: Global) -> Option<bool> {
-    let bytes = datagram_of(alloc, b"abc", 0)?;
+    let bytes = datagram_of(alloc, &Key::new(&KEY), b"abc", 0)?;
     let text = hex::encode(alloc, bytes.as_slice()).ok()?;
     Some(
         text.as_str()

@@ -1,27 +1,14 @@
 //! What is not opened, and under which key what is.
 
+use super::sealed::{datagram_of, keys_of};
 use ballots::Member;
 use hmac::Key;
-use seals::{KeyPlace, Keys, Label, SealFault, open};
+use seals::{KeyPlace, SealFault, open};
 use std::alloc::Global;
 
-fn keys_of(first: u8, second: Option<u8>) -> Keys {
-    Keys {
-        first: Key::new(&[first; 32]),
-        second: second.map(|byte| Key::new(&[byte; 32])),
-    }
-}
-
 /// A datagram of member 1 to member 2 with the packet `abc`, under a key of this byte.
-fn datagram_of(alloc: Global, byte: u8) -> Option<Vec<u8>> {
-    let key = Key::new(&[byte; 32]);
-    let label = Label::new(&key, Member::new(1)?, Member::new(2)?, b"abc")?;
-    if label.count() == 0 {
-        return None;
-    }
-    let mut out = Vec::new(alloc);
-    label.seal(&key, 0, b"abc", &mut out).ok()?;
-    Some(out)
+fn abc_of(alloc: Global, byte: u8) -> Option<Vec<u8>> {
+    datagram_of(alloc, &Key::new(&[byte; 32]), b"abc", 0)
 }
 
 /// Which fault the bytes have to a member whose keys are of these bytes.
@@ -34,7 +21,7 @@ fn fault_of(keys: (u8, Option<u8>), own: u8, bytes: &[u8]) -> Option<SealFault> 
 
 /// The fault of a datagram to member 2, this bit of which is changed.
 fn fault_at(alloc: Global, bit: usize) -> Option<SealFault> {
-    let mut bytes = datagram_of(alloc, 7)?;
+    let mut bytes = abc_of(alloc, 7)?;
     let at = bit / 8;
     if at < bytes.len() {
         bytes[at] ^= 1u8 << (bit % 8);
@@ -75,7 +62,7 @@ fn each_bit_counts(rt: HostRuntime) {
 
 /// The fault of a datagram under a key of byte 7, to member 2, at a member whose keys are of these bytes.
 fn fault_to(alloc: Global, own: u8, keys: (u8, Option<u8>)) -> Option<SealFault> {
-    let bytes = datagram_of(alloc, 7)?;
+    let bytes = abc_of(alloc, 7)?;
     fault_of(keys, own, &bytes)
 }
 
@@ -99,7 +86,7 @@ fn other_members_keys_and_packets(rt: HostRuntime) {
 
 /// Under which of two keys, of bytes 8 and 7, a datagram under this one is opened.
 fn place_of(alloc: Global, byte: u8) -> Option<KeyPlace> {
-    let bytes = datagram_of(alloc, byte)?;
+    let bytes = abc_of(alloc, byte)?;
     match open(&keys_of(8, Some(7)), Member::new(2)?, &bytes) {
         Ok(piece) => Some(piece.place),
         Err(_) => None,

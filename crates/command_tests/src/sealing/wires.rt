@@ -1,51 +1,20 @@
 //! Wires on this machine: two of stations with a key, and one of a station without.
 
+use super::sealed::{keys_of, packet_of, stations};
 use ballots::Member;
-use hmac::Key;
 use sealed_door::SealedDoor;
-use seals::Keys;
-use std::alloc::Global;
 use std::net::{IpAddr, Ipv4Addr, SocketAddr, UdpSocket};
-use wire::{Address, Arrival, GuardedWire, Reason, UdpWire, Wire};
+use wire::{Arrival, GuardedWire, Reason, UdpWire, Wire};
 
 /// A UDP socket of a station with a key.
 type SealedWire<'a> = GuardedWire<'a, HostRuntime, SealedDoor, UdpSocket>;
 
-/// Where three stations of these tests listen, from the first port on.
-fn stations(alloc: Global, first: u16) -> Option<Vec<Address>> {
-    let mut all = Vec::new(alloc);
-    for member in 1..4u8 {
-        all.push(Address {
-            member: Member::new(member)?,
-            ip: [127, 0, 0, 1],
-            port: first.checked_add(u16::from(member))?,
-        })
-        .ok()?;
-    }
-    Some(all)
-}
-
 /// The wire of a member with a key of this byte.
 fn wire_of<'a>(rt: &'a HostRuntime, member: u8, key: u8, first: u16) -> Option<SealedWire<'a>> {
-    let keys = Keys {
-        first: Key::new(&[key; 32]),
-        second: None,
-    };
     let all = stations(rt.alloc(), first)?;
     let own = all.get(usize::from(member).checked_sub(1)?).copied()?;
-    let door = SealedDoor::new(rt.alloc(), own.member, keys, all).ok()?;
+    let door = SealedDoor::new(rt.alloc(), own.member, keys_of(key, None), all).ok()?;
     GuardedWire::behind(rt, rt, &own, door).ok()
-}
-
-/// A packet of member 1 to member 2.
-fn packet_of(alloc: Global, len: usize) -> Option<Vec<u8>> {
-    let mut packet = vec![in alloc; 3u8; len].ok()?;
-    if len < 8 {
-        return None;
-    }
-    packet[6] = 1;
-    packet[7] = 2;
-    Some(packet)
 }
 
 /// What comes within so many receives.
@@ -62,7 +31,7 @@ fn comes<N: Wire>(wire: &mut N, receives: u8) -> Option<Vec<u8>> {
 fn passes(rt: &HostRuntime, key: u8, first: u16, len: usize) -> Option<bool> {
     let mut sender = wire_of(rt, 1, key, first)?;
     let mut receiver = wire_of(rt, 2, 7, first)?;
-    let packet = packet_of(rt.alloc(), len)?;
+    let packet = packet_of(rt.alloc(), len, 1, 2)?;
     if !sender.send(Member::new(2)?, &packet) {
         return None;
     }
@@ -76,7 +45,7 @@ fn passes(rt: &HostRuntime, key: u8, first: u16, len: usize) -> Option<bool> {
 fn other_keys(rt: &HostRuntime, first: u16) -> Option<u64> {
     let mut sender = wire_of(rt, 1, 8, first)?;
     let mut receiver = wire_of(rt, 2, 7, first)?;
-    let packet = packet_of(rt.alloc(), 3000)?;
+    let packet = packet_of(rt.alloc(), 3000, 1, 2)?;
     let _ = sender.send(Member::new(2)?, &packet);
     let _ = comes(&mut receiver, 2);
     match receiver.strangers(0) {

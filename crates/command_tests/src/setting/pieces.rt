@@ -242,7 +242,15 @@ fn fault_of(
     widths: &Widths,
 ) -> Option<First> {
     match reader.push(piece) {
-        Ok(lines) => lines.iter().find_map(|line| misfit_of(alloc, line, widths)),
+        Ok(lines) => {
+            for line in &lines {
+                let misfit = misfit_of(alloc, line, widths);
+                if misfit.is_some() {
+                    return misfit;
+                }
+            }
+            None
+        }
         Err(fault) => told_by(fault),
     }
 }
@@ -258,7 +266,10 @@ fn fault_in_two(alloc: Global, job: &Job, front: &[u8], back: &[u8]) -> Option<F
     if second.is_some() {
         return second;
     }
-    reader.finish().err().and_then(|fault| told_by(fault))
+    match reader.finish() {
+        Ok(_) => None,
+        Err(fault) => told_by(fault),
+    }
 }
 
 /// Whether this is the fault of these frames, wherever they are cut in two.

@@ -1,60 +1,23 @@
 //! What a writer has that takes few bytes a call, or not all.
 
 use super::jobs::Job;
+use crate::failing::SlowWriter;
 use fixtures::HARVEST;
 use line_check::{Slug, galley, set};
 use std::alloc::Global;
-use std::io;
-use std::io::Write;
 use streams::put_all;
 
-/// A writer that takes so many bytes a call, and so many in all; then it takes none.
-#[derive(Drop)]
-struct Narrow {
-    taken: Vec<u8>,
-    stride: usize,
-    room: usize,
-}
-
-impl Narrow {
-    fn new(alloc: Global, stride: usize, room: usize) -> Narrow {
-        Narrow {
-            taken: Vec::new(alloc),
-            stride,
-            room,
-        }
-    }
-
-    /// How many bytes it has taken, where these are the first of the text.
-    fn front_of(&self, text: &[u8]) -> Option<usize> {
-        if text.starts_with(&self.taken) {
-            Some(self.taken.len())
-        } else {
-            None
-        }
-    }
-}
-
-impl Write for Narrow {
-    fn write(&mut self, buf: &[u8]) -> io::Result<usize> {
-        let some = buf.len().min(self.stride).min(self.room);
-        let (front, _) = buf.split_at(some);
-        self.taken.extend_from_slice(front)?;
-        self.room -= some;
-        Ok(some)
-    }
-
-    fn flush(&mut self) -> io::Result<()> {
-        Ok(())
-    }
+/// Whether a writer that had this room has taken as much of a text.
+fn has_front(out: &SlowWriter, text: &[u8], room: usize) -> bool {
+    out.taken.len() == room.min(text.len()) && text.starts_with(&out.taken)
 }
 
 /// Whether a writer of one byte a call with this room gets that front of a text, and the end is good only where it
 /// has all of it.
 fn puts_front(alloc: Global, text: &[u8], room: usize) -> bool {
-    let mut out = Narrow::new(alloc, 1, room);
+    let mut out = SlowWriter::new(alloc, room);
     let whole = put_all(&mut out, text).is_ok();
-    whole == (room >= text.len()) && out.front_of(text) == Some(room.min(text.len()))
+    whole == (room >= text.len()) && has_front(&out, text, room)
 }
 
 #[test]
@@ -79,9 +42,10 @@ fn prints_front(alloc: Global, stride: usize, room: usize) -> bool {
     let Some(slugs) = slugs(alloc) else {
         return false;
     };
-    let mut out = Narrow::new(alloc, stride, room);
+    let mut out = SlowWriter::new(alloc, room);
+    out.stride = stride;
     let whole = galley(&slugs, &mut out).is_ok();
-    whole == (room >= TWO.len()) && out.front_of(TWO) == Some(room.min(TWO.len()))
+    whole == (room >= TWO.len()) && has_front(&out, TWO, room)
 }
 
 #[test]

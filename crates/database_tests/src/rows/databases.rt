@@ -2,7 +2,7 @@
 
 use crate::rows::deeds::RowsDeed;
 use crate::rows::identities::OTHER;
-use crate::rows::samples::{PROMISED, VOTED};
+use crate::rows::samples::{LONG_ONE, PROMISED, VOTED};
 use crate::rows::sessions::{MADE, OPENED, OpenManner, Session, SessionListing, first_amiss};
 use rows_saved::RowsFault;
 
@@ -91,22 +91,25 @@ const STOPPED: &[Session] = &[
 /// The longest tape of layout 1 is saved, and is there again.
 const LONGEST: &[Session] = &[
     Session {
-        deeds: &[RowsDeed::PutLong(12, 4096), RowsDeed::GetLong(12, 4096)],
-        listing: SessionListing::Count(1),
+        deeds: &[
+            RowsDeed::Put(12, LONG_ONE, None),
+            RowsDeed::Copy(12, LONG_ONE),
+        ],
+        listing: SessionListing::Rows(&[(12, LONG_ONE)]),
         ..MADE
     },
     Session {
-        deeds: &[RowsDeed::GetLong(12, 4096)],
-        listing: SessionListing::Count(1),
+        deeds: &[RowsDeed::Copy(12, LONG_ONE)],
+        listing: SessionListing::Rows(&[(12, LONG_ONE)]),
         ..OPENED
     },
 ];
 
-/// With one frame more, which a statement saved, it is none of layout 1.
+/// With one frame more it is none of layout 1.
 const TOO_LONG: &[Session] = &[
     MADE,
     Session {
-        frames: 4097,
+        saved: Some(("INSERT INTO acceptor_row VALUES (12, 1, 1, 1, 1, ?1)", 4097)),
         refusal: Some(RowsFault::Damaged { number: 12 }),
         ..OPENED
     },

@@ -1,8 +1,6 @@
 //! What is done to saved rows of any kind, and what has to come of it.
 
-use crate::rows::samples::{
-    RowSample, is_copied, is_long_copied, is_long_row, is_row, long_row, row_of,
-};
+use crate::rows::samples::{RowSample, is_copied, is_row, row_of};
 use ballots::{Number, Row};
 use rows_saved::{Rows, RowsFault};
 use std::alloc::Global;
@@ -19,10 +17,6 @@ pub enum RowsDeed {
     Copy(u32, RowSample),
     /// The reading of this number is refused so.
     Refused(u32, RowsFault),
-    /// A row with a tape of this many frames is saved under this number.
-    PutLong(u32, usize),
-    /// The row under this number has that tape, and so has a copy of it.
-    GetLong(u32, usize),
     /// The rows are upgraded to version 2, or that is refused so; they are at this version then.
     Upgrade(Option<RowsFault>, Version),
 }
@@ -42,23 +36,11 @@ fn refusal_of<R: Rows>(
     Some(rows.put(number, &row).err())
 }
 
-/// Whether a row with a long tape is saved; nothing where it does not fit the version of the rows.
-fn puts_long<R: Rows>(alloc: Global, rows: &mut R, number: u32, frames: usize) -> Option<bool> {
-    let number = Number::new(number)?;
-    let row = long_row(alloc, frames)?;
-    if !row.fits(rows.version()) {
-        return None;
-    }
-    Some(rows.put(number, &row).is_ok())
-}
-
 /// Whether the row that was read is the one of this deed.
 fn is_read(alloc: Global, row: &Row, deed: &RowsDeed) -> bool {
     match deed {
         RowsDeed::Get(_, sample) => is_row(row, sample.as_ref()),
         RowsDeed::Copy(_, sample) => is_row(row, Some(sample)) && is_copied(alloc, row, sample),
-        RowsDeed::GetLong(_, frames) => is_long_row(row, *frames)
-            && is_long_copied(alloc, row, *frames),
         _ => false,
     }
 }
@@ -80,14 +62,12 @@ fn is_done<R: Rows>(alloc: Global, rows: &mut R, deed: &RowsDeed) -> bool {
         RowsDeed::Put(number, sample, refusal) => {
             refusal_of(alloc, rows, *number, sample) == Some(*refusal)
         }
-        RowsDeed::PutLong(number, frames) => puts_long(alloc, rows, *number, *frames) == Some(true),
         RowsDeed::Upgrade(refusal, version) => {
             rows.upgrade().err() == *refusal && rows.version() == *version
         }
-        RowsDeed::Get(number, _)
-        | RowsDeed::Copy(number, _)
-        | RowsDeed::Refused(number, _)
-        | RowsDeed::GetLong(number, _) => reads(alloc, rows, *number, deed),
+        RowsDeed::Get(number, _) | RowsDeed::Copy(number, _) | RowsDeed::Refused(number, _) => {
+            reads(alloc, rows, *number, deed)
+        }
     }
 }
 

@@ -3,7 +3,7 @@
 use crate::rows::databases::{BOTH, READ, TWO};
 use crate::rows::deeds::RowsDeed;
 use crate::rows::identities::OTHER;
-use crate::rows::samples::{PROMISED, VOTED, WITHDRAWN};
+use crate::rows::samples::{LONG, PROMISED, VOTED, WITHDRAWN};
 use crate::rows::sessions::{
     MADE_TWO, OPENED_TWO, OpenManner, Session, SessionListing, first_amiss,
 };
@@ -77,22 +77,25 @@ const WITHDRAWAL: &[Session] = &[
 /// The longest tape of all is saved, and is there again.
 const LONGEST: &[Session] = &[
     Session {
-        deeds: &[RowsDeed::PutLong(12, 16_384), RowsDeed::GetLong(12, 16_384)],
-        listing: SessionListing::Count(1),
+        deeds: &[RowsDeed::Put(12, LONG, None), RowsDeed::Copy(12, LONG)],
+        listing: SessionListing::Rows(&[(12, LONG)]),
         ..MADE_TWO
     },
     Session {
-        deeds: &[RowsDeed::GetLong(12, 16_384)],
-        listing: SessionListing::Count(1),
+        deeds: &[RowsDeed::Copy(12, LONG)],
+        listing: SessionListing::Rows(&[(12, LONG)]),
         ..OPENED_TWO
     },
 ];
 
-/// With one frame more, which a statement saved, it is none.
+/// With one frame more, of which four take three bytes, it is none.
 const TOO_LONG: &[Session] = &[
     MADE_TWO,
     Session {
-        frames: 16_385,
+        saved: Some((
+            "INSERT INTO acceptor_entry VALUES (12, 1, 1, 1, 1, 16385, ?1)",
+            12_289,
+        )),
         refusal: Some(RowsFault::Damaged { number: 12 }),
         ..OPENED_TWO
     },

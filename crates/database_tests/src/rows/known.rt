@@ -46,7 +46,6 @@ pub fn is_known<S: Alter + Drop>(
 ) -> bool {
     match (known_rows(alloc, rows), listing) {
         (Ok(known), SessionListing::Rows(wanted)) => are_those(&known, wanted),
-        (Ok(known), SessionListing::Count(count)) => known.rows.len() as usize == *count,
         (Err(fault), SessionListing::Refused(wanted)) => fault == *wanted,
         _ => false,
     }

@@ -124,7 +124,7 @@ const AS_BEFORE: &[Session] = &[
     },
     Session {
         deeds: &[RowsDeed::Put(13, WITHDRAWN, None)],
-        listing: SessionListing::Count(3),
+        listing: SessionListing::Rows(&[(3, PROMISED), (12, VOTED), (13, WITHDRAWN)]),
         prints: &[THREE_ROWS, UPGRADED, THREE_ROWS],
         ..OPENED_TWO
     },

@@ -4,7 +4,7 @@ ghost use Rattle.std.specs.Prelude.{IfSome};
 ghost use Rattle.rows_saved.specs.Saved.{HasPromise};
 
 use ballots::{Ballot, Member, Row, Vote};
-use fixtures::FLOOD;
+use fixtures::{FLOOD, LONGEST, LONGEST_ONE};
 use std::alloc::Global;
 use tape_frames::{Entry, EntryRef, Tape};
 
@@ -19,6 +19,9 @@ pub enum VoteChoice {
     Last,
     /// The flood story.
     Flood,
+    /// The longest tape of version 1, and the longest of all: each frame is 63.
+    LongestOne,
+    Longest,
 }
 
 impl VoteChoice {
@@ -29,6 +32,8 @@ impl VoteChoice {
             VoteChoice::Short => &[1, 2, 4],
             VoteChoice::Last => &[63],
             VoteChoice::Flood => FLOOD,
+            VoteChoice::LongestOne => LONGEST_ONE,
+            VoteChoice::Longest => LONGEST,
         }
     }
 }
@@ -61,6 +66,17 @@ pub const VOTED: RowSample = RowSample {
 /// A promise of 1.1 beside a vote at it for a withdrawal.
 pub const WITHDRAWN: RowSample = RowSample {
     vote: Some(((1, 1), VoteChoice::Withdrawal)),
+    ..PROMISED
+};
+
+/// A promise of 1.1 beside a vote at it for the longest tape of version 1, or for the longest of all.
+pub const LONG_ONE: RowSample = RowSample {
+    vote: Some(((1, 1), VoteChoice::LongestOne)),
+    ..PROMISED
+};
+
+pub const LONG: RowSample = RowSample {
+    vote: Some(((1, 1), VoteChoice::Longest)),
     ..PROMISED
 };
 
@@ -137,53 +153,4 @@ pub fn is_copied(alloc: Global, row: &Row, sample: &RowSample) -> bool {
         Ok(copy) => voted && is_row(&copy, Some(sample)),
         Err(_) => false,
     }
-}
-
-/// Whether these are so many frames 63.
-fn are_long(frames: &[u8], count: usize) -> bool {
-    for frame in frames {
-        if *frame != 63 {
-            return false;
-        }
-    }
-    frames.len() == count
-}
-
-/// Whether an entry is the tape of so many frames 63.
-fn is_long(entry: &EntryRef<'_>, count: usize) -> bool {
-    match entry {
-        EntryRef::Plain(tape) => are_long(tape.frames(), count),
-        _ => false,
-    }
-}
-
-/// Whether a row is that of [`long_row`].
-pub fn is_long_row(row: &Row, count: usize) -> bool {
-    let votes = match row.vote() {
-        None => false,
-        Some(vote) => ballot_of((1, 1)) == Some(vote.ballot()) && is_long(&vote.entry(), count),
-    };
-    votes && row.promised().is_some() && row.promised() == ballot_of((1, 1))
-}
-
-/// Whether a copy of it is, and one of its vote.
-pub fn is_long_copied(alloc: Global, row: &Row, count: usize) -> bool {
-    let voted = match row.vote() {
-        None => false,
-        Some(vote) => is_vote_copied(alloc, vote),
-    };
-    match row.copy(alloc) {
-        Ok(copy) => voted && is_long_row(&copy, count),
-        Err(_) => false,
-    }
-}
-
-/// The row of a promise of 1.1 and a vote at it for this many frames 63.
-pub fn long_row(alloc: Global, frames: usize) -> Option<Row>
-    ensures { IfSome result HasPromise }
-{
-    let frames = vec![in alloc; 63u8; frames].ok()?;
-    let tape = Tape::from_bytes(alloc, &frames).ok()?;
-    let ballot = ballot_of((1, 1))?;
-    Row::new(Some(ballot), Some(Vote::new(ballot, Entry::Tape(tape))))
 }

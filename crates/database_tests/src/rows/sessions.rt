@@ -4,7 +4,7 @@ use crate::rows::deeds::{RowsDeed, are_done};
 use crate::rows::identities::STATION;
 use crate::rows::known::is_known;
 use crate::rows::samples::{RowSample, is_row};
-use crate::rows::statements::{FindsRows, finds, save_long};
+use crate::rows::statements::{FindsRows, SavesZeros, finds, saves};
 use acceptor_store::SqliteRows;
 use ballots::{Number, Row};
 use command_ends::End;
@@ -30,8 +30,6 @@ pub enum OpenManner {
 pub enum SessionListing {
     /// These numbers and rows.
     Rows(&'static [(u32, RowSample)]),
-    /// So many rows.
-    Count(usize),
     /// Nothing: it is refused so.
     Refused(RowsFault),
 }
@@ -53,13 +51,13 @@ pub struct Print {
     pub fault: &'static str,
 }
 
-/// What is done to a database: statements, one that saves a tape of so many frames 63 under 12, if of any, and some that
-/// find so many rows each; then the rows made or taken up, at this version, which may be refused; and, where they are not,
-/// deeds, a listing, which numbers are known of it, and what commands print, each time.
+/// What is done to a database: statements, one that saves zeros, if any, and some that find so many rows each; then the rows
+/// made or taken up, at this version, which may be refused; and, where they are not, deeds, a listing, which numbers are known
+/// of it, and what commands print, each time.
 #[derive(Clone, Copy)]
 pub struct Session {
     pub statements: &'static str,
-    pub frames: usize,
+    pub saved: Option<SavesZeros>,
     pub found: &'static [FindsRows],
     pub manner: OpenManner,
     pub version: Version,
@@ -72,7 +70,7 @@ pub struct Session {
 /// The rows are made at version 1, and none is saved.
 pub const MADE: Session = Session {
     statements: "",
-    frames: 0,
+    saved: None,
     found: &[],
     manner: OpenManner::Create,
     version: Version::One,
@@ -113,7 +111,6 @@ fn are_rows(rows: &[(Number, Row)], wanted: &[(u32, RowSample)]) -> bool {
 fn is_listed(listed: Result<Vec<(Number, Row)>, RowsFault>, wanted: &SessionListing) -> bool {
     match (listed, wanted) {
         (Ok(rows), SessionListing::Rows(wanted)) => are_rows(rows.as_slice(), wanted),
-        (Ok(rows), SessionListing::Count(count)) => rows.len() == *count,
         (Err(fault), SessionListing::Refused(wanted)) => fault == *wanted,
         _ => false,
     }
@@ -188,13 +185,11 @@ fn serves<S: Alter + Drop>(alloc: Global, rows: &mut SqliteRows<S>, session: &Se
         && are_printed(alloc, rows, session.prints)
 }
 
-/// Runs the statements of a session, which have to find what they find.
-fn prepare<S: Alter>(alloc: Global, conn: &mut Connection<S>, session: &Session) -> Option<()> {
-    conn.execute_batch(session.statements).ok()?;
-    if session.frames > 0 {
-        save_long(alloc, conn, session.version, session.frames)?;
-    }
-    finds(conn, session.found).then_some(())
+/// Runs the statements of a session. Returns whether they find what they have to.
+fn prepare<S: Alter>(alloc: Global, conn: &mut Connection<S>, session: &Session) -> bool {
+    conn.execute_batch(session.statements).is_ok()
+        && saves(alloc, conn, session.saved)
+        && finds(conn, session.found)
 }
 
 /// The connection after a session that went as it has to: here alone rows in memory have their whole type.
@@ -203,7 +198,9 @@ fn after(
     mut conn: Connection<MemStore>,
     session: &Session,
 ) -> Option<Connection<MemStore>> {
-    prepare(alloc, &mut conn, session)?;
+    if !prepare(alloc, &mut conn, session) {
+        return None;
+    }
     let taken = match session.manner {
         OpenManner::Create => SqliteRows::create(alloc, conn, STATION, session.version),
         OpenManner::Open(given) => SqliteRows::open(alloc, conn, given),

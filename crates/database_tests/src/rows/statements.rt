@@ -2,7 +2,6 @@
 
 use sqlite::{Alter, Connection, params};
 use std::alloc::Global;
-use tape_frames::Version;
 
 /// A statement that finds so many rows.
 pub type FindsRows = (&'static str, usize);
@@ -30,47 +29,23 @@ pub fn finds<S: Alter>(conn: &mut Connection<S>, statements: &[FindsRows]) -> bo
     true
 }
 
-/// So many frames 63, packed: each bit is set, except those behind the last frame.
-fn packed(alloc: Global, frames: usize) -> Option<Vec<u8>> {
-    let mut bytes = Vec::new(alloc);
-    for _ in 0..frames / 4 {
-        for byte in &[0xff, 0xff, 0xff] {
-            bytes.push(*byte).ok()?;
-        }
-    }
-    let rest: &[u8] = match frames % 4 {
-        0 => &[],
-        1 => &[0xfc],
-        2 => &[0xff, 0xf0],
-        _ => &[0xff, 0xff, 0xc0],
-    };
-    for byte in rest {
-        bytes.push(*byte).ok()?;
-    }
-    Some(bytes)
-}
+/// A statement whose one value is so many bytes 0.
+pub type SavesZeros = (&'static str, usize);
 
-/// Saves a vote for a tape of so many frames 63 under 12, in the table of this version.
-pub fn save_long<S: Alter>(
+/// Whether such a statement, if any, is run.
+pub fn saves<S: Alter>(
     alloc: Global,
     conn: &mut Connection<S>,
-    version: Version,
-    frames: usize,
-) -> Option<()> {
-    match version {
-        Version::One => {
-            let tape = vec![in alloc; 63u8; frames].ok()?;
-            let tape = tape.as_slice();
-            let saved = "INSERT INTO acceptor_row VALUES (12, 1, 1, 1, 1, ?1)";
-            conn.execute(saved, params![tape]).ok()?;
+    statement: Option<SavesZeros>,
+) -> bool {
+    let Some((statement, count)) = statement else {
+        return true;
+    };
+    match vec![in alloc; 0u8; count] {
+        Ok(zeros) => {
+            let zeros = zeros.as_slice();
+            conn.execute(statement, params![zeros]).is_ok()
         }
-        Version::Two => {
-            let length = u32::try_from(frames).ok()?;
-            let tape = packed(alloc, frames)?;
-            let tape = tape.as_slice();
-            let saved = "INSERT INTO acceptor_entry VALUES (12, 1, 1, 1, 1, ?1, ?2)";
-            conn.execute(saved, params![length, tape]).ok()?;
-        }
+        Err(_) => false,
     }
-    Some(())
 }

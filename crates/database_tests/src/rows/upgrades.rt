@@ -3,7 +3,7 @@
 use crate::rows::databases::{BOTH, READ, SAVED};
 use crate::rows::deeds::RowsDeed;
 use crate::rows::identities::OTHER;
-use crate::rows::samples::{PROMISED, VOTED, WITHDRAWN};
+use crate::rows::samples::{LONG, LONG_ONE, PROMISED, VOTED, WITHDRAWN};
 use crate::rows::sessions::{
     MADE, OPENED, OPENED_TWO, OpenManner, Session, SessionListing, first_amiss,
 };
@@ -75,7 +75,7 @@ const UPGRADED: &[Session] = &[
     Session {
         statements: "DELETE FROM acceptor_row WHERE number = 13",
         found: AS_THEY_WERE,
-        listing: SessionListing::Count(3),
+        listing: SessionListing::Rows(&[(3, VOTED), (4, WITHDRAWN), (12, VOTED)]),
         ..OPENED_TWO
     },
 ];
@@ -84,20 +84,20 @@ const UPGRADED: &[Session] = &[
 const LONGEST: &[Session] = &[
     Session {
         deeds: &[
-            RowsDeed::PutLong(12, 4096),
+            RowsDeed::Put(12, LONG_ONE, None),
             RowsDeed::Upgrade(None, Version::Two),
-            RowsDeed::GetLong(12, 4096),
+            RowsDeed::Copy(12, LONG_ONE),
         ],
-        listing: SessionListing::Count(1),
+        listing: SessionListing::Rows(&[(12, LONG_ONE)]),
         ..MADE
     },
     Session {
         deeds: &[
-            RowsDeed::GetLong(12, 4096),
-            RowsDeed::PutLong(13, 16_384),
-            RowsDeed::GetLong(13, 16_384),
+            RowsDeed::Copy(12, LONG_ONE),
+            RowsDeed::Put(13, LONG, None),
+            RowsDeed::Copy(13, LONG),
         ],
-        listing: SessionListing::Count(2),
+        listing: SessionListing::Rows(&[(12, LONG_ONE), (13, LONG)]),
         ..OPENED_TWO
     },
 ];

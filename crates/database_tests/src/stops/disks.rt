@@ -12,7 +12,7 @@ use std::alloc::Global;
 pub type Disks = Files<Fuse<Memory>>;
 
 /// Which of the two disks stops.
-#[derive(Clone, Copy, PartialEq, Eq)]
+#[derive(Clone, Copy)]
 pub enum Side {
     Log,
     Database,

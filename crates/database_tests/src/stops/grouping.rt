@@ -7,8 +7,8 @@ use tape_frames::Version;
 
 #[test]
 fn a_group_is_all_or_none(rt: HostRuntime) {
-    for version in [Version::One, Version::Two] {
-        assert!(rt; stops_throughout(rt.alloc(), RowsWork::Group(version), Side::Log));
-        assert!(rt; stops_around(rt.alloc(), RowsWork::Group(version), Side::Database));
+    for version in &[Version::One, Version::Two] {
+        assert!(rt; stops_throughout(rt.alloc(), RowsWork::Group(*version), Side::Log));
+        assert!(rt; stops_around(rt.alloc(), RowsWork::Group(*version), Side::Database));
     }
 }

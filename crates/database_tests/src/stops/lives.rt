@@ -22,7 +22,7 @@ const OLD: [u8; PAGE] = [1; PAGE];
 const NEW: [u8; PAGE] = [2; PAGE];
 
 /// What is cut off.
-#[derive(Clone, Copy, PartialEq, Eq)]
+#[derive(Clone, Copy)]
 enum CutOff {
     /// A start after a good end.
     Start,
@@ -57,10 +57,11 @@ fn at_rest(alloc: Global) -> io::Result<Files<Memory>> {
 
 /// Bytes as a number, the highest first.
 fn number_of(bytes: &[u8]) -> u32 {
-    bytes.iter().fold(
-        0u32,
-        |sum, byte| sum.wrapping_mul(256).wrapping_add(*byte as u32),
-    )
+    let mut number: u32 = 0;
+    for byte in bytes {
+        number = number.wrapping_mul(256).wrapping_add(*byte as u32);
+    }
+    number
 }
 
 /// Writes a number into the head of a frame, the highest byte first.
@@ -98,7 +99,7 @@ fn put_frame<D: Disk>(log: &mut D) -> io::Result<()>
 /// The files before a change.
 fn before(alloc: Global, change: CutOff) -> Option<Files<Memory>> {
     let files = at_rest(alloc).ok()?;
-    if change == CutOff::Start {
+    if matches!(change, CutOff::Start) {
         return Some(files);
     }
     if !files.may_be_used() {
@@ -108,7 +109,7 @@ fn before(alloc: Global, change: CutOff) -> Option<Files<Memory>> {
     if begun.is_err() || !files.may_be_used() {
         return None;
     }
-    if change == CutOff::StartAfterKill {
+    if matches!(change, CutOff::StartAfterKill) {
         put_frame(&mut files.log).ok()?;
     }
     Some(files)
@@ -135,7 +136,7 @@ fn changed(
     if !files.may_be_used() {
         return (files, false);
     }
-    let (mut files, done) = if change == CutOff::End {
+    let (mut files, done) = if matches!(change, CutOff::End) {
         let mut files = files;
         let ended = end_life(&mut files);
         (files, ended)
@@ -174,7 +175,7 @@ fn goes_on(alloc: Global, files: Files<Fuse<Memory>>, change: CutOff) -> bool {
         return false;
     }
     let (mut files, begun) = begin_life(alloc, files, 7);
-    let page = if change == CutOff::StartAfterKill {
+    let page = if matches!(change, CutOff::StartAfterKill) {
         &NEW
     } else {
         &OLD
@@ -223,7 +224,7 @@ const CUTS: &[(CutOff, Side)] = &[
 fn a_life_is_cut_off(rt: HostRuntime) {
     for (place, (change, side)) in CUTS.iter().enumerate() {
         let cut = stops(rt.alloc(), *change, *side);
-        assert!(rt; cut.is_some_and(|cut| cut > 1), "{place}");
+        assert!(rt; matches!(cut, Some(cut) if cut > 1), "{place}");
     }
 }
 

@@ -15,7 +15,7 @@ use std::alloc::Global;
 use tape_frames::Version;
 
 /// What is done to saved rows once they are made, at this version, or at version 1 where none is named.
-#[derive(Clone, Copy, PartialEq, Eq)]
+#[derive(Clone, Copy)]
 pub enum RowsWork {
     /// Nothing.
     Create(Version),
@@ -47,7 +47,11 @@ const LIVED: &[NumberedSample] = &[(12, VOTED), (3, PROMISED), (14, VOTED), (15,
 
 /// The rows that a work saves one after the other.
 fn saves_of(work: RowsWork) -> &'static [NumberedSample] {
-    if work == RowsWork::Live { MORE } else { SAVES }
+    if matches!(work, RowsWork::Live) {
+        MORE
+    } else {
+        SAVES
+    }
 }
 
 /// The version at which the rows are made for a work.
@@ -82,16 +86,9 @@ const NOTHING: WorkTold = WorkTold {
 
 /// What was told, where the one save was acknowledged or refused.
 fn one(is_saved: bool) -> WorkTold {
-    if is_saved {
-        WorkTold {
-            saved: 1,
-            refused: false,
-        }
-    } else {
-        WorkTold {
-            saved: 0,
-            refused: true,
-        }
+    WorkTold {
+        saved: if is_saved { 1 } else { 0 },
+        refused: !is_saved,
     }
 }
 
@@ -114,7 +111,7 @@ fn put_all<R: Rows>(alloc: Global, rows: &mut R, samples: &[NumberedSample]) -> 
 /// Saves the rows, and takes them over where the work wants that and none was refused.
 fn put_over<R: Rows>(alloc: Global, rows: &mut R, work: RowsWork) -> Option<WorkTold> {
     let told = put_all(alloc, rows, saves_of(work))?;
-    if told.refused || work != RowsWork::Upgrade {
+    if told.refused || !matches!(work, RowsWork::Upgrade) {
         return Some(told);
     }
     let refused = !upgrades(rows)?;
@@ -130,12 +127,9 @@ fn put<R: Rows>(alloc: Global, mut rows: R, work: RowsWork) -> Option<(R, WorkTo
 /// The rows after a group was saved: they are told as saved together.
 fn group<R: SavesAll>(alloc: Global, rows: R) -> Option<(R, WorkTold)> {
     let (rows, is_saved) = settled(alloc, rows, GROUP, SAVES)?;
-    if !is_saved {
-        return Some((rows, one(false)));
-    }
     let told = WorkTold {
-        saved: SAVES.len(),
-        refused: false,
+        saved: if is_saved { SAVES.len() } else { 0 },
+        refused: !is_saved,
     };
     Some((rows, told))
 }
@@ -173,7 +167,7 @@ fn is_all_or_none<R: Stored>(rows: &mut R, samples: &[NumberedSample], told: Wor
 /// Whether rows that are found after a work are at a version that it may have left: at version 2 where it was upgraded, else at
 /// that they were made at, or at either where the upgrade of all of them was refused.
 fn is_at(found: Version, work: RowsWork, told: WorkTold) -> bool {
-    if work != RowsWork::Upgrade {
+    if !matches!(work, RowsWork::Upgrade) {
         return found == version_for(work);
     }
     if told.saved < SAVES.len() {
@@ -230,14 +224,6 @@ fn holds<R: Stored>(alloc: Global, mut rows: R, expected: Expected) -> bool {
     }
 }
 
-/// Whether rows may be refused for this reason.
-fn may_be_refused(fault: RowsFault, expected: Expected) -> bool {
-    match expected {
-        Expected::Unmade(_) => fault == RowsFault::Store,
-        Expected::Left(..) => false,
-    }
-}
-
 /// What is to be done with the rows of a database.
 #[derive(Clone, Copy)]
 enum StopTask {
@@ -271,11 +257,13 @@ fn over<S: Alter + Drop>(alloc: Global, rows: SqliteRows<S>, task: StopTask) -> 
     }
 }
 
-/// What comes of it where the rows of this database are refused.
+/// What comes of it where the rows of this database are refused. They may be where they were not made.
 fn refused<S: Alter + Drop>(fault: RowsFault, conn: Connection<S>, task: StopTask) -> RowsTaken<S> {
     match task {
         StopTask::Do(_) => RowsTaken::Unmade(conn),
-        StopTask::Find(expected) => RowsTaken::Found(may_be_refused(fault, expected)),
+        StopTask::Find(expected) => RowsTaken::Found(
+            matches!(expected, Expected::Unmade(_)) && fault == RowsFault::Store,
+        ),
     }
 }
 
@@ -308,11 +296,6 @@ enum DisksCame {
     Strange,
 }
 
-/// What is left of a database that was closed whole, or not.
-fn left(disks: Disks, closed: bool) -> LeftDisks {
-    LeftDisks { disks, closed }
-}
-
 /// What comes of a task with the database on these disks, which is opened and, after a work, closed: here alone it has its whole type.
 fn over_disks(alloc: Global, disks: Disks, task: StopTask) -> DisksCame {
     if !disks.may_be_used() {
@@ -324,8 +307,14 @@ fn over_disks(alloc: Global, disks: Disks, task: StopTask) -> DisksCame {
     };
     match in_database(alloc, conn, task) {
         RowsTaken::Ended(conn, told) => match conn.close_files() {
-            Ok(disks) => DisksCame::Ended(left(disks, true), told),
-            Err((_, store)) => DisksCame::Ended(left(store.close(), false), told),
+            Ok(disks) => {
+                let closed = true;
+                DisksCame::Ended(LeftDisks { disks, closed }, told)
+            }
+            Err((_, store)) => {
+                let (disks, closed) = (store.close(), false);
+                DisksCame::Ended(LeftDisks { disks, closed }, told)
+            }
         },
         RowsTaken::Unmade(conn) => DisksCame::Unmade(into_files(conn)),
         RowsTaken::Found(is_right) => DisksCame::Found(is_right),
@@ -386,11 +375,6 @@ fn life_stop_at(alloc: Global, side: Side, calls: u64) -> Option<StopPlace> {
     }
 }
 
-/// Whether what is found on the disks after a crash is as it may be.
-fn is_found(alloc: Global, disks: Disks, expected: Expected) -> bool {
-    finds(alloc, crashed(disks), expected)
-}
-
 /// Where a run stopped.
 #[derive(Clone, Copy)]
 pub enum StopPlace {
@@ -415,24 +399,21 @@ fn stop_in(told: WorkTold, closed: bool) -> StopPlace {
     }
 }
 
-/// Where a run stopped that made its rows, if what it left is found after a crash.
-fn stop_of(alloc: Global, left: LeftDisks, work: RowsWork, told: WorkTold) -> Option<StopPlace> {
-    let LeftDisks { disks, closed } = left;
-    let stop = stop_in(told, closed);
-    is_found(alloc, disks, Expected::Left(work, told)).then_some(stop)
-}
-
-/// Where a run stopped in which this disk stops after so many calls; nothing where something else is found after it than
-/// may be.
+/// Where a run stopped in which this disk stops after so many calls; nothing where something else is found after it, and after a
+/// crash, than may be.
 pub fn stop_at(alloc: Global, side: Side, calls: u64, work: RowsWork) -> Option<StopPlace> {
-    if work == RowsWork::Live {
+    if matches!(work, RowsWork::Live) {
         return life_stop_at(alloc, side, calls);
     }
     match worked(alloc, side, calls, work) {
-        DisksCame::Ended(left, told) => stop_of(alloc, left, work, told),
+        DisksCame::Ended(left, told) => {
+            let LeftDisks { disks, closed } = left;
+            let expected = Expected::Left(work, told);
+            finds(alloc, crashed(disks), expected).then_some(stop_in(told, closed))
+        }
         DisksCame::Unmade(disks) => {
             let expected = Expected::Unmade(version_for(work));
-            is_found(alloc, disks, expected).then_some(StopPlace::Making)
+            finds(alloc, crashed(disks), expected).then_some(StopPlace::Making)
         }
         DisksCame::Found(_) | DisksCame::Strange => None,
     }
