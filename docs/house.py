@@ -252,7 +252,7 @@ class Source:
     """A file of a crate: what it declares, and what it uses of other files."""
 
     def __init__(self, path):
-        self.path, self.crate = path, path.split("/")[1]
+        self.path, self.crate = path, re.search(r"crates/(\w+)/", path).group(1)
         with open(os.path.join(TOP, path), encoding="utf-8") as file:
             written = file.read()
         self.text = UNREAD.sub(lambda match: blank(match.group(0)), written)
@@ -303,7 +303,9 @@ def is_of_tests(crate):
 
 
 def read_sources():
-    return [Source(path) for path in sorted(glob.glob("crates/*/src/**/*.rt", root_dir=TOP, recursive=True))]
+    """Those that are proved, and those of the tests, which are not."""
+    paths = [path for pattern in ("crates/*/src/**/*.rt", "tests/crates/*/src/**/*.rt.txt") for path in glob.glob(pattern, root_dir=TOP, recursive=True)]
+    return [Source(path) for path in sorted(paths)]
 
 
 # Who calls whom

@@ -86,9 +86,9 @@ def with_lines(page):
 
 
 def read_crates():
-    """Each crate, and those of the repository that it stands on."""
+    """Each crate, those of tests, too, and those of the repository that it stands on."""
     named = {}
-    for line in read("crates.txt").splitlines():
+    for line in (read("crates.txt") + read("tests/crates/libraries.txt")).splitlines():
         if not line.startswith("#") and ":" in line:
             name, names = line.split(":")
             named[name] = names.split()
@@ -96,7 +96,11 @@ def read_crates():
 
 
 def is_of_tests(name):
-    return name.endswith("_tests") or name == "fixtures"
+    return exists(f"tests/crates/{name}")
+
+
+def folder_of(name):
+    return f"tests/crates/{name}" if is_of_tests(name) else f"crates/{name}"
 
 
 def reaches(below, name):
@@ -111,8 +115,8 @@ def nearest(below, name):
 
 def sentence_of(name):
     """What a crate says of itself, in the first sentence of its first file; of a long one what stands before its colon."""
-    root = next(root for root in ("lib", "main") if exists(f"crates/{name}/src/{root}.rt"))
-    told = [line.removeprefix("//! ") for line in read(f"crates/{name}/src/{root}.rt").splitlines() if line.startswith("//!")]
+    root = next(root for root in ("lib.rt", "main.rt", "lib.rt.txt") if exists(f"{folder_of(name)}/src/{root}"))
+    told = [line.removeprefix("//! ") for line in read(f"{folder_of(name)}/src/{root}").splitlines() if line.startswith("//!")]
     sentence = " ".join(told).partition(". ")[0].rstrip(".")
     return (sentence.partition(":")[0] if len(sentence.split()) > MOST_WORDS else sentence) + "."
 
@@ -143,7 +147,7 @@ def check_rooms(below):
 
 def lines_below(crates, folder):
     """The lines of the sources in a folder of crates, to the next thousand."""
-    found = (path for name in crates for path in glob.glob(os.path.join(TOP, f"crates/{name}/{folder}/**/*.*t"), recursive=True))
+    found = (path for name in crates for path in glob.glob(os.path.join(TOP, f"{folder_of(name)}/{folder}/**/*.*t"), recursive=True))
     return f"{round(sum(read(path).count(chr(10)) for path in found), -3):,}"
 
 
@@ -154,7 +158,7 @@ def sizes(below):
     others = [heading for path in files for heading in re.findall(r"^## ", read(path), re.MULTILINE)]
     return (
         f"In {len(program)} crates: {lines_below(program, 'src')} lines of code with contracts and comments, {lines_below(program, 'specs')} of definitions, "
-        f"{lines_below(program, 'proofs')} of proofs. In {len(tests)} more: {lines_below(tests, 'src')} lines of tests.\n"
+        f"{lines_below(program, 'proofs')} of proofs. In {len(tests)} more, which are not proved: {lines_below(tests, 'src')} lines of tests.\n"
         f"Wrong bodies, which the prover has to refuse: {len(of_gate)} in the gate, {len(others):,} beside it.\n"
     )
 

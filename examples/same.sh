@@ -19,7 +19,7 @@ COPIES = {
 
 constants = {}
 for source in sorted({source for source, _ in COPIES}):
-    with open(f"../crates/{source}.rt", encoding="utf-8", newline="") as file:
+    with open(f"../tests/crates/{source}.rt.txt", encoding="utf-8", newline="") as file:
         text = file.read()
     for name, raw in re.findall(r'pub const (\w+): &str =\s+r#"(.*?)"#;', text, re.DOTALL):
         constants[source, name] = raw.encode()
