@@ -140,16 +140,19 @@ def refused_memory(at):
     raise stage.Wrong(f'no bound on its memory ends it with 5: {sorted(told)}')
 
 
-def manual_page(at):
-    """The manual page is that of the program's help."""
-    page = subprocess.run(
-        [sys.executable, os.path.join(stage.TOP, 'contrib', 'manpage.py'), at.program], stdout=subprocess.PIPE, check=True
-    ).stdout
-    with open(os.path.join(stage.TOP, 'contrib', 'circuitd.1'), 'rb') as kept:
-        stage.wants(page == kept.read(), 'contrib/circuitd.1 is not what contrib/manpage.py writes')
+def manual_pages(at):
+    """The manual pages are those of the program's help, a page for each command; each tells how it ends."""
+    subprocess.run([sys.executable, os.path.join(stage.TOP, 'contrib', 'manpage.py'), at.program, at.path('man')], check=True)
+    kept = os.path.join(stage.TOP, 'contrib', 'man')
+    stage.wants(sorted(os.listdir(at.path('man'))) == sorted(os.listdir(kept)), 'contrib/man has the pages that contrib/manpage.py writes, and no others')
+    for name in os.listdir(kept):
+        with open(os.path.join(kept, name), 'rb') as page:
+            text = page.read()
+        stage.wants(at.read(f'man/{name}') == text, f'contrib/man/{name} is not what contrib/manpage.py writes')
+        stage.wants(b'.SH EXIT STATUS\n.TP\n.B 0\n' in text, f'{name} tells how it ends')
 
 
 PLAYS = [
     all_done, first_starts, faulty_inputs, usage, words_that_are_no_text, refused_rows, a_port_that_is_taken, refused_memory,
-    manual_page,
+    manual_pages,
 ]

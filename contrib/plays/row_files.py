@@ -19,6 +19,8 @@ FIRST = 'serve one.toml --turns 1 --create'
 PLAIN = 'serve one.toml --turns 1'
 ROWS = 'rows station1.db'
 UPGRADE = 'upgrade station1.db'
+# Another story is offered for the number that is saved.
+AGAIN = 'serve one.toml --turns 20 --number 12 --tape harvest.tape'
 COMMANDS = (CREATE, FIRST, PLAIN, ROWS, UPGRADE)
 
 # What comes of a cell: each command is refused with this, and nothing has changed.
@@ -336,6 +338,17 @@ def a_link_to_rows(at):
     stage.wants(at.read('station1.db-wal') is None, 'a log lies beside the link')
 
 
+def rows_of_earlier_programs(at):
+    """Row files as earlier programs left them, killed or at rest. Their rows are listed, a station goes on with the story that it has, whatever it is
+    offered for the number, and the files are upgraded."""
+    for (program, layout, left), pair in old_rows.EARLIER.items():
+        for words, wanted, ballot in ((ROWS, SAVED, '1.1'), (AGAIN, RELEASE, '2.1'), (UPGRADE, 'layout 2\n', '1.1')):
+            lay(at, *pair)
+            came = at.run(words)
+            stage.wants(came == (0, wanted, ''), f'{words} over rows of layout {layout} that {program} left {left}: {came}')
+            at.ends(ROWS, 0, SAVED.replace('1.1', ballot))
+
+
 def a_log_that_is_none(at):
     """What stands under the log's name and is no file is refused with the file."""
     at.ends(CREATE, 0, NEW)
@@ -465,6 +478,6 @@ def a_kill(at):
 
 PLAYS = [
     each_file_beside_each_log, each_mark_beside_each_log, a_copy_without_its_log, starts_at_once, crossed_starts, a_database_of_another_program,
-    other_files, a_link_to_rows, a_log_that_is_none, permission_refused, a_making_under_way, makings_at_once, killed_makings, a_file_of_two_names,
+    other_files, a_link_to_rows, rows_of_earlier_programs, a_log_that_is_none, permission_refused, a_making_under_way, makings_at_once, killed_makings, a_file_of_two_names,
     a_kill,
 ]

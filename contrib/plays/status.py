@@ -131,7 +131,7 @@ def what_can_not_be_told(at):
     stops(at, plant)
     text = at.read('status.txt').decode()
     for changed, why in ((text[:-1], 'no status'), (text[:40], 'no status'), ('', 'no status'), (text.replace('nothing', 'none', 1), 'no status'),
-                         (text.replace('form 1', 'form 2'), 'of a later version'), (text.replace('station 1 of 1', 'station 1 of 2'), 'of another station'),
+                         (text.replace('form 1', 'form 3'), 'of a later version'), (text.replace('form 1', 'form 2'), 'no status'), (text.replace('station 1 of 1', 'station 1 of 2'), 'of another station'),
                          (text.replace('circuit 7', 'circuit 8'), 'of another station'), ('\udcff', 'no status')):
         at.write('status.txt', changed.encode('utf-8', 'surrogateescape'))
         at.ends('status plant.toml', 3, '', f'status: status.txt: {why}\n')

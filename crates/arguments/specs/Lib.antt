@@ -1,1 +1,2 @@
+pub mod Inits
 pub mod Plans

@@ -1,6 +1,6 @@
 //! What the command line asks for.
 
-use crate::plan::{CreatePlan, Mismatch, Plan, RunPlan};
+use crate::plan::{CreatePlan, InitPlan, Mismatch, Plan, RenewPlan, RunPlan};
 use ballots::Member;
 use clap::Error;
 use inputs::{ScriptPaths, SettingPaths, StoryPaths, TapePaths};
@@ -55,6 +55,10 @@ pub enum Asked<'a> {
     Upgrade {
         path: &'a str,
     },
+    /// To make the files of a plant, or of all plants of a circuit.
+    Init(InitPlan<'a>),
+    /// To make them for a new circuit after that of an old plant.
+    Renew(RenewPlan<'a>),
     /// To make the row file of a station.
     Create(CreatePlan<'a>),
     /// To serve a station.

@@ -336,6 +336,115 @@ const UPGRADE: CommandForm = CommandForm {
     given: &[DB],
 };
 
+const INIT_EXAMPLE: &str = "\
+Example: the files of three plants on this machine, with one key, each in a folder of its own:
+
+  $ circuitd init plants --circuit 7 --all --new-key --table codes.toml --widths widths.toml \\
+      --stations 127.0.0.1:7001,127.0.0.1:7002,127.0.0.1:7003
+  made plants
+  made plants/plant1
+  made plants/plant1/offers
+
+A line tells of each file and folder. What is there already is left as it is, and told as `left`. Then, in the folder
+of each plant on its own machine, run `circuitd check-config station.toml`, and once `circuitd create station.toml`.
+
+A new circuit after a lost station: `--from` keeps the addresses, the table, the widths and the key of an old plant:
+
+  $ circuitd init alton8 --circuit 8 --from alton";
+
+const INIT: CommandForm = CommandForm {
+    name: "init",
+    about: "Makes the files of a plant, or of all plants of a circuit, but for the row file; none that is there is changed",
+    example: INIT_EXAMPLE,
+    given: &[
+        ArgumentForm {
+            name: "FOLDER",
+            shape: ArgumentShape::Word(Value::Text),
+            help: "The plant's folder, which is made; with --all the folder in which plant1, plant2, .. are made",
+        },
+        ArgumentForm {
+            name: "circuit",
+            shape: ArgumentShape::Choice(Choice {
+                shown: "N",
+                value: Value::Circuit,
+                absence: Absence::Refused,
+                goes_with: None,
+            }),
+            help: "The circuit's number, 0 to 65535: one that was never used",
+        },
+        ArgumentForm {
+            name: "member",
+            shape: ArgumentShape::Choice(Choice {
+                shown: "M",
+                value: Value::Member,
+                absence: Absence::Empty,
+                goes_with: None,
+            }),
+            help: "Which of the stations this one is, 1 to 15",
+        },
+        ArgumentForm {
+            name: "all",
+            shape: ArgumentShape::Rival("member"),
+            help: "Make the plants of all members, to be carried to their machines",
+        },
+        ArgumentForm {
+            name: "stations",
+            shape: ArgumentShape::Choice(Choice {
+                shown: "LIST",
+                value: Value::Text,
+                absence: Absence::Empty,
+                goes_with: None,
+            }),
+            help: "Where all stations listen, in order of members, as a:7001,b:7001,10.0.7.3:7001",
+        },
+        ArgumentForm {
+            name: "table",
+            shape: ArgumentShape::Choice(Choice {
+                shown: "FILE",
+                value: Value::Text,
+                absence: Absence::Empty,
+                goes_with: None,
+            }),
+            help: "The code table, of which a copy is made",
+        },
+        ArgumentForm {
+            name: "widths",
+            shape: ArgumentShape::Choice(Choice {
+                shown: "FILE",
+                value: Value::Text,
+                absence: Absence::Empty,
+                goes_with: None,
+            }),
+            help: "The width file, of which a copy is made",
+        },
+        ArgumentForm {
+            name: "key",
+            shape: ArgumentShape::Choice(Choice {
+                shown: "FILE",
+                value: Value::Text,
+                absence: Absence::Empty,
+                goes_with: None,
+            }),
+            help: "The key of the circuit, of which a copy is made",
+        },
+        ArgumentForm {
+            name: "new-key",
+            shape: ArgumentShape::Rival("key"),
+            help: "Make a key, unless one of these plants has one already",
+        },
+        ArgumentForm {
+            name: "from",
+            shape: ArgumentShape::Choice(Choice {
+                shown: "OLD",
+                value: Value::Text,
+                absence: Absence::Empty,
+                goes_with: None,
+            }),
+            help: "The folder of a plant of another circuit: what is not named here is as there",
+        },
+    ],
+};
+
 const CREATION_EXAMPLE: &str = "\
 Example: the row file of a station that never ran, for a circuit that is new:
 
@@ -458,7 +567,7 @@ const SERVE: CommandForm = CommandForm {
 const RUN_EXAMPLE: &str = "\
 Example: the first start of a station, and then each later one:
 
-  $ circuitd run station1.toml --create --layout 2
+  $ circuitd run station1.toml --create
   $ circuitd run station1.toml
 
 Where the configuration names folders, the file `12.tape` among the offers is offered under number 12, and
@@ -482,10 +591,10 @@ const RUN: CommandForm = CommandForm {
             shape: ArgumentShape::Choice(Choice {
                 shown: "L",
                 value: Value::Version,
-                absence: Absence::Default("1"),
+                absence: Absence::Default("2"),
                 goes_with: Some("create"),
             }),
-            help: "The layout of the row file that is made: in layout 2 a number may be withdrawn; goes with --create",
+            help: "The layout of the row file that is made: in layout 2 a number may be withdrawn; 1 for a circuit with stations of layout 1; goes with --create",
         },
         ArgumentForm {
             name: "quiet",
@@ -722,18 +831,11 @@ const SURVEY: CommandForm = CommandForm {
 /// The commands over tapes, in the order in which the help lists them.
 const TAPE_FORMS: &[CommandForm] = &[ANSWER, CHECK, DRAW, CHART, PUNCH, SPELL, FIT];
 
+/// Those over the files of a station, behind them.
+const FILE_FORMS: &[CommandForm] = &[ROWS, UPGRADE, INIT, CREATION, CONFIG_CHECK];
+
 /// Those over stations, behind them.
-const STATION_FORMS: &[CommandForm] = &[
-    ROWS,
-    UPGRADE,
-    CREATION,
-    CONFIG_CHECK,
-    SERVE,
-    RUN,
-    STOP,
-    STATUS,
-    REHEARSE,
-];
+const STATION_FORMS: &[CommandForm] = &[SERVE, RUN, STOP, STATUS, REHEARSE];
 
 /// Those over reels of real tape, behind them.
 const REEL_FORMS: &[CommandForm] = &[IMPORT, SURVEY];
@@ -742,6 +844,11 @@ const REEL_FORMS: &[CommandForm] = &[IMPORT, SURVEY];
 /// commands in one table are more than the prover takes at once.
 fn tape_forms() -> &'static [CommandForm<'static>] {
     TAPE_FORMS
+}
+
+/// Those over the files of a station, the same way.
+fn file_forms() -> &'static [CommandForm<'static>] {
+    FILE_FORMS
 }
 
 /// Those over stations, the same way.
@@ -826,6 +933,7 @@ fn is_among(forms: &[CommandForm<'_>], name: &str) -> bool {
 fn is_needed(name: &str, first: &str) -> bool {
     name == first
         || !(is_among(tape_forms(), first)
+            || is_among(file_forms(), first)
             || is_among(station_forms(), first)
             || is_among(reel_forms(), first))
 }
@@ -854,6 +962,7 @@ pub(crate) fn grammar<'a>(alloc: Global, first: &str) -> Result<Command<'a>, All
         .about("A wire circuit whose numbers never mean two stories")
         .subcommand_required(true);
     let program = with_forms(alloc, program, tape_forms(), first)?;
+    let program = with_forms(alloc, program, file_forms(), first)?;
     let program = with_forms(alloc, program, station_forms(), first)?;
     with_forms(alloc, program, reel_forms(), first)
 }

@@ -8,5 +8,7 @@ mod taking;
 
 pub use asked::{Asked, ReelPlan, Unasked};
 pub use grammar::VERSION;
-pub use plan::{CreatePlan, Mismatch, Plan, RunPlan, TapeOffer};
+pub use plan::{
+    CreatePlan, InitPlan, KeyAsked, Members, Mismatch, Plan, RenewPlan, RunPlan, TapeOffer,
+};
 pub use taking::asked_by;

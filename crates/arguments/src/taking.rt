@@ -2,7 +2,10 @@
 
 use crate::asked::{Asked, ReelPlan, Unasked};
 use crate::grammar::grammar;
-use crate::plan::{CreatePlan, Mismatch, Plan, RunPlan, TapeOffer, creation_of, offer_of};
+use crate::plan::{
+    AllNamed, CreatePlan, InitPlan, KeyAsked, Mismatch, Named, Plan, RenewPlan, RunPlan, TapeOffer,
+    all_of, creation_of, key_of, members_of, offer_of,
+};
 use ballots::Member;
 use clap::{ArgMatches, Error};
 use inputs::{ScriptPaths, SettingPaths, StoryPaths, TapePaths};
@@ -122,6 +125,66 @@ fn create_of<'a>(matches: &ArgMatches<'a>) -> Option<Asked<'a>> {
     let config = matches.get_str("CONFIG")?;
     let layout = version_of(matches, "layout")?;
     Some(Asked::Create(CreatePlan { config, layout }))
+}
+
+/// The member that a line names, if it names one.
+fn member_of<'a>(matches: &ArgMatches<'a>) -> Option<Member> {
+    Member::new(matches.get_one::<u8>("member")?)
+}
+
+/// What a line names of what plants are made of.
+fn named_of<'a>(matches: &ArgMatches<'a>) -> Named<'a> {
+    Named {
+        members: members_of(member_of(matches), matches.get_flag("all")),
+        stations: matches.get_str("stations"),
+        table: matches.get_str("table"),
+        widths: matches.get_str("widths"),
+    }
+}
+
+/// The key that a line asks for.
+fn init_key_of<'a>(matches: &ArgMatches<'a>) -> KeyAsked<'a> {
+    key_of(matches.get_str("key"), matches.get_flag("new-key"))
+}
+
+/// To make plants of what is named.
+fn fresh_of<'a>(matches: &ArgMatches<'a>, all: &AllNamed<'a>) -> Option<Asked<'a>> {
+    let plan = InitPlan {
+        folder: matches.get_str("FOLDER")?,
+        circuit: matches.get_one::<u16>("circuit")?,
+        members: all.members,
+        stations: all.stations,
+        table: all.table,
+        widths: all.widths,
+        key: init_key_of(matches),
+    };
+    Some(Asked::Init(plan))
+}
+
+/// To make plants of the old one in this folder, and of what is named.
+fn renewed_of<'a>(matches: &ArgMatches<'a>, old: &'a str, named: &Named<'a>) -> Option<Asked<'a>> {
+    let plan = RenewPlan {
+        folder: matches.get_str("FOLDER")?,
+        circuit: matches.get_one::<u16>("circuit")?,
+        old,
+        members: named.members,
+        stations: named.stations,
+        table: named.table,
+        widths: named.widths,
+        key: init_key_of(matches),
+    };
+    Some(Asked::Renew(plan))
+}
+
+fn init_of<'a>(matches: &ArgMatches<'a>) -> Result<Option<Asked<'a>>, Mismatch> {
+    let named = named_of(matches);
+    match matches.get_str("from") {
+        Some(old) => Ok(renewed_of(matches, old, &named)),
+        None => match all_of(&named) {
+            Ok(all) => Ok(fresh_of(matches, &all)),
+            Err(mismatch) => Err(mismatch),
+        },
+    }
 }
 
 fn check_config_of<'a>(matches: &ArgMatches<'a>) -> Option<Asked<'a>> {
@@ -252,6 +315,7 @@ fn asked_of<'a>(
         "fit" => fit_of(given),
         "rows" => rows_of(given),
         "upgrade" => upgrade_of(given),
+        "init" => return init_of(given),
         "create" => create_of(given),
         "serve" => return serve_of(given),
         "run" => run_of(given),

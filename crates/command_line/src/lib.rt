@@ -4,6 +4,8 @@
 mod parsing;
 mod version;
 
-pub use arguments::{Asked, CreatePlan, Plan, ReelPlan, RunPlan, TapeOffer};
+pub use arguments::{
+    Asked, CreatePlan, InitPlan, KeyAsked, Members, Plan, ReelPlan, RenewPlan, RunPlan, TapeOffer,
+};
 pub use parsing::parse;
 pub use version::print_version;

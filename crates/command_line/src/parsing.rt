@@ -33,6 +33,16 @@ const TAPES_APART: &str = "no -- goes between tapes";
 /// What is told where no command is named.
 const NO_COMMAND: &str = "no command is named";
 
+/// What is told where a new plant has no member.
+const NO_MEMBERS: &str = "init wants --member or --all";
+
+/// What is told where it has no stations.
+const NO_STATIONS: &str = "init wants --stations";
+
+/// What is told where it has no code table or no widths.
+const NO_SETTING: &str =
+    "init wants --table and --widths: your own, or for a trial those of share/doc/circuitd/examples/wire";
+
 /// The fault of what does not go together.
 fn fault_of(mismatch: Mismatch) -> Fault<'static>
     ensures { end_of result ≡ Usage }
@@ -41,6 +51,9 @@ fn fault_of(mismatch: Mismatch) -> Fault<'static>
         Mismatch::Unpaired => Fault::Unpaired,
         Mismatch::LayoutAlone => Fault::LayoutAlone,
         Mismatch::TapesApart => Fault::Usage(TAPES_APART),
+        Mismatch::NoMembers => Fault::Usage(NO_MEMBERS),
+        Mismatch::NoStations => Fault::Usage(NO_STATIONS),
+        Mismatch::NoSetting => Fault::Usage(NO_SETTING),
     }
 }
 

@@ -11,6 +11,7 @@ use crate::console::Console;
 use crate::create_start::create;
 use crate::editing::{run_fit, run_punch, run_spell};
 use crate::host::ThisHost;
+use crate::init_start::{run_init, run_renew};
 use crate::reels::{run_import, run_survey};
 use crate::run_start::run;
 use crate::serve_start::serve;
@@ -174,6 +175,8 @@ pub fn carry_out<F: RowFiles, R: Read + Drop, W: Write + Drop, E: Write + Drop>(
             let outcome = ground.row_files.upgrade(rt, *path, &mut console.out);
             end_with(outcome, &mut console.err)
         }
+        Asked::Init(plan) => run_init(console, plan),
+        Asked::Renew(plan) => run_renew(console, plan),
         Asked::Create(plan) => create(&ground, *plan, &mut console.out, &mut console.err),
         Asked::Serve(plan) => serve(&ground, *plan, &mut console.out, &mut console.err),
         Asked::Run(plan) => run(&ground, *plan, &mut console.err),

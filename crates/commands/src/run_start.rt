@@ -12,6 +12,7 @@ use crate::create_start::layout_number;
 use crate::first_line::{saved_of, tell_first};
 use crate::host::{Host, ThisHost};
 use crate::keys::keys_of;
+use crate::manager_text::tell_ready;
 use crate::plant_start::{OpenPlant, PlantFault, open_plant};
 use crate::start_up::{Ground, Launch, Started, start};
 use crate::status_file::HostStatus;
@@ -22,7 +23,7 @@ use configuration::{Config, ConfigInput, Resolver, read_config};
 use driver::Machine;
 use folders::{Folders, NoFolders};
 use gone_out::{Known, Origin};
-use host_process::TimedLines;
+use host_process::{Manager, TimedLines};
 use log_terms::Loudness;
 use plant_status::StationId;
 use rows_files::{RefusedRows, RowFiles, close_rows};
@@ -98,13 +99,17 @@ fn id_of<R: Rows>(own: &Origin, station: &Station<R>) -> StationId {
     }
 }
 
-/// The status file of a plant, if it has one.
-fn status_of<'r>(rt: &'r HostRuntime, plant: &mut Option<OpenPlant<'_>>) -> HostStatus<'r> {
+/// The status file of a plant, if it has one, and who wants to be told what it says.
+fn status_of<'r>(
+    rt: &'r HostRuntime,
+    plant: &mut Option<OpenPlant<'_>>,
+    manager: Option<Manager>,
+) -> HostStatus<'r> {
     let path = match plant {
         Some(plant) => plant.status.take(),
         None => None,
     };
-    HostStatus { rt, path }
+    HostStatus { rt, path, manager }
 }
 
 /// Where the station of a configuration listens.
@@ -171,7 +176,9 @@ fn run_from<'a, F: RowFiles, E: Write>(
     if loudness != Loudness::Faults {
         tell_first(id, address_of(config).as_ref(), saved_of(&known), err);
     }
-    let file = status_of(rt, &mut plant);
+    let manager = Manager::of(rt);
+    tell_ready(alloc, &manager, id);
+    let file = status_of(rt, &mut plant, manager);
     let terms = Terms {
         status: file.path.is_some().then_some(id),
         file,
@@ -257,7 +264,8 @@ fn run_to_the_end<F: RowFiles, E: Write>(
 /// Runs the station of the configuration at a path until it is stopped, with its rows saved in one of the files.
 ///
 /// What it starts from is looked for in this order, and the first fault ends it: the configuration, the file of keys, where its files and
-/// folders lie and who works with these, the code table, the widths, the saved rows, the socket. After a good end the rows are closed.
+/// folders lie and who works with these, the code table, the widths, the saved rows, the socket. Once it has all of that, a service manager
+/// that the environment names is told that it is up. After a good end the rows are closed.
 pub fn run<F: RowFiles, E: Write>(
     ground: &Ground<'_, ThisHost<'_>, F>,
     plan: RunPlan<'_>,

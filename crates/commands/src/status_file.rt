@@ -1,6 +1,8 @@
-//! The status file of a plant, on the machine that the program runs on.
+//! The status file of a plant, on the machine that the program runs on; a service manager is told what it says.
 
+use crate::manager_text::tell_status;
 use folders::FolderFault;
+use host_process::Manager;
 use plant_status::{StatusFile, seconds_now};
 use std::alloc::Global;
 use std::fs;
@@ -12,6 +14,8 @@ use std::io::Write;
 pub(crate) struct HostStatus<'r> {
     pub(crate) rt: &'r HostRuntime,
     pub(crate) path: Option<String>,
+    /// Who wants to be told how the station is, if anybody does.
+    pub(crate) manager: Option<Manager>,
 }
 
 /// Makes a file of a name that is free, with a text.
@@ -37,7 +41,10 @@ impl<'r> StatusFile for HostStatus<'r> {
 
     fn replace(&mut self, alloc: Global, text: &str) -> Result<(), FolderFault> {
         match &self.path {
-            Some(path) => replace(self.rt, alloc, path.as_str(), text),
+            Some(path) => {
+                tell_status(alloc, &self.manager, text);
+                replace(self.rt, alloc, path.as_str(), text)
+            }
             None => Ok(()),
         }
     }

@@ -66,7 +66,7 @@ fn octets_of(first: &str, second: &str, third: &str, fourth: &str) -> Option<[u8
 
 /// The four parts of an IP address: decimal numbers of one to three digits, 0 to 255, with dots between.
 #[tactic(auto, using(crate::proofs::Octets::ip_few, crate::proofs::Octets::ip_parts))]
-pub(crate) fn ip_of(text: &str) -> Option<[u8; 4]>
+pub fn ip_of(text: &str) -> Option<[u8; 4]>
     ensures { result ≡ ip_of text.now }
 {
     let (first, second, third, fourth) = parts_of(text)?;

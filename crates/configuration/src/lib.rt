@@ -11,6 +11,7 @@ mod hosts;
 mod keys;
 mod stations;
 
+pub use address::ip_of;
 pub use config::{Config, WorkFolders};
 pub use config_file::{ConfigInput, read_config};
 pub use fault::{ConfigFault, ConfigKey};

@@ -6,4 +6,5 @@ mod GroupSteps
 mod Holding
 mod Marking
 mod Obeying
+mod Restarting
 mod Sounding

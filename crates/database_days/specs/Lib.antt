@@ -1,3 +1,4 @@
 pub mod Starting
 pub mod GroupSteps
 pub mod Grouping
+pub mod Restarting

@@ -3,9 +3,11 @@
 ghost use Rattle.database_days.specs.Starting.{StartsHandOver};
 ghost use Rattle.database_days.specs.Grouping.{GroupsHandOver};
 ghost use Rattle.database_days.specs.GroupSteps.{GroupsAreTaken};
+ghost use Rattle.database_days.specs.Restarting.{GroupsGoOn, UpgradesGoOn};
 ghost use Rattle.station.specs.Stations.{sight};
 
 use acceptor_store::{SqliteRows, laws};
+use process_days::laws::next_processes_begin;
 use rows_saved::{Grouped, Rows};
 use sqlite::FileStore;
 use sqlite_disk::Disk;
@@ -32,3 +34,15 @@ pub fn groups_hand_over<D: Disk + Drop, E: Disk + Drop>()
 pub fn groups_are_taken<D: Disk + Drop>()
     ensures { GroupsAreTaken D D.Disk (⟦<Grouped<SqliteRows<FileStore<D>>> as Rows>⟧) }
 {}
+
+/// A process over grouped rows in a database may end in any way: killed or with its machine, between two calls, in a step or in a save, or by a
+/// save that is refused. The next start finds the rows from before the last group, or from behind all of it, and goes on in the same day. It does
+/// so behind an upgrade, too, with all rows at either version.
+pub fn the_day_goes_on<D: Disk + Drop>()
+    ensures groups { GroupsGoOn D D.Disk (⟦<Grouped<SqliteRows<FileStore<D>>> as Rows>⟧) }
+    ensures upgrades { UpgradesGoOn D D.Disk (⟦<Grouped<SqliteRows<FileStore<D>>> as Rows>⟧) }
+{
+    groups_are_taken::<D>();
+    groups_hand_over::<D, D>();
+    next_processes_begin::<Grouped<SqliteRows<FileStore<D>>>>();
+}

@@ -1,7 +1,7 @@
 //! What the head of a datagram says.
 
 ghost use Rattle.std.specs.Prelude.{◌≡◌};
-ghost use Rattle.driver.specs.Said.{said_in};
+ghost use Rattle.driver.specs.Said.{said_in, version_in};
 
 use ballots::{Member, Number};
 use packets::{PacketKind, decode};
@@ -17,6 +17,19 @@ pub struct Said {
     /// The member whose ballot it is about.
     pub owner: Member,
     pub kind: PacketKind,
+    /// The version in which it is spelled.
+    pub version: Version,
+}
+
+/// The version in which bytes say that they are spelled.
+fn version_in(bytes: &[u8]) -> Version
+    ensures { result ≡ version_in bytes.now }
+{
+    if bytes.len() > 2 && bytes[2] == 2 {
+        Version::Two
+    } else {
+        Version::One
+    }
 }
 
 /// What the bytes of a datagram say, in the layout that they are of; `None` where they spell no packet.
@@ -29,5 +42,6 @@ pub(crate) fn said_in(bytes: &[u8]) -> Option<Said>
         number: packet.number(),
         owner: packet.ballot().owner(),
         kind: packet.body().kind(),
+        version: version_in(bytes),
     })
 }

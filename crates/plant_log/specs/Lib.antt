@@ -4,6 +4,7 @@ pub mod Standing
 pub mod Keeping
 pub mod Skipping
 pub mod Differing
+pub mod Older
 pub mod Stories
 pub mod Passing
 pub mod Troubles

@@ -34,6 +34,10 @@ refused_text name why = codes "refused " ++ (name ++ (codes ": " ++ why))
 abbrev pub differs_text : StepRefusal → List ℕ
 differs_text refusal = codes "refused " ++ refusal_text refusal
 
+-- the rows of a member are of layout 1, and those of this station of layout 2
+abbrev pub older_text : ℕ → List ℕ
+older_text member = codes "old-version from member " ++ (decimal member ++ codes ": its rows are of layout 1, these of layout 2")
+
 -- what there is to tell of the folders
 abbrev pub folders_text : List ℕ → List ℕ
 folders_text what = codes "folders: " ++ what
@@ -51,6 +55,7 @@ abbrev pub line_text : LogLine → List ℕ
 line_text (lines.Event event) = event_text event
 line_text (lines.Refused name why) = refused_text name.now why.now
 line_text (lines.Differs refusal) = differs_text refusal
+line_text (lines.Older member) = older_text member
 line_text (lines.Folders what) = folders_text what.now
 line_text (lines.Folder what fault) = folder_text what.now fault
 line_text (lines.File file) = file_text file.what.now file.name.now file.fault

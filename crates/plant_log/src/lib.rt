@@ -6,6 +6,7 @@ mod event;
 mod files;
 pub mod laws;
 mod line;
+mod older;
 mod passed;
 mod reason;
 mod room;

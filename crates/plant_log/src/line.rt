@@ -4,6 +4,7 @@ ghost use Rattle.std.specs.Prelude.{◌≡◌, Some};
 ghost use Rattle.plant_log.specs.Words.{file_text, line_text, news_text};
 
 use crate::event::LogEvent;
+use ballots::Member;
 use folders::{FolderFault, News};
 use refusals::{RefusalText, StepRefusal};
 use std::fmt;
@@ -28,6 +29,8 @@ pub(crate) enum LogLine<'a> {
     Refused { name: &'a str, why: &'a str },
     /// A datagram shows that its sender has another configuration.
     Differs(StepRefusal),
+    /// The rows of a member are of layout 1, and those of this station of layout 2.
+    Older(Member),
     /// There is something to tell of the folders.
     Folders(&'a str),
     /// A folder does not serve.
@@ -63,6 +66,11 @@ impl<'a> fmt::Display for LogLine<'a> {
             LogLine::Event(event) => write!(f, "{event}"),
             LogLine::Refused { name, why } => write!(f, "refused {name}: {why}"),
             LogLine::Differs(refusal) => write!(f, "refused {}", RefusalText(refusal)),
+            LogLine::Older(member) => write!(
+                f,
+                "old-version from member {}: its rows are of layout 1, these of layout 2",
+                member.get()
+            ),
             LogLine::Folders(what) => write!(f, "folders: {what}"),
             LogLine::Folder { what, fault } => write!(f, "folders: {what}: {fault}"),
             LogLine::File(file) => write!(f, "{file}"),

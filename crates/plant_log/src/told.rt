@@ -1,15 +1,16 @@
 //! What a station that stays up tells, and what it told last, so that it is not told again at each look.
 
-ghost use Rattle.std.specs.Prelude.{◌≡◌, [], None, codes, true};
+ghost use Rattle.std.specs.Prelude.{◌≡◌, [], None, codes, true, false};
 ghost use Rattle.folders.specs.LogNames.{shown_name};
 ghost use Rattle.offers.specs.Order.{rank};
-ghost use Rattle.plant_log.specs.Words.{differs_text, file_text, folder_text, refused_text};
+ghost use Rattle.plant_log.specs.Words.{differs_text, file_text, folder_text, older_text, refused_text};
 ghost use Rattle.plant_log.specs.Telling.{TellsIf, WasTold};
 ghost use Rattle.plant_log.specs.Keeping.{Forgets, HasRoom};
 ghost use Rattle.plant_log.specs.Standing.{IsToldAnew, Stands};
 ghost use Rattle.plant_log.specs.Skipping.{TellsSkipped, skipped_after};
 ghost use Rattle.plant_log.specs.Passing.{Remembers, TellsPassed};
 ghost use Rattle.plant_log.specs.Differing.{differ_after, differ_told};
+ghost use Rattle.plant_log.specs.Older.{IsToldOf, none_told, was_told};
 ghost use Rattle.plant_log.specs.Stories.{IsHeard, IsTellingRefused, TellsHeard};
 ghost use Rattle.plant_log.specs.Refusing.{TellsNoOffer};
 ghost use Rattle.plant_log.specs.Troubles.{NoticesOf, TellsTrouble};
@@ -18,6 +19,7 @@ use crate::differences::Differences;
 use crate::event::LogEvent;
 use crate::files::{ToldFaults, Trouble};
 use crate::line::{FileTrouble, LogLine};
+use crate::older::Older;
 use crate::passed::Passed;
 use crate::skipped::Skipped;
 use crate::standing::{Standing, is_told_anew, told_after};
@@ -26,6 +28,7 @@ use crate::writing::{
     tell_event, tell_fault, tell_file, tell_folders, tell_line, tell_no_memory, tell_no_offer,
     tell_refused,
 };
+use ballots::Member;
 use folders::{FileRequest, FolderFault, PassedOver, name_of};
 use log_terms::Loudness;
 use offers::OfferFault;
@@ -50,6 +53,8 @@ pub struct Told {
     files: ToldFaults,
     /// That other stations have other configurations.
     differences: Differences,
+    /// Of which members it was told that their rows are of layout 1.
+    older: Older,
 }
 
 /// Whether something that befell a number is told at a moment, where so much is told.
@@ -70,6 +75,7 @@ impl Told {
         ensures loudness { result.loudness ≡ loudness }
         ensures stories { result.stories.kept.entries ≡ [] }
         ensures files { result.files.kept.entries ≡ [] }
+        ensures older { result.older ≡ none_told }
     {
         Told {
             alloc,
@@ -81,6 +87,7 @@ impl Told {
             passed: Passed::new(alloc),
             files: ToldFaults::new(alloc),
             differences: Differences::new(),
+            older: Older::new(),
         }
     }
 
@@ -123,6 +130,17 @@ impl Told {
     {
         if self.differences.are_told_by(refusal, now) {
             tell_line(self.alloc, &LogLine::Differs(refusal), err);
+        }
+    }
+
+    /// Tells that the rows of a member are of layout 1, while those of this station are of layout 2: once of each member.
+    pub fn hear_older<E: Write>(&mut self, member: Member, err: &mut E)
+        ensures tells { TellsIf (was_told self.old.older member ≡ false) (older_text member) (E.contents err.old) (E.contents err.new) }
+        ensures after { IsToldOf member self.old.older self.new.older }
+        ensures rest { self.new ≡ record self.old { older = self.new.older } }
+    {
+        if self.older.is_told(member) {
+            tell_line(self.alloc, &LogLine::Older(member), err);
         }
     }
 

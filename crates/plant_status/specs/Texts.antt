@@ -1,5 +1,6 @@
 -- The text of a status.
 use Rattle.std.specs.Prelude.{ℕ, ◌/◌, ◌%◌, ◌==◌, ◌&&◌, Bool, List, [], ◌∷◌, ◌++◌, flat_map, Option, Some, None, if◌then◌else◌, codes, decimal}
+use Rattle.std.specs.List.{list_any}
 use Rattle.plant_status.specs.declared.moment.Moment.{Moment}
 use Rattle.plant_status.specs.declared.status.StationId.{StationId}
 use Rattle.plant_status.specs.declared.status.HeardMember.{HeardMember}
@@ -37,14 +38,18 @@ abbrev pub station_text : StationId → List ℕ
 station_text s =
     codes "station " ++ (decimal s.member ++ (codes " of " ++ (decimal s.count ++ (codes " circuit " ++ (decimal s.circuit ++ (codes " layout " ++ decimal s.layout))))))
 
--- when a member was heard, to the end of its line
+-- that the rows of a member are of layout 1, while those of the station are of layout 2, where that was shown
+abbrev pub older_text : Bool → List ℕ
+older_text is_older = if is_older then codes ", its rows are of layout 1" else []
+
+-- when a member was heard
 abbrev pub heard_at_text : Moment → Option Moment → List ℕ
-heard_at_text written None = codes " not heard since the start\n"
-heard_at_text written (Some m) = codes " heard at " ++ (shown_text written m ++ codes "\n")
+heard_at_text written None = codes " not heard since the start"
+heard_at_text written (Some m) = codes " heard at " ++ shown_text written m
 
 -- the line of a member
 abbrev pub heard_text : Moment → HeardMember → List ℕ
-heard_text written h = codes "member " ++ (decimal h.member ++ heard_at_text written h.at)
+heard_text written h = codes "member " ++ (decimal h.member ++ (heard_at_text written h.at ++ (older_text h.is_older ++ codes "\n")))
 
 -- the line of what was released
 abbrev pub released_text : Released → List ℕ
@@ -103,9 +108,13 @@ busy_line bs = codes "under way " ++ (all_busy bs ++ codes "\n")
 abbrev pub missing_line : Moment → Option Missing → List ℕ
 missing_line written m = codes "missing" ++ (missing_text written m ++ codes "\n")
 
+-- the form of the lines: 2 where one of a member tells of its rows, and else 1, which an earlier version of the program reads
+abbrev pub form_of : List HeardMember → ℕ
+form_of members = if list_any (λ h. h.is_older) members then 2 else 1
+
 -- the last line: when it was written, and by which form of these lines
-abbrev pub end_text : Moment → List ℕ
-end_text written = codes "written " ++ (moment_text written ++ codes ", form 1\n")
+abbrev pub end_text : Moment → ℕ → List ℕ
+end_text written form = codes "written " ++ (moment_text written ++ (codes ", form " ++ (decimal form ++ codes "\n")))
 
 -- the text of a status
 abbrev pub status_text : Status → List ℕ
@@ -115,4 +124,4 @@ status_text s =
     ++ (released_text s.released
     ++ (busy_line s.busy.items
     ++ (missing_line s.written s.missing
-    ++ (offers_text s.offers s.unwritten ++ end_text s.written)))))
+    ++ (offers_text s.offers s.unwritten ++ end_text s.written (form_of s.members.items))))))

@@ -6,6 +6,7 @@ use crate::numbers::{numbers_of, short, small};
 use crate::status::{
     Busy, HeardMember, Missing, NumberSpan, OfferCounts, Purpose, Released, StationId, Status,
 };
+use crate::writing::OLDER;
 use std::alloc::{AllocError, Global};
 
 /// What stands behind these words, to the end of their line; nothing where they do not stand there.
@@ -77,13 +78,18 @@ fn files_of(text: &str) -> (OfferCounts, u32) {
 /// What the line of a member says.
 fn heard_of(line: &str, written: &Moment) -> HeardMember {
     let [member, ..] = numbers_of(line);
-    let at = match line.split_once(" heard at ") {
+    let (heard, is_older) = match line.strip_suffix(OLDER) {
+        Some(heard) => (heard, true),
+        None => (line, false),
+    };
+    let at = match heard.split_once(" heard at ") {
         Some((_, shown)) => Some(shown_of(shown, written)),
         None => None,
     };
     HeardMember {
         member: small(member),
         at,
+        is_older,
     }
 }
 

@@ -28,6 +28,7 @@ impl Instant {
         HeardMember {
             member: heard.member,
             at,
+            is_older: heard.is_older,
         }
     }
 

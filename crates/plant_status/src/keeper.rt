@@ -4,7 +4,7 @@ ghost use Rattle.std.specs.Prelude.{◌≡◌, Some, None, true, false};
 ghost use Rattle.plant_status.specs.Timing.{is_due, is_past, is_told, span_of};
 
 use crate::instant::Instant;
-use crate::last_heard::{LastHeard, hear, is_past, others};
+use crate::last_heard::{LastHeard, hear, is_past, others, speak};
 use crate::moment::Moment;
 use crate::status::{
     Busy, HeardMember, Missing, NumberSpan, OfferCounts, Released, StationId, Status,
@@ -81,6 +81,13 @@ impl Keeper {
     /// A member was heard, at a moment.
     pub fn hear(&mut self, member: Member, now: u64) {
         if hear(self.others.as_mut_slice(), member, now) {
+            self.is_changed = true;
+        }
+    }
+
+    /// A packet of a member showed that its rows are of layout 1, while those of this station are of layout 2; or that this is not so.
+    pub fn speak(&mut self, member: Member, is_older: bool) {
+        if speak(self.others.as_mut_slice(), member, is_older) {
             self.is_changed = true;
         }
     }

@@ -15,6 +15,8 @@ const SILENT: u64 = 10_000;
 pub(crate) struct LastHeard {
     pub(crate) member: u8,
     pub(crate) at: Option<u64>,
+    /// Whether its last packet showed that its rows are of layout 1, while those of the station are of layout 2.
+    pub(crate) is_older: bool,
 }
 
 /// The others of a circuit of so many, none of which was heard.
@@ -23,7 +25,11 @@ pub(crate) fn others(alloc: Global, own: u8, count: u8) -> Result<Vec<LastHeard>
     for before in 0..count {
         let member = before.saturating_add(1);
         if member != own {
-            others.push(LastHeard { member, at: None })?;
+            others.push(LastHeard {
+                member,
+                at: None,
+                is_older: false,
+            })?;
         }
     }
     Ok(others)
@@ -54,6 +60,19 @@ pub(crate) fn hear(others: &mut [LastHeard], member: Member, now: u64) -> bool {
         if other.member == member {
             is_news = is_silent(other.at, now);
             other.at = Some(now);
+        }
+    }
+    is_news
+}
+
+/// A packet of a member showed that its rows are of layout 1, or that they are not; whether the last one showed something else.
+pub(crate) fn speak(others: &mut [LastHeard], member: Member, is_older: bool) -> bool {
+    let member = member.get();
+    let mut is_news = false;
+    for other in others {
+        if other.member == member {
+            is_news = other.is_older != is_older;
+            other.is_older = is_older;
         }
     }
     is_news

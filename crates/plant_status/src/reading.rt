@@ -8,6 +8,9 @@ use crate::status::Status;
 use crate::writing::text_of;
 use std::alloc::{AllocError, Global};
 
+/// The newest form of the lines of a status that is read.
+const NEWEST: u32 = 2;
+
 /// Why a text is read as no status.
 #[derive(Clone, Copy)]
 pub enum Unread {
@@ -39,7 +42,7 @@ fn form_of(text: &str) -> Option<u32> {
 pub fn read(alloc: Global, text: &str) -> Result<Status, Unread>
     ensures { IfOk result (λ s. text.now ≡ status_text s) }
 {
-    if form_of(text).unwrap_or(1) > 1 {
+    if form_of(text).unwrap_or(1) > NEWEST {
         return Err(Unread::Later);
     }
     let status = drafted(alloc, text)?;

@@ -18,6 +18,8 @@ pub struct StationId {
 pub struct HeardMember {
     pub member: u8,
     pub at: Option<Moment>,
+    /// Whether its last packet showed that its rows are of layout 1, while those of the station are of layout 2.
+    pub is_older: bool,
 }
 
 /// How many numbers were released, and the greatest of them; 0 where none was.

@@ -1,12 +1,16 @@
 //! The text of a status.
 
 ghost use Rattle.std.specs.Prelude.{◌≡◌, ◌++◌, IfOk, OnOk, string_bytes, flat_map};
-ghost use Rattle.plant_status.specs.Texts.{busy_line, busy_text, end_text, head_text, heard_text, missing_line, next_busy, offers_text, released_text, span_text, status_text};
+ghost use Rattle.std.specs.List.{list_any};
+ghost use Rattle.plant_status.specs.Texts.{busy_line, busy_text, end_text, form_of, head_text, heard_text, missing_line, next_busy, offers_text, older_text, released_text, span_text, status_text};
 
 use crate::moment::Moment;
 use crate::status::{Busy, HeardMember, Missing, NumberSpan, Released, Status};
 use crate::words::ShownText;
 use std::alloc::{AllocError, Global};
+
+/// What stands behind the moment of a member whose rows are of layout 1, where those of the station are of layout 2.
+pub(crate) const OLDER: &str = ", its rows are of layout 1";
 
 /// Puts the first line behind a text.
 fn push_head(text: &mut String, status: &Status) -> Result<(), AllocError>
@@ -15,16 +19,24 @@ fn push_head(text: &mut String, status: &Status) -> Result<(), AllocError>
     writeln!(text, "{} since {}", status.station, status.since)
 }
 
+/// What stands behind the moment of a member.
+fn older_words(is_older: bool) -> &'static str
+    ensures { result.now ≡ older_text is_older }
+{
+    if is_older { OLDER } else { "" }
+}
+
 /// Puts the line of a member behind a text.
 fn push_heard(text: &mut String, heard: &HeardMember, written: &Moment) -> Result<(), AllocError>
     ensures { OnOk result (string_bytes text.new ≡ string_bytes text.old ++ heard_text written.now heard.now) }
 {
     let (member, written) = (heard.member, *written);
+    let older = older_words(heard.is_older);
     match heard.at {
-        None => writeln!(text, "member {member} not heard since the start"),
+        None => writeln!(text, "member {member} not heard since the start{older}"),
         Some(moment) => writeln!(
             text,
-            "member {member} heard at {}",
+            "member {member} heard at {}{older}",
             ShownText { written, moment }
         ),
     }
@@ -149,11 +161,25 @@ fn push_offers(text: &mut String, status: &Status) -> Result<(), AllocError>
     )
 }
 
-/// Puts the last line behind a text.
-fn push_end(text: &mut String, written: &Moment) -> Result<(), AllocError>
-    ensures { OnOk result (string_bytes text.new ≡ string_bytes text.old ++ end_text written.now) }
+/// Whether the line of one of these members tells of its rows.
+fn tell_of_rows(members: &[HeardMember]) -> bool
+    ensures { result ≡ list_any (λ h. h.is_older) members.now }
 {
-    writeln!(text, "written {written}, form 1")
+    members.iter().any(|heard| heard.is_older)
+}
+
+/// The form of the lines of a status with these members: an earlier version of the program reads form 1 alone.
+fn form_of(members: &[HeardMember]) -> u8
+    ensures { result ≡ form_of members.now }
+{
+    if tell_of_rows(members) { 2 } else { 1 }
+}
+
+/// Puts the last line behind a text.
+fn push_end(text: &mut String, written: &Moment, form: u8) -> Result<(), AllocError>
+    ensures { OnOk result (string_bytes text.new ≡ string_bytes text.old ++ end_text written.now form) }
+{
+    writeln!(text, "written {written}, form {form}")
 }
 
 /// Puts the lines of a status behind a text.
@@ -166,7 +192,8 @@ fn push_lines(text: &mut String, status: &Status) -> Result<(), AllocError>
     push_busy(text, status.busy.as_slice())?;
     push_missing(text, &status.missing, &status.written)?;
     push_offers(text, status)?;
-    push_end(text, &status.written)?;
+    let form = form_of(status.members.as_slice());
+    push_end(text, &status.written, form)?;
     Ok(())
 }
 

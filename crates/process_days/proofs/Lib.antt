@@ -3,8 +3,7 @@ mod Ends
 mod Filed
 mod LetIn
 mod Names
-mod Restarting
 mod Saved
-mod Storing
 pub mod Coming
 pub mod GoingOn
+pub mod Storing

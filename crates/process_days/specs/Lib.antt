@@ -1,7 +1,6 @@
 pub mod Cutting
 pub mod Ends
 pub mod Keyed
-pub mod Restarting
 pub mod Saved
 pub mod Seeing
 pub mod Telling

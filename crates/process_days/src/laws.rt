@@ -5,21 +5,16 @@ ghost use Rattle.process_days.specs.Telling.{DrivenHaveLogs, DrivenTakeLetIn, Lo
 ghost use Rattle.process_days.specs.Seeing.{DaysFilesAgree, WrittenIsFiled};
 ghost use Rattle.process_days.specs.Cutting.{CutsKeepTheFiled, CutsKeepThePrinted, CutsKeepTheSent, LogsAreCut, LogsCanBeCut, LogsHavePrefixes, NextProcessesBegin, PrefixesAgree, PrefixesAreLogs, SavesAreStored, StoriesHavePrefixes, StretchesFileTheStored, WrittenIsStored};
 ghost use Rattle.process_days.specs.Ends.{GoodEndsSendAll};
-ghost use Rattle.process_days.specs.Restarting.{GroupsGoOn, UpgradesGoOn};
 ghost use Rattle.process_days.specs.Saved.{AnswersAreSaved, FilesAreSaved, MovesAreSaved, NotesAreSaved, OldNotesAreSaved, SendsAreSaved};
 ghost use Rattle.driver.specs.Driving.{fate_of};
 ghost use Rattle.run_command.specs.Running.{tells};
 ghost use Rattle.run_command.specs.Standing.{Texts};
 ghost use Rattle.serve_command.specs.Serving.{prints};
 
-use acceptor_store::SqliteRows;
-use database_days::laws::{groups_are_taken, groups_hand_over};
 use days::laws;
 use driver::Sink;
 use folders::Folders;
-use rows_saved::{Grouped, Rows, Settles};
-use sqlite::FileStore;
-use sqlite_disk::Disk;
+use rows_saved::{Rows, Settles};
 use std::io::Write;
 use wire::Wire;
 
@@ -91,18 +86,6 @@ pub fn what_is_written_was_stored()
 pub fn next_processes_begin<R: Settles>()
     ensures { NextProcessesBegin R.Rows R.Settles.is_settled }
 {}
-
-/// A process over grouped rows in a database may end in any way: killed or with its machine, between two calls, in a step or in a save, or by a
-/// save that is refused. The next start finds the rows from before the last group, or from behind all of it, and goes on in the same day. It does
-/// so behind an upgrade, too, with all rows at either version.
-pub fn the_day_goes_on<D: Disk + Drop>()
-    ensures groups { GroupsGoOn D D.Disk (⟦<Grouped<SqliteRows<FileStore<D>>> as Rows>⟧) }
-    ensures upgrades { UpgradesGoOn D D.Disk (⟦<Grouped<SqliteRows<FileStore<D>>> as Rows>⟧) }
-{
-    groups_are_taken::<D>();
-    groups_hand_over::<D, D>();
-    next_processes_begin::<Grouped<SqliteRows<FileStore<D>>>>();
-}
 
 /// Whatever drove a station, as `run_station` or `serve_run`, and however it ended: wherever its log is cut behind its last save, the kept events
 /// are those of a station, and all that was sent was sent by then.

@@ -1,5 +1,6 @@
 pub mod Calls
 pub mod Departing
+pub mod Layouts
 pub mod Lives
 pub mod Living
 pub mod Looking

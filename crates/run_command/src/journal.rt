@@ -1,11 +1,13 @@
 //! What is told of a plant, and what is noted and caught up with there.
 
 ghost use Rattle.std.specs.Prelude.{◌≡◌};
+ghost use Rattle.run_command.specs.Layouts.{older_by, older_in};
 ghost use Rattle.run_command.specs.Working.{EndsRange, LooksBy};
 
 use crate::backlog::Backlog;
 use crate::status::note_heard;
-use driver::{HeardDatagram, Log};
+use ballots::Member;
+use driver::{HeardDatagram, Log, Said};
 use folders::{FolderFault, Folders};
 use plant_care::Care;
 use plant_log::{LogEvent, Told};
@@ -13,6 +15,7 @@ use plant_status::Keeper;
 use station::Release;
 use std::alloc::Global;
 use std::io::Write;
+use tape_frames::Version;
 
 /// What is kept in mind so that it is told, noted or caught up with. Moments are in milliseconds.
 #[derive(Drop)]
@@ -22,6 +25,28 @@ pub(crate) struct Journal {
     pub(crate) care: Box<Care>,
     /// What is kept in mind for the status file, where there is one.
     pub(crate) keeper: Option<Keeper>,
+    /// The layout of the station's rows.
+    pub(crate) layout: Version,
+}
+
+/// The sender of a packet of this version, where that shows that its rows are of layout 1, and those of the station are of layout 2.
+fn older_by(own: Version, said: &Said) -> Option<Member>
+    ensures { result ≡ older_by own said.now.version said.now.sender }
+{
+    match (own, said.version) {
+        (Version::Two, Version::One) => Some(said.sender),
+        (Version::Two, Version::Two) | (Version::One, _) => None,
+    }
+}
+
+/// The same of a datagram. Such a member hears nothing of this station.
+fn older_in(own: Version, heard: &HeardDatagram) -> Option<Member>
+    ensures { result ≡ older_in own heard.now }
+{
+    match heard {
+        HeardDatagram::Taken(Some(said)) => older_by(own, said),
+        HeardDatagram::Taken(None) | HeardDatagram::Refused(_) | HeardDatagram::Aside(_) => None,
+    }
 }
 
 impl Journal {
@@ -30,7 +55,11 @@ impl Journal {
         if let HeardDatagram::Refused(refusal) = heard {
             self.told.hear_refusal(*refusal, now, log.err);
         }
-        note_heard(&mut self.keeper, heard, now);
+        let older = older_in(self.layout, heard);
+        if let Some(member) = older {
+            self.told.hear_older(member, log.err);
+        }
+        note_heard(&mut self.keeper, heard, older.is_some(), now);
         self.care.hear(heard, now, log);
     }
 

@@ -21,6 +21,7 @@ use plant_log::Told;
 use plant_status::{Keeper, StationId};
 use std::alloc::Global;
 use std::io::Write;
+use tape_frames::Version;
 
 /// What is known of what lies among the offers, and what is told and noted at a plant.
 #[derive(Drop)]
@@ -54,6 +55,8 @@ pub(crate) struct Manner {
     pub(crate) loudness: Loudness,
     /// Which station its status file tells of, where it has one.
     pub(crate) status: Option<StationId>,
+    /// The layout of its rows.
+    pub(crate) layout: Version,
 }
 
 /// What is kept in mind for the status file of a station, if it has one. Without memory for it no status is written.
@@ -74,12 +77,14 @@ impl Papers {
             renamed,
             loudness,
             status,
+            layout,
         } = manner;
         let journal = Journal {
             alloc,
             told: Told::new(alloc, loudness),
             care,
             keeper: keeper_of(alloc, status),
+            layout,
         };
         Papers {
             book: Book::over(alloc, renamed),

@@ -125,6 +125,7 @@ pub fn run_station<R: Settles, N: Wire + Drop, F: Folders + Drop, E: Write, S: S
         renamed: terms.renamed,
         loudness,
         status: terms.status,
+        layout: machine.station.rows().version(),
     };
     if machine.station.stopped() {
         return Err(Fault::of_step(StepRefusal::Stopped));

@@ -26,12 +26,21 @@ fn sender_of(heard: &HeardDatagram) -> Option<Member> {
     }
 }
 
-/// A datagram was taken in, at a moment.
-pub(crate) fn note_heard(keeper: &mut Option<Keeper>, heard: &HeardDatagram, now: u64) {
-    if let Some(keeper) = keeper
-        && let Some(member) = sender_of(heard)
-    {
+/// A datagram was taken in, at a moment; a packet shows whether its sender's rows are of layout 1, while those of this station are of layout 2.
+pub(crate) fn note_heard(
+    keeper: &mut Option<Keeper>,
+    heard: &HeardDatagram,
+    is_older: bool,
+    now: u64,
+) {
+    let Some(keeper) = keeper else {
+        return;
+    };
+    if let Some(member) = sender_of(heard) {
         keeper.hear(member, now);
+    }
+    if let HeardDatagram::Taken(Some(said)) = heard {
+        keeper.speak(said.sender, is_older);
     }
 }
 

@@ -55,10 +55,12 @@ trait JsonItem {
 impl JsonItem for HeardMember {
     fn value(&self, alloc: Global) -> Result<Value, AllocError> {
         let member = Leaf::Number(u32::from(self.member));
-        object(
-            alloc,
-            &[("member", member), ("heard", Leaf::Moment(self.at))],
-        )
+        let leaves = [
+            ("member", member),
+            ("heard", Leaf::Moment(self.at)),
+            ("older", Leaf::Truth(self.is_older)),
+        ];
+        object(alloc, &leaves)
     }
 }
 

@@ -1,7 +1,7 @@
 -- Each line is behind those before it.
 use Rattle.std.proofs.Common.{◌≡◌, ◌++◌, ℕ, List, append_assoc, string_bytes}
 use Rattle.std.specs.Prelude.{flat_map}
-use Rattle.plant_status.specs.Texts.{busy_line, end_text, head_text, heard_text, missing_line, offers_text, released_text}
+use Rattle.plant_status.specs.Texts.{busy_line, end_text, form_of, head_text, heard_text, missing_line, offers_text, released_text}
 use Rattle.plant_status.specs.declared.status.Status.{Status}
 use Rattle.plant_status.proofs.writing.push_lines.Goals as goal
 
@@ -29,11 +29,11 @@ returns c =
     (busy_line s.busy.items)
     (missing_line s.written s.missing)
     (offers_text s.offers s.unwritten)
-    (end_text s.written)
+    (end_text s.written (form_of s.members.items))
     c.in_ok-push_head.ensures
     (rw c.as_slice.ensures.value at c.in_ok-push_members.ensures)
     c.in_ok-push_released.ensures
     (rw c.as_slice-2.ensures.value at c.in_ok-push_busy.ensures)
     c.in_ok-push_missing.ensures
     c.in_ok-push_offers.ensures
-    c.in_ok-push_end.ensures
+    (rw c.as_slice-3.ensures.value at (rw c.form_of-form.ensures at c.in_ok-push_end.ensures))

@@ -27,7 +27,7 @@ use Rattle.process_days.proofs.GoingOn.{with_at-other}
 use Rattle.process_days.proofs.Storing.{Stored, has_settled, was_torn, had_stopped, what_stored}
 use Rattle.database_days.specs.Grouping.{GroupsHandOver, TookAGroup, WereSettling}
 use Rattle.database_days.specs.GroupSteps.{GroupsAreTaken, IsBetweenGroups, NoneWaits, TookSteps, no_step, one_more}
-use Rattle.process_days.specs.Restarting.{Leaves, between_calls, in_a_step, at_a_refusal, in_the_save, StartsOver, Continues, GroupsGoOn, UpgradesGoOn}
+use Rattle.database_days.specs.Restarting.{Leaves, between_calls, in_a_step, at_a_refusal, in_the_save, StartsOver, Continues, GroupsGoOn, UpgradesGoOn}
 
 never : {b : Bool} → b ≡ true → b ≡ false → ⊥
 never stops goes = cc

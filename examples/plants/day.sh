@@ -1,8 +1,9 @@
 #!/usr/bin/env bash
-# A day of three plants that stay up and work with folders: ten stories at three places, a plant that is killed and starts again, two stories under one
-# number, a withdrawal, a search, a file that is no offer, and a good end. docs/OPERATING.md says what an operator does; this does it.
+# A day of three sealed plants that stay up and work with folders: ten stories at three places, a plant that is killed and starts again, two stories
+# under one number, a withdrawal, a search, a file that is no offer, and a good end. `circuitd init` makes the plants, as those that lie beside this
+# script. docs/OPERATING.md says what an operator does; this does it.
 set -euo pipefail
-cd "$(dirname "$0")"
+cd "$(dirname "$0")/.."
 examples=$PWD
 circuitd=$PWD/../crates/circuitd/out/circuitd
 if [ ! -x "$circuitd" ]; then
@@ -13,20 +14,19 @@ fi
 work=$(mktemp -d)
 trap 'kill $(jobs -p) 2> /dev/null || true; rm -rf "$work"' EXIT
 pids=("" "" "" "")
+
+echo "The files of three plants are made, with one key."
+"$circuitd" init "$work/plants" --circuit 7 --all --new-key --table codes.toml --widths widths.toml \
+    --stations 127.0.0.1:7001,127.0.0.1:7002,127.0.0.1:7003 > "$work/made"
+cd "$work/plants"
 for member in 1 2 3; do
-    mkdir -p "$work/plant$member/offers" "$work/plant$member/releases"
-    cp codes.toml widths.toml "$work/plant$member"
-    # the folders stand before the list of stations, as a table of TOML goes on to the next; all that is handed over is renamed
-    awk '/^# where each member listens/ { print "[folders]\noffers = \"offers\"\nreleases = \"releases\"\nrenamed = true\n" } { print }' \
-        "station$member.toml" > "$work/plant$member/station.toml"
+    (cd "plant$member" && "$circuitd" check-config station.toml > /dev/null && "$circuitd" create station.toml | sed 's/^/    /')
 done
-cd "$work"
 
 # Starts a plant in its own folder; what it tells is added to a file of its own.
 start() {
     local member=$1
-    shift
-    (cd "plant$member" && exec "$circuitd" run station.toml "$@" 2>> told) &
+    (cd "plant$member" && exec "$circuitd" run station.toml 2>> told) &
     pids[member]=$!
 }
 
@@ -47,8 +47,8 @@ await() {
     exit 1
 }
 
-echo "Three plants start, each for the first time."
-for member in 1 2 3; do start "$member" --create --layout 2; done
+echo "They start, each for the first time."
+for member in 1 2 3; do start "$member"; done
 
 echo "Ten stories are handed over, at three places."
 for number in 1 2 3 4 5 6 7 8 9 10; do
@@ -99,11 +99,13 @@ sed 's/^/    /' plant2/told | tail -n 12
 
 kill -0 "${pids[1]}"
 rmdir plant1/offers/stop
+echo "How plant 2 stands, by its status:"
+(cd plant2 && "$circuitd" status station.toml) | sed 's/^/    /'
 echo "A file stop ends each plant."
 for member in 1 2 3; do
     hand_over "$member" empty stop
     wait "${pids[$member]}"
 done
-for member in 1 2 3; do "$circuitd" rows "plant$member/station$member.db" > "rows$member"; done
+for member in 1 2 3; do "$circuitd" rows "plant$member/station.db" > "rows$member"; done
 echo "Plant 3 saved:"
 sed 's/^/    /' rows3
