@@ -10,7 +10,7 @@ there is kept beside. The plant is killed (SIGKILL) at a moment of its own, 300 
 At the end, once all that waits has left the offers and the plant was told to stop: each `N.tape` among the releases, those of all folders that stood there,
 is the entry that the row file has under N, and each `N.galley` the galley of it; each `N.tape` in `sent` is that entry too; each file that was laid and not
 replaced lies in some folder still; and after one more start nothing is left in the folders that stand there under a name of the station's own
-but the two files that lie ready. Behind each kill `status` can read the status file.
+except the two files that lie ready, and the passage with its lock. Behind each kill `status` can read the status file.
 The status is 1 where anything is otherwise, and the folder stays.
 """
 import os
@@ -221,7 +221,7 @@ class Plant:
 
     def see_own_names(self):
         own = [os.path.join(where, name) for each in ('offers', 'releases') for where, folders, names in os.walk(self.path(each))
-               for name in folders + names if name.startswith('.') and not name.startswith('.released')]
+               for name in folders + names if name.startswith('.') and not name.startswith('.released') and name not in ('.circuitd', '.lock')]
         if len(own) > 2 or any(not name.startswith(self.path('releases')) for name in own):
             raise Wrong(f'left under names of its own: {own}')
 

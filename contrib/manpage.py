@@ -20,6 +20,7 @@ LINE = "The command line has a mistake, or asks for help."
 ROWS = "The row file is refused or can't be read, or a save failed: a second line tells why."
 SOCKET = "The socket failed: the address is none of this host's or is taken, or the network took nothing."
 MEMORY = "Out of memory."
+BUSY = "Another process works with a folder of the plant: try again later."
 PLAIN = {0: DONE, 1: FAULT, 2: LINE, 5: MEMORY}
 OVER_ROWS = PLAIN | {3: ROWS}
 STATIONS = OVER_ROWS | {4: SOCKET}
@@ -37,7 +38,7 @@ ENDS = {
     "create": OVER_ROWS,
     "check-config": PLAIN | {0: "No fault was found.", 1: "A fault was found."},
     "serve": STATIONS,
-    "run": STATIONS | {0: "The station was ended by a file stop."},
+    "run": STATIONS | {0: "The station was ended by a file stop.", 6: BUSY},
     "stop": PLAIN | {0: "The station has ended, or none runs.", 1: "The configuration or a folder has a fault, or the station has not ended in 30 seconds."},
     "status": PLAIN | {0: "The station is well.", 1: "It is not well.", 3: "Nothing can be told of it."},
     "rehearse": PLAIN,
@@ -48,7 +49,10 @@ ENDS = {
 # The files that a command works with. Paths in a configuration begin in the folder that the command is started in.
 TABLES = [("codes.toml, widths.toml", "the code table and the widths")]
 CONFIG = [("station.toml", "the configuration of the station, CONFIG")]
-STORE = [("station.db, station.db-wal", "the row file and its log, which the configuration names: never remove, copy or put back one of them")]
+STORE = [
+    ("station.db, station.db-wal", "the row file and its log, which the configuration names: never remove, copy or put back one of them"),
+    ("station.db.kept, station.db.kept-wal", "what the two held, if they were replaced while a station was up: no command opens or makes the row file beside them"),
+]
 KEY = [("circuit.key", "the key of the circuit, where the configuration names it; nobody but its owner may read it")]
 FOLDERS = [
     ("offers/", "what is handed over; offers/sent, offers/lost, offers/refused and offers/done are made in it"),
@@ -187,7 +191,7 @@ def page_of_all(program, version):
         ".SH COMMANDS",
     ]
     out += [f".TP\n.BR circuitd\\-{escaped(name)} (1)\n{escaped(text)}" for name, text in commands_of(program)]
-    out += statuses(STATIONS)
+    out += statuses(STATIONS | {6: BUSY})
     out.append(".PP\nThe commands status, stop and check\\-config have meanings of their own.")
     out += files(ALL_FILES)
     pages = ", ".join(f"circuitd\\-{escaped(name)}(1)" for name, _ in commands_of(program))

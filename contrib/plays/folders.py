@@ -89,7 +89,7 @@ def own_names(at):
     """What lies under names of the station's own, in whatever folder."""
     found = []
     for folder, folders, files in os.walk(at.folder):
-        found += [os.path.join(folder, name) for name in folders + files if name.startswith(OWN)]
+        found += [os.path.join(folder, name) for name in folders + files if name.startswith(OWN) and name != '.circuitd']
     return found
 
 
@@ -181,9 +181,9 @@ def two_plants_over_one_folder(at):
     at.port = stage.free_port()
     at.plant('second.toml', 'second.db', 'offers2', 'releases')
     at.plant('third.toml', 'third.db', 'offers', 'releases3')
-    at.ends('run second.toml', 1, '', 'folders: another process works with releases\n')
-    at.ends('run third.toml', 1, '', 'folders: another process works with offers\n')
-    at.ends(RUN, 1, '', 'folders: another process works with offers\n')
+    at.ends('run second.toml', 6, '', 'folders: another process works with releases\n')
+    at.ends('run third.toml', 6, '', 'folders: another process works with offers\n')
+    at.ends(RUN, 6, '', 'folders: another process works with offers\n')
     first.kill()
     first.wait()
     up(at, 'run second.toml')

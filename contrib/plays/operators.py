@@ -54,7 +54,8 @@ def what_is_at_fault(at):
             'fault: folders: offers and releases are one folder\n')
     changed(at, 'three.toml', ('"offers"', '"nowhere"'), ('"releases"', '"codes.toml"'))
     at.ends('check-config three.toml', 1, PLACES.format(port=at.port) + 'fault: folders: cannot read offers: it is not there\n'
-            'fault: folders: cannot read releases: it is no folder\n')
+            'fault: folders: cannot read releases: it is no folder\n'
+            'fault: folders: releases is the table\n')
     changed(at, 'four.toml', ('circuit = 7', 'circuit = 70000'))
     at.ends('check-config four.toml', 1, 'fault: config: out of range circuit\n')
     changed(at, 'five.toml', ('circuit = 7', 'circuit = 70000'), ('member = 1\ntable', 'member = 2\ntables'), ('"widths.toml"', '3'),

@@ -311,9 +311,10 @@ def other_files(at):
         at.ends(['upgrade', name], 3, '', told)
         if told != MISSING:
             at.configure('other.toml', name)
-            at.ends('serve other.toml --turns 1', 3, '', told)
-            at.ends('serve other.toml --turns 1 --create', 3, '', told)
-            at.ends('create other.toml', 3, '', told)
+            status, told = (1, 'folders: the row file is the table\n') if name in ('codes.toml', 'table.db') else (3, told)
+            at.ends('serve other.toml --turns 1', status, '', told)
+            at.ends('serve other.toml --turns 1 --create', status, '', told)
+            at.ends('create other.toml', status, '', told)
             os.remove(at.path('other.toml'))
     stage.wants(at.seen() == before, 'something has changed')
     for name in ('file:rows.db', ':memory:', 'no_folder/rows.db'):

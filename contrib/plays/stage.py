@@ -139,7 +139,7 @@ class Stage:
     def stop(self, config):
         """The command `stop` ends a station well, at last where that takes more than the 30 seconds for which it waits."""
         ran = self.run(f'stop {config}')
-        while ran == (1, '', 'stop: the station has not ended within 30 seconds\n') and any(process.poll() is None for process in self.started):
+        while ran[0] == 1 and ran[2].startswith('stop: the station has not ended within 30 seconds') and any(process.poll() is None for process in self.started):
             ran = self.run(f'stop {config}')
         if ran != (0, '', ''):
             raise Wrong(f'circuitd stop {config} ended with {ran}')

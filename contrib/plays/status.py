@@ -17,6 +17,8 @@ ALONE = (rf'station 1 of 1 circuit 7 layout 2 since {MOMENT}\n'
          r'missing nothing\n'
          r'offers \d+ waiting, (?P<lost>\d+) lost, (?P<refused>\d+) refused; releases 0 waiting to be written\n'
          rf'written {MOMENT}, form 1\n')
+# what `status` tells of a plant that is up
+HELD = r'process \d+ holds offers\n'
 
 
 def with_status(at, name='plant.toml', path='status.txt', rows='station.db'):
@@ -95,7 +97,7 @@ def well_and_not(at):
     holds(at, ALONE)
     text = at.read('status.txt').decode()
     status, out, err = at.run('status plant.toml')
-    stage.wants((status, err) == (0, '') and re.fullmatch(ALONE + 'well\n', out), f'{status} {out} {err}')
+    stage.wants((status, err) == (0, '') and re.fullmatch(ALONE + HELD + 'well\n', out), f'{status} {out} {err}')
     status, out, err = at.run('status plant.toml --json')
     found = json.loads(out)
     stage.wants((status, err) == (0, ''), f'{status} {err}')
@@ -158,7 +160,7 @@ def watched(at):
         if select.select([ours], [], [], 0.1)[0]:
             drawn += os.read(ours, 65536)
         whole = drawn.decode().replace('\r\n', '\n').split('\x1b[H\x1b[2J')[1:-1]
-        return len(whole) >= count and re.fullmatch(ALONE + 'well\n', whole[-1]) and f'released {released}\n' in whole[-1]
+        return len(whole) >= count and re.fullmatch(ALONE + HELD + 'well\n', whole[-1]) and f'released {released}\n' in whole[-1]
 
     def ended():
         """Whether it has ended; what it still draws is taken from the terminal, and its end is an error there."""

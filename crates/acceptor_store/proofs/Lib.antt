@@ -12,6 +12,7 @@ pub mod GroupLemmas
 pub mod IdentityLemmas
 pub mod LayoutLemmas
 pub mod ListLemmas
+pub mod MakingLemmas
 pub mod OpeningLemmas
 pub mod ReadingLemmas
 pub mod RestLemmas

@@ -27,3 +27,9 @@ rows_fault faults.Unopened = Store
 rows_fault faults.DiskFull = Store
 rows_fault faults.DiskFailed = Store
 rows_fault (faults.Rows fault) = fault
+
+-- a fault that tables are not made for: the disk is full, or the rows are refused
+abbrev pub IsOfMaking : FileFault → Type 0
+IsOfMaking faults.DiskFull = Unit {0}
+IsOfMaking (faults.Rows fault) = Unit {0}
+IsOfMaking _ = ⊥

@@ -1,5 +1,5 @@
 -- Rows that were taken up from a database, or made in one: `was` is the state of its connection before.
-use Rattle.std.specs.Prelude.{◌≡◌, ◌≤◌, Option, Result, IfOk, IfErr, IsTrue, true, false}
+use Rattle.std.specs.Prelude.{◌≡◌, ◌≤◌, Option, Result, Err, IfOk, IfErr, IsTrue, true, false}
 use Rattle.sqlite_trees.specs.declared.store.Store.{Ghosts}
 use Rattle.sqlite_trees.specs.Tree.{Trees}
 use Rattle.sqlite_trees.specs.View.{doubt}
@@ -15,6 +15,7 @@ use Rattle.rows_saved.specs.declared.fault.RowsFault.{RowsFault}
 use Rattle.rows_saved.specs.declared.fault.RowsFault.TheVariants.{Store}
 use Rattle.acceptor_store.specs.Columns.{saved_in}
 use Rattle.acceptor_store.specs.FoundTables.{has_any, has_none, has_tables}
+use Rattle.acceptor_store.specs.Faults.{rows_fault, IsOfMaking}
 use Rattle.acceptor_store.specs.Layouts.{made_in}
 use Rattle.acceptor_store.specs.StationRow.{IsStationOf}
 use Rattle.acceptor_store.specs.declared.rows_at_path.Wanted.{Wanted}
@@ -89,9 +90,17 @@ module _ {S : Type 0} (g : Ghosts S) where
     pub unchanged : HasWhatItHad (state g was) (state g now)
     pub crash : MakesAllOrNothing (made_in made_at) i (state g was) (state g now)
 
+  -- tables are made; or that is refused, and nothing is changed: where one of them was there, the database comes back as it was
+  pub record MakesRows (i : Identity) (made_at : Version) (was : Held S) (result : Result (SqliteOf S) (FileFault × Held S)) : Type 0 where
+    pub made : IfOk result (IsMadeFor g i made_at (state g was))
+    pub over : IsTrue (has_any (state g was).now.schema) → result ≡ Err (faults.Rows Store, was)
+    pub refused : IfErr result (λ e. RefusesToMake i made_at (rows_fault e.0) was e.1)
+    pub making : IfErr result (λ e. IsOfMaking e.0)
+
   -- why tables are not made: they are all there, and the database comes back as it was, or that is refused
   abbrev pub TellsWhyUnmade : Identity → Version → FileFault → Held S → Held S → Type 0
   TellsWhyUnmade i made_at faults.Made was now = (has_tables (state g was).now.schema ≡ true) × (now ≡ was)
+  TellsWhyUnmade i made_at faults.DiskFull was now = (has_tables (state g was).now.schema ≡ false) × RefusesToMake i made_at Store was now
   TellsWhyUnmade i made_at (faults.Rows fault) was now = (has_tables (state g was).now.schema ≡ false) × RefusesToMake i made_at fault was now
   TellsWhyUnmade i made_at _ was now = ⊥
 

@@ -1,8 +1,10 @@
 //! Why a file of the host gives no rows.
 
 ghost use Rattle.std.specs.Prelude.{◌≡◌, true, false, IfErr, OnOk};
+ghost use Rattle.sqlite.specs.declared.error.Error.TheVariants.{SqliteFailure};
+ghost use Rattle.sqlite.specs.declared.error.ErrorCode.TheVariants as codes;
 ghost use Rattle.acceptor_store.specs.FoundTables.{has_tables};
-ghost use Rattle.acceptor_store.specs.Faults.{file_fault, rows_fault};
+ghost use Rattle.acceptor_store.specs.Faults.{file_fault, rows_fault, IsOfMaking};
 ghost use Rattle.acceptor_store.specs.Sqlite.{IsRefusal};
 
 use crate::found_tables::has_tables;
@@ -63,6 +65,19 @@ pub(crate) fn file_fault_of(error: &Error) -> FileFault
         Error::SqliteFailure(ErrorCode::CannotOpen) => FileFault::Unopened,
         Error::SqliteFailure(ErrorCode::DiskFull) => FileFault::DiskFull,
         _ => FileFault::DiskFailed,
+    }
+}
+
+/// What a statement is refused for by which tables are made.
+pub(crate) fn making_fault_of(error: &Error) -> FileFault
+    ensures making { IsOfMaking result }
+    ensures rows { IsRefusal (rows_fault result) }
+    ensures full { error.now ≡ SqliteFailure codes.DiskFull → result ≡ FileFault.DiskFull }
+{
+    match error {
+        Error::SqliteFailure(ErrorCode::OutOfMemory) => FileFault::Rows(RowsFault::OutOfMemory),
+        Error::SqliteFailure(ErrorCode::DiskFull) => FileFault::DiskFull,
+        _ => FileFault::Rows(RowsFault::Store),
     }
 }
 

@@ -52,6 +52,7 @@ fn open_rows<S: Alter + Drop>(
 }
 
 /// Makes the tables of a station in a database, as [`SqliteRows::create`] does, and tells what is the matter where they are not made.
+#[tactic(auto, using(crate::proofs::MakingLemmas::unmade_by))]
 fn make_rows<S: Alter + Drop>(
     alloc: Global,
     conn: Connection<S>,
@@ -65,9 +66,9 @@ fn make_rows<S: Alter + Drop>(
         Ok(()) => {}
         Err(fault) => return Err((fault, conn)),
     }
-    match SqliteRows::create(alloc, conn, identity, version) {
+    match SqliteRows::make(alloc, conn, identity, version) {
         Ok(rows) => Ok(rows),
-        Err((fault, conn)) => Err((FileFault::Rows(fault), conn)),
+        Err((fault, conn)) => Err((fault, conn)),
     }
 }
 

@@ -14,6 +14,7 @@ ghost use Rattle.acceptor_store.specs.Reading.{SeesAll, SeesFront};
 ghost use Rattle.rows_saved.specs.Groups.{AreRowsOf, PutsAll};
 ghost use Rattle.rows_saved.specs.Saved.{SameRows, WithRow, HasPromise, RowFits, Rises};
 
+use crate::faults::{FileFault, making_fault_of};
 use crate::found_tables::has_any;
 use crate::group::save_all;
 use crate::layout::{made_in, upgraded_from, version_in};
@@ -103,7 +104,7 @@ fn is_empty(schema: &Schema) -> bool
 
 impl<S: Alter + Drop> SqliteRows<S> {
     ghost use Rattle.acceptor_store.specs.Sqlite.{IsAtRest, IsKept, IsOpen, IsOurs, Stands, StemsFrom, saved_of};
-    ghost use Rattle.acceptor_store.specs.Taking.{IsMadeFor, OpensAsStored, RefusesStored, RefusesToMake};
+    ghost use Rattle.acceptor_store.specs.Taking.{IsMadeFor, MakesRows, OpensAsStored, RefusesStored, RefusesToMake};
     ghost use Rattle.sqlite.specs.Held.{state};
 
     /// Makes the two tables of this version's layout in one transaction: the empty map of this station.
@@ -113,7 +114,7 @@ impl<S: Alter + Drop> SqliteRows<S> {
     /// database as it was, or with both tables and the identity.
     pub fn create(
         alloc: Global,
-        mut conn: Connection<S>,
+        conn: Connection<S>,
         identity: Identity,
         version: Version,
     ) -> Result<SqliteRows<S>, (RowsFault, Connection<S>)>
@@ -126,19 +127,35 @@ impl<S: Alter + Drop> SqliteRows<S> {
         // A refusal changes nothing.
         ensures refused { IfErr result (λ e. RefusesToMake S.Store identity (version_of version) e.0 conn e.1) }
     {
+        match SqliteRows::make(alloc, conn, identity, version) {
+            Ok(rows) => Ok(rows),
+            Err((fault, conn)) => Err((fault.rows_fault(), conn)),
+        }
+    }
+
+    /// The tables are made as by [`SqliteRows::create`], and a disk that has no room for them is told as such.
+    pub(crate) fn make(
+        alloc: Global,
+        mut conn: Connection<S>,
+        station: Identity,
+        version: Version,
+    ) -> Result<SqliteRows<S>, (FileFault, Connection<S>)>
+        requires { IsIdentity station }
+        ensures { MakesRows S.Store station (version_of version) conn result }
+    {
         if !conn.is_autocommit() || has_any(conn.schema()) {
-            return Err((RowsFault::Store, conn));
+            return Err((FileFault::Rows(RowsFault::Store), conn));
         }
         let alone = is_empty(conn.schema());
-        if let Err(error) = make_tables(&mut conn, identity, version) {
-            return Err((fault_of(&error), conn));
+        if let Err(error) = make_tables(&mut conn, station, version) {
+            return Err((making_fault_of(&error), conn));
         }
         // What the database lists is known once it is read.
         let _tables = conn.schema();
         let layout = made_in(version);
         Ok(SqliteRows {
             conn,
-            identity,
+            identity: station,
             alone,
             found: None,
             was: layout,

@@ -5,12 +5,13 @@ use Rattle.rows_saved.specs.declared.fault.RowsFault.TheVariants as rows
 use Rattle.refusals.specs.declared.refusal.StepRefusal.{StepRefusal}
 use Rattle.refusals.specs.declared.refusal.StepRefusal.TheVariants as steps
 use Rattle.command_ends.specs.declared.end.End.{End}
-use Rattle.command_ends.specs.declared.end.End.TheVariants.{Input, Usage, Store, Memory}
+use Rattle.command_ends.specs.declared.end.End.TheVariants.{Input, Usage, Store, Memory, Busy}
 use Rattle.command_ends.specs.declared.end.End.TheVariants as ends
 use Rattle.command_ends.specs.declared.fault.Fault.{Fault}
 use Rattle.command_ends.specs.declared.fault.Fault.TheVariants as faults
 
--- want of memory, the store of rows, the socket and the command line have ends of their own; any other fault is one of an input
+-- want of memory, the store of rows, the socket, the command line and a folder that another process works with have ends of their own; any other
+-- fault is one of an input
 abbrev pub end_of : Fault → End
 end_of (faults.CannotRead path) = Input
 end_of faults.CannotWrite = Input
@@ -31,7 +32,10 @@ end_of (faults.Key what) = Input
 end_of (faults.KeyUnread path) = Input
 end_of faults.NoFolders = Input
 end_of (faults.Offers what why) = Input
+end_of (faults.Misplaced what how which) = Input
+end_of (faults.InUse folder) = Busy
 end_of (faults.NotEnded seconds) = Input
+end_of (faults.StillHeld seconds process) = Input
 end_of (faults.Socket what) = ends.Socket
 end_of (faults.SendFailed member) = ends.Socket
 end_of (faults.Refused refusal) = Input
@@ -76,6 +80,7 @@ IsOfInput Usage = ⊥
 IsOfInput Store = ⊥
 IsOfInput ends.Socket = ⊥
 IsOfInput Memory = Unit {0}
+IsOfInput Busy = ⊥
 
 -- one that also the store of rows can end
 abbrev pub IsOfRows : End → Type 0
@@ -85,6 +90,7 @@ IsOfRows Usage = ⊥
 IsOfRows Store = Unit {0}
 IsOfRows ends.Socket = ⊥
 IsOfRows Memory = Unit {0}
+IsOfRows Busy = ⊥
 
 -- a command line that is none, or want of memory
 abbrev pub IsOfUsage : End → Type 0

@@ -11,3 +11,4 @@ status_of ends.Usage = 2
 status_of ends.Store = 3
 status_of ends.Socket = 4
 status_of ends.Memory = 5
+status_of ends.Busy = 6

@@ -22,6 +22,8 @@ pub enum End {
     Socket,
     /// Memory was refused.
     Memory,
+    /// Another process works with a folder: later it may be free.
+    Busy,
 }
 
 impl End {
@@ -43,6 +45,7 @@ impl End {
             End::Store => 3,
             End::Socket => 4,
             End::Memory => 5,
+            End::Busy => 6,
         }
     }
 

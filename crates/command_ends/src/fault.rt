@@ -89,9 +89,25 @@ pub enum Fault<'a> {
         what: &'static str,
         why: &'static str,
     },
-    /// A station that is to end has not ended within so many seconds.
-    #[error("stop: the station has not ended within {0} seconds")]
+    /// A file or a folder of the station stands where it may not, as `status is the table` or `offers holds the key`.
+    #[error("folders: {what} {how} {which}")]
+    Misplaced {
+        what: &'static str,
+        how: &'static str,
+        which: &'static str,
+    },
+    /// Another process works with this folder of the station.
+    #[error("folders: another process works with {0}")]
+    InUse(&'static str),
+    /// A station that is to end has not ended within so many seconds, and it can't be told which process it is.
+    #[error("stop: the station has not ended within {0} seconds; the host does not list who holds offers")]
     NotEnded(u32),
+    /// Nor has one that is this process.
+    #[error("stop: the station has not ended within {seconds} seconds: process {process} holds offers")]
+    StillHeld {
+        seconds: u32,
+        process: u32,
+    },
     /// The socket failed.
     #[error("socket: {0}")]
     Socket(&'static str),
@@ -255,6 +271,7 @@ impl<'a> CommandFault for Fault<'a> {
             Fault::Rows(_) | Fault::RowsFile(..) => End::Store,
             Fault::Socket(_) | Fault::SendFailed(_) => End::Socket,
             Fault::Usage(_) | Fault::Unpaired | Fault::LayoutAlone => End::Usage,
+            Fault::InUse(_) => End::Busy,
             _ => End::Input,
         }
     }

@@ -46,5 +46,3 @@ StartsAsked _ Did end = Unit {0}
 abbrev pub end_in : PlantFault → End
 end_in (plants.Other fault) = end_of fault
 end_in (plants.Limited bytes) = Input
-end_in (plants.Misplaced reason) = Input
-end_in (plants.StatusMisplaced reason) = Input

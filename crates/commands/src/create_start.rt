@@ -4,6 +4,7 @@ ghost use Rattle.std.specs.Prelude.{◌≡◌, IfOk, IfErr, OnOk, string_bytes};
 ghost use Rattle.std.specs.Io.KnownBytes.{Appends};
 ghost use Rattle.arguments.specs.declared.asked.Asked.TheVariants.{Create};
 ghost use Rattle.command_ends.specs.Ends.{end_of, IsOfInput, IsOfRows};
+ghost use Rattle.command_ends.specs.Giving.{Gives};
 ghost use Rattle.command_ends.specs.declared.end.End.TheVariants.{Store};
 ghost use Rattle.configuration.specs.Stations.{IsCircuit};
 ghost use Rattle.rows_files.specs.Telling.{KeepsCause};
@@ -16,6 +17,7 @@ use crate::start_up::{Ground, make_rows};
 use command_ends::{End, Fault, end_with};
 use command_line::CreatePlan;
 use configuration::{Config, ConfigInput, NoLookUp, read_config};
+use plant_commands::{Placed, test_places};
 use rows_files::{NewRows, RowFiles};
 use std::alloc::{AllocError, Global};
 use std::io::Write;
@@ -69,6 +71,14 @@ fn config_at<'a>(host: &ThisHost<'_>, path: &'a str) -> Result<Config, Fault<'a>
     read_config(host.rt.alloc(), &NoLookUp, file)
 }
 
+/// Refuses a configuration whose files do not stand where they may. That is no fault of the rows.
+fn test_placed<'a>(host: &ThisHost<'_>, path: &str, config: &Config) -> Result<Placed, Fault<'a>>
+    ensures given { GivesBesideRows result (λ _. Unit {0}) }
+    ensures stands { Gives result (λ _. Unit {0}) }
+{
+    test_places(host.rt, path, config)
+}
+
 /// Makes the row file, up to the first fault.
 fn created<'a, F: RowFiles, W: Write>(
     ground: &Ground<'_, ThisHost<'_>, F>,
@@ -80,14 +90,15 @@ fn created<'a, F: RowFiles, W: Write>(
     ensures refused { IfErr result (KeepsCause (F.refuses ground.now.row_files.now)) }
 {
     let config = config_at(ground.host, plan.config)?;
-    let new = make_rows(ground, &config, plan.layout)?;
+    let placed = test_placed(ground.host, plan.config, &config)?;
+    let new = make_rows(ground, &config, plan.layout, placed)?;
     put_made(ground.rt.alloc(), new, out)
 }
 
 /// Makes the row file that the configuration at a path names, and writes a line that says what was made, as
 /// `made station.db: station 2 of 3 circuit 7 layout 2`.
 ///
-/// The first fault ends it: of the configuration, of the row file, of the output. At the last the file is made.
+/// The first fault ends it: of the configuration, of where its files stand, of the row file, of the output. At the last the file is made.
 pub fn create<F: RowFiles, W: Write, E: Write>(
     ground: &Ground<'_, ThisHost<'_>, F>,
     plan: CreatePlan<'_>,

@@ -23,7 +23,6 @@ mod run_start;
 mod serve_start;
 mod start_up;
 mod status_file;
-mod status_place;
 mod story;
 mod tapes;
 

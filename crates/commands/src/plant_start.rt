@@ -1,16 +1,16 @@
 //! Whether a plant can be run where it lies, and its folders, which are held from then on.
 
-ghost use Rattle.std.specs.Prelude.{◌≡◌};
+ghost use Rattle.std.specs.Prelude.{◌≡◌, ◌⊎◌, IfErr};
+ghost use Rattle.command_ends.specs.declared.end.End.TheVariants.{Busy};
 ghost use Rattle.command_ends.specs.declared.fault.Fault.TheVariants.{OutOfMemory};
 ghost use Rattle.commands.specs.Ends.{end_in};
 ghost use Rattle.commands.specs.declared.plant_start.PlantFault.TheVariants.{Other};
 
-use crate::status_place::why_no_status;
 use command_ends::{CommandFault, End, Fault};
 use configuration::{Config, WorkFolders};
-use host_folders::{HostFolders, Misplaced, PlantPaths, why_misplaced};
+use host_folders::HostFolders;
 use host_process::file_limit;
-use plant_commands::MisplacedText;
+use plant_commands::Placed;
 use std::alloc::AllocError;
 use std::fmt;
 
@@ -21,10 +21,6 @@ pub(crate) enum PlantFault<'a> {
     Other(Fault<'a>),
     /// Files of this process may not have more than so many bytes.
     Limited(u64),
-    /// A file or a folder lies where it may not, or another process works with a folder.
-    Misplaced(Misplaced),
-    /// So does the status file.
-    StatusMisplaced(&'static str),
 }
 
 impl<'a> From<Fault<'a>> for PlantFault<'a> {
@@ -51,8 +47,6 @@ impl<'a> fmt::Display for PlantFault<'a> {
             PlantFault::Limited(limit) => {
                 write!(f, "limit: no file may have more than {limit} bytes")
             }
-            PlantFault::Misplaced(reason) => write!(f, "{}", MisplacedText(*reason)),
-            PlantFault::StatusMisplaced(reason) => write!(f, "folders: {reason}"),
         }
     }
 }
@@ -63,7 +57,7 @@ impl<'a> CommandFault for PlantFault<'a> {
     fn end(&self) -> End {
         match self {
             PlantFault::Other(fault) => fault.end(),
-            _ => End::Input,
+            PlantFault::Limited(_) => End::Input,
         }
     }
 }
@@ -78,11 +72,13 @@ pub(crate) struct OpenPlant<'r> {
     pub(crate) status: Option<String>,
 }
 
-/// The folders at these paths, held.
+/// The folders at these paths, held. Where another process works with one it is tried again later, so that end is one of its own.
 fn open_folders<'r, 'f>(
     rt: &'r HostRuntime,
     folders: &WorkFolders,
-) -> Result<OpenPlant<'r>, PlantFault<'f>> {
+) -> Result<OpenPlant<'r>, PlantFault<'f>>
+    ensures held { IfErr result (λ fault. (fault ≡ Other OutOfMemory) ⊎ (end_in fault ≡ Busy)) }
+{
     let offers = folders.offers.clone()?;
     let releases = folders.releases.clone()?;
     let status = match &folders.status {
@@ -96,17 +92,17 @@ fn open_folders<'r, 'f>(
             renamed: folders.renamed,
             status,
         }),
-        Err(reason) => Err(PlantFault::Misplaced(reason)),
+        Err(holder) => Err(PlantFault::Other(Fault::InUse(holder.word()))),
     }
 }
 
 /// The folders of a plant, if the configuration that was read at this path names some. They are held from then on, until they are let go.
 ///
-/// It is refused where files of this process may not grow, where a file of the station lies among its offers, where both
-/// folders are one or one is a place of the other, where its status file lies among its offers or would replace another of its files, and where another process works with one.
+/// It is refused where files of this process may not grow, and where another process works with a folder. Only whoever has looked where the files stand
+/// can call it: what lies in the passage is moved then.
 pub(crate) fn open_plant<'r, 'f>(
     rt: &'r HostRuntime,
-    path: &str,
+    _placed: Placed,
     config: &Config,
 ) -> Result<Option<OpenPlant<'r>>, PlantFault<'f>> {
     if let Some(limit) = file_limit() {
@@ -115,21 +111,5 @@ pub(crate) fn open_plant<'r, 'f>(
     let Some(folders) = &config.folders else {
         return Ok(None);
     };
-    let paths = PlantPaths {
-        configuration: path,
-        table: &config.table,
-        widths: &config.widths,
-        rows: &config.rows,
-        offers: &folders.offers,
-        releases: &folders.releases,
-    };
-    if let Some(reason) = why_misplaced(rt, &paths) {
-        return Err(PlantFault::Misplaced(reason));
-    }
-    if let Some(status) = &folders.status
-        && let Some(reason) = why_no_status(rt, &paths, status.as_str())
-    {
-        return Err(PlantFault::StatusMisplaced(reason));
-    }
     Ok(Some(open_folders(rt, folders)?))
 }

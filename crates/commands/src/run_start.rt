@@ -25,6 +25,7 @@ use folders::{Folders, NoFolders};
 use gone_out::{Known, Origin};
 use host_process::{Manager, TimedLines};
 use log_terms::Loudness;
+use plant_commands::{owner_of, test_places};
 use plant_status::StationId;
 use rows_files::{RefusedRows, RowFiles, close_rows};
 use rows_saved::{Grouped, Rows};
@@ -99,17 +100,23 @@ fn id_of<R: Rows>(own: &Origin, station: &Station<R>) -> StationId {
     }
 }
 
-/// The status file of a plant, if it has one, and who wants to be told what it says.
+/// The status file of a plant, if it has one, which no other station replaces, and who wants to be told what it says.
 fn status_of<'r>(
     rt: &'r HostRuntime,
     plant: &mut Option<OpenPlant<'_>>,
+    owner: String,
     manager: Option<Manager>,
 ) -> HostStatus<'r> {
     let path = match plant {
         Some(plant) => plant.status.take(),
         None => None,
     };
-    HostStatus { rt, path, manager }
+    HostStatus {
+        rt,
+        path,
+        manager,
+        owner,
+    }
 }
 
 /// Where the station of a configuration listens.
@@ -176,9 +183,10 @@ fn run_from<'a, F: RowFiles, E: Write>(
     if loudness != Loudness::Faults {
         tell_first(id, address_of(config).as_ref(), saved_of(&known), err);
     }
+    let owner = owner_of(alloc, config)?;
     let manager = Manager::of(rt);
     tell_ready(alloc, &manager, id);
-    let file = status_of(rt, &mut plant, manager);
+    let file = status_of(rt, &mut plant, owner, manager);
     let terms = Terms {
         status: file.path.is_some().then_some(id),
         file,
@@ -224,9 +232,11 @@ fn run_at<'a, F: RowFiles, E: Write>(
 {
     let rt = ground.rt;
     let keys = keys_of(rt, config)?;
-    let plant = open_plant(rt, plan.config, config)?;
+    let placed = test_places(rt, plan.config, config)?;
+    let plant = open_plant(rt, placed, config)?;
     let launch = Launch {
         config,
+        placed,
         keys,
         create: plan.create,
         offer: None,

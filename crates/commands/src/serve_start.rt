@@ -13,6 +13,7 @@ use command_ends::{End, Fault, end_with};
 use command_line::Plan;
 use configuration::{Config, ConfigInput, Resolver, read_config};
 use driver::Machine;
+use plant_commands::test_places;
 use rows_files::{RowFiles, close_rows};
 use serve_command::{ServeTask, serve_run};
 use std::io::Write;
@@ -38,6 +39,7 @@ fn serve_from<'a, F: RowFiles, W: Write, E: Write>(
     let rt = ground.rt;
     let launch = Launch {
         config,
+        placed: test_places(rt, plan.config, config)?,
         keys: keys_of(rt, config)?,
         create: plan.create,
         offer: plan.offer,
@@ -68,8 +70,8 @@ fn serve_from<'a, F: RowFiles, W: Write, E: Write>(
 
 /// Serves the station of a configuration as the plan asks, with its rows saved in one of the files.
 ///
-/// What it starts from is looked for in this order, and the first fault ends it: the configuration, the file of keys, the code table,
-/// the widths, the tape, the saved rows, the socket. After a good end the rows are closed.
+/// What it starts from is looked for in this order, and the first fault ends it: the configuration, where its files stand, the file of keys,
+/// the code table, the widths, the tape, the saved rows, the socket. After a good end the rows are closed.
 pub fn serve<F: RowFiles, W: Write, E: Write>(
     ground: &Ground<'_, ThisHost<'_>, F>,
     plan: Plan<'_>,

@@ -18,6 +18,7 @@ use command_ends::Fault;
 use command_line::TapeOffer;
 use configuration::Config;
 use line_check::Setting;
+use plant_commands::Placed;
 use rows_files::{NewRows, RefusedRows, RowFiles, create_rows};
 use rows_saved::{Grouped, Identity, Rows};
 use seals::Keys;
@@ -51,6 +52,8 @@ pub struct Ground<'a, H: Host, F: RowFiles> {
 #[derive(Drop)]
 pub struct Launch<'a> {
     pub config: &'a Config,
+    /// That its files stand where they may.
+    pub placed: Placed,
     /// The keys of its circuit, where its wire is sealed.
     pub keys: Option<Keys>,
     /// The version that its saved rows are made in, where they are made.
@@ -108,13 +111,14 @@ fn rows_of<H: Host, F: RowFiles>(
 }
 
 /// Makes the row file that a configuration names, for its station and in the layout for rows of this version, and tells what was
-/// made. Only whoever was asked to make one may call it.
+/// made. Only whoever was asked to make one may call it, and has looked where its files stand.
 ///
 /// It is refused as [`RowFiles::make`] is.
 pub(crate) fn make_rows<'a, H: Host, F: RowFiles>(
     ground: &Ground<'_, H, F>,
     config: &'a Config,
     version: Version,
+    _placed: Placed,
 ) -> Result<NewRows<'a>, RefusedRows>
     requires circuit { IsCircuit config.now.member config.now.stations.items }
     requires asked { F.may_make ground.now.row_files.now }
@@ -230,6 +234,7 @@ pub fn start<'a, H: Host, F: RowFiles>(
 {
     let Launch {
         config,
+        placed: _,
         keys,
         create,
         offer,

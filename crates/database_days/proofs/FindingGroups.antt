@@ -60,27 +60,27 @@ module _ (old now : Saved) where
     ]))
   ]
 
-module _ {D : Type 0} {g : disk.Ghosts D} (x : Sight (GroupedOf (SqliteOf (FileStore D g))))
-    (saved : (s : GroupedOf (SqliteOf (FileStore D g))) → x.saved s ≡ with_all (saved_of over_files s.rows) s.waits)
-    (version : (s : GroupedOf (SqliteOf (FileStore D g))) → x.version s ≡ rows_version s.rows) where
+module _ {D : Type 0} {g : disk.Ghosts D} {R : Type 0} (inside : R → SqliteOf (FileStore D g)) (x : Sight (GroupedOf R))
+    (saved : (s : GroupedOf R) → x.saved s ≡ with_all (saved_of over_files (inside s.rows)) s.waits)
+    (version : (s : GroupedOf R) → x.version s ≡ rows_version (inside s.rows)) where
   -- a settled station has the rows inside
-  settled_rows : (last : Station (GroupedOf (SqliteOf (FileStore D g)))) (n : ℕ) → IsSettled last → x.saved last.rows n ≡ saved_of over_files last.rows.rows n
-  settled_rows last n s = ap (λ (m : Saved). m n) (saved last.rows) ∙ ap (λ w. with_all (saved_of over_files last.rows.rows) w n) s.settled
+  settled_rows : (last : Station (GroupedOf R)) (n : ℕ) → IsSettled inside last → x.saved last.rows n ≡ saved_of over_files (inside last.rows.rows) n
+  settled_rows last n s = ap (λ (m : Saved). m n) (saved last.rows) ∙ ap (λ w. with_all (saved_of over_files (inside last.rows.rows)) w n) s.settled
 
   -- files of rows that were at most read since hold what a crash could leave of the rows before
-  given_up_before : (last : Station (GroupedOf (SqliteOf (FileStore D g)))) (now : SqliteOf (FileStore D g)) (files : Files D) → IsSettled last
-      → LeavesNoOther over_files last.rows.rows now → GivesUp g now.conn files → GivesUp g last.rows.rows.conn files
+  given_up_before : (last : Station (GroupedOf R)) (now : SqliteOf (FileStore D g)) (files : Files D) → IsSettled inside last
+      → LeavesNoOther over_files (inside last.rows.rows) now → GivesUp g now.conn files → GivesUp g (inside last.rows.rows).conn files
   given_up_before last now files s leaves gives clean left may = ∥∥₁_map (gives clean left may) (λ db. (db.0, leaves s.rest.is_open db.0 db.1, db.2))
 
-  pub groups_found : {E : Type 0} {h : disk.Ghosts E} → BegunAtRestLosesNothing D g E h → GroupOutlivesBegun D g E h → UpgradeOutlivesBegun D g E h → GroupsHandOver D g E h x
+  pub groups_found : {E : Type 0} {h : disk.Ghosts E} → BegunAtRestLosesNothing D g E h → GroupOutlivesBegun D g E h → UpgradeOutlivesBegun D g E h → GroupsHandOver D g E h inside x
   groups_found rests outlives upgrades = record {
     before_the_save = λ before now files left begun again s leaves gives clean may stands opened.
-        let all = rests before.rows.rows files left begun again s.rest (given_up_before before now files s leaves gives) clean may (holds_all left begun stands) opened in
+        let all = rests (inside before.rows.rows) files left begun again s.rest (given_up_before before now files s leaves gives) clean may (holds_all left begun stands) opened in
         (all.0, all.1, ((λ n. all.3 n ∙ sym (settled_rows before n s)), all.2 ∙ sym (version before.rows)));
     in_the_save = λ before after now files left begun again took s gives clean may stands opened.
-        let inside = after.rows.rows in
-        let all = outlives inside now after.rows.waits files left begun again (s.station took.is_open took.ran) (s.either took.is_open took.ran) gives clean may (holds_all left begun stands) opened in
-        let found = told_all_or_none (saved_of over_files inside) (saved_of over_files again) after.rows.waits all.3 in
+        let held = inside after.rows.rows in
+        let all = outlives held now after.rows.waits files left begun again (s.station took.is_open took.ran) (s.either took.is_open took.ran) gives clean may (holds_all left begun stands) opened in
+        let found = told_all_or_none (saved_of over_files held) (saved_of over_files again) after.rows.waits all.3 in
         let at = ap version_in all.1 ∙ s.version in (
           all.0,
           all.2 ∙ took.identity,
@@ -90,7 +90,7 @@ module _ {D : Type 0} {g : disk.Ghosts D} (x : Sight (GroupedOf (SqliteOf (FileS
           ],
         );
     in_an_upgrade = λ before now files left begun again s leaves gives clean may stands opened.
-        let all = upgrades before.rows.rows now files left begun again leaves gives clean may (holds_all left begun stands) opened in (
+        let all = upgrades (inside before.rows.rows) now files left begun again leaves gives clean may (holds_all left begun stands) opened in (
           all.0,
           all.1,
           (

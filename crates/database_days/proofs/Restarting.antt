@@ -34,11 +34,11 @@ never stops goes = cc
 
 -- ---- the last group of a process
 
-module _ {D : Type 0} {g : disk.Ghosts D} (x : Ghosts (GroupedOf (SqliteOf (FileStore D g)))) (groups : GroupsAreTaken D g x)
-    (saved : (s : GroupedOf (SqliteOf (FileStore D g))) → x.saved s ≡ with_all (saved_of over_files s.rows) s.waits)
-    (version : (s : GroupedOf (SqliteOf (FileStore D g))) → x.version s ≡ rows_version s.rows) where
+module _ {D : Type 0} {g : disk.Ghosts D} {R : Type 0} (inside : R → SqliteOf (FileStore D g)) (x : Ghosts (GroupedOf R)) (groups : GroupsAreTaken D g inside x)
+    (saved : (s : GroupedOf R) → x.saved s ≡ with_all (saved_of over_files (inside s.rows)) s.waits)
+    (version : (s : GroupedOf R) → x.version s ≡ rows_version (inside s.rows)) where
   abbrev Post : Type 0
-  Post = Station (GroupedOf (SqliteOf (FileStore D g)))
+  Post = Station (GroupedOf R)
 
   abbrev stops_in : Post → Bool
   stops_in s = s.stopped
@@ -82,7 +82,7 @@ module _ {D : Type 0} {g : disk.Ghosts D} (x : Ghosts (GroupedOf (SqliteOf (File
 
   -- a station between two groups, whose rows are those of this one's member
   abbrev Arrives : Post → Post → Type 0
-  Arrives first s = IsBetweenGroups s × (s.rows.rows.identity ≡ first.rows.rows.identity)
+  Arrives first s = IsBetweenGroups inside s × ((inside s.rows.rows).identity ≡ (inside first.rows.rows).identity)
 
   -- behind a save a station is between two groups
   behind_a_save :
@@ -107,7 +107,7 @@ module _ {D : Type 0} {g : disk.Ghosts D} (x : Ghosts (GroupedOf (SqliteOf (File
 
   -- so it is behind the kept events of a log
   behind_the_kept :
-      (first mid : Post) (kept : List Event) → IsBetweenGroups first → Takes x NoneWaits first mid kept → EndsStored kept
+      (first mid : Post) (kept : List Event) → IsBetweenGroups inside first → Takes x NoneWaits first mid kept → EndsStored kept
       → x.kept mid.rows → mid.stopped ≡ false → Arrives first mid
   behind_the_kept first mid kept begun it (inl none) keeps goes =
       let same : mid ≡ first = subst (λ (l : List Event). Takes x NoneWaits first mid l) none it in
@@ -117,12 +117,12 @@ module _ {D : Type 0} {g : disk.Ghosts D} (x : Ghosts (GroupedOf (SqliteOf (File
 
   -- ---- what the next start finds
 
-  module _ (p : Plants) (m : ℕ) (now : SqliteOf (FileStore D g)) (next : Post) (starts : StartsOver x p m now next) where
-    opens : AreOpenedFrom starts.begun next.rows.rows
+  module _ (p : Plants) (m : ℕ) (now : SqliteOf (FileStore D g)) (next : Post) (starts : StartsOver inside x p m now next) where
+    opens : AreOpenedFrom starts.begun (inside next.rows.rows)
     opens = record { honest = starts.honest; made = starts.taken.made; rows = λ ours. starts.taken.rows starts.honest ours }
 
     -- its station is between two groups
-    begins_between : IsOurs next.rows.rows.alone next.rows.rows.was next.rows.rows.found → IsBetweenGroups next
+    begins_between : IsOurs (inside next.rows.rows).alone (inside next.rows.rows).was (inside next.rows.rows).found → IsBetweenGroups inside next
     begins_between ours = record {
       settled = record { settled = starts.none; rest = starts.taken.rests starts.honest ours };
       ran = starts.taken.unstopped;
@@ -130,43 +130,43 @@ module _ {D : Type 0} {g : disk.Ghosts D} (x : Ghosts (GroupedOf (SqliteOf (File
     }
 
     -- its rows are those that were taken up
-    reads : (n : ℕ) → x.saved next.rows n ≡ saved_of over_files next.rows.rows n
-    reads n = ap (λ (s : Saved). s n) (saved next.rows) ∙ ap (λ w. with_all (saved_of over_files next.rows.rows) w n) starts.none
+    reads : (n : ℕ) → x.saved next.rows n ≡ saved_of over_files (inside next.rows.rows) n
+    reads n = ap (λ (s : Saved). s n) (saved next.rows) ∙ ap (λ w. with_all (saved_of over_files (inside next.rows.rows)) w n) starts.none
 
     -- they are found as those of this station
     abbrev Finds : Post → Type 0
-    Finds last = FindsRows (sight x) At_rest last (saved_of over_files next.rows.rows) (rows_version next.rows.rows)
+    Finds last = FindsRows (sight x) At_rest last (saved_of over_files (inside next.rows.rows)) (rows_version (inside next.rows.rows))
 
     -- the store's own tables, the same station, and the rows of before the last group or of behind it
     abbrev Found : Post → Post → Type 0
     Found mid last =
-        IsOurs next.rows.rows.alone next.rows.rows.was next.rows.rows.found × (next.rows.rows.identity ≡ mid.rows.rows.identity) × (Finds mid ⊎ Finds last)
+        IsOurs (inside next.rows.rows).alone (inside next.rows.rows).was (inside next.rows.rows).found × ((inside next.rows.rows).identity ≡ (inside mid.rows.rows).identity) × (Finds mid ⊎ Finds last)
 
     hands_over : (last : Post) → Finds last → HandsOver (sight x) At_rest last next
     hands_over last found = (λ n. reads n ∙ found.0 n, version next.rows ∙ found.1)
 
-    module _ (hands : GroupsHandOver D g D g (sight x)) (mid last : Post) where
-      found_before : IsBetweenGroups mid → LeavesNoOther over_files mid.rows.rows now → Found mid last
+    module _ (hands : GroupsHandOver D g D g inside (sight x)) (mid last : Post) where
+      found_before : IsBetweenGroups inside mid → LeavesNoOther over_files (inside mid.rows.rows) now → Found mid last
       found_before between leaves =
-          let all = hands.before_the_save mid now starts.files starts.left starts.begun next.rows.rows between.settled leaves
+          let all = hands.before_the_save mid now starts.files starts.left starts.begun (inside next.rows.rows) between.settled leaves
           starts.gives starts.clean starts.may starts.stands opens in
           (all.0, all.1, inl all.2)
 
-      found_in : TookAGroup mid last → WereSettling last now → Found mid last
+      found_in : TookAGroup inside mid last → WereSettling inside last now → Found mid last
       found_in group saving =
-          hands.in_the_save mid last now starts.files starts.left starts.begun next.rows.rows group saving starts.gives starts.clean starts.may starts.stands opens
+          hands.in_the_save mid last now starts.files starts.left starts.begun (inside next.rows.rows) group saving starts.gives starts.clean starts.may starts.stands opens
 
       -- wherever the process stood as it ended
-      found_so : IsBetweenGroups mid → TookSteps x mid last → x.kept last.rows → Leaves x last now → Found mid last
+      found_so : IsBetweenGroups inside mid → TookSteps x mid last → x.kept last.rows → Leaves inside x last now → Found mid last
       found_so between so keeps (between_calls same) =
           let left = (groups.taken mid last between so keeps).1 in
-          found_before between (subst (λ (s : SqliteOf (FileStore D g)). LeavesNoOther over_files mid.rows.rows s) (sym same) left)
+          found_before between (subst (λ (s : SqliteOf (FileStore D g)). LeavesNoOther over_files (inside mid.rows.rows) s) (sym same) left)
       found_so between so keeps (in_a_step call new answer step kept same) =
           let left = groups.stepped mid last new call answer between so step kept in
-          found_before between (subst (λ (s : SqliteOf (FileStore D g)). LeavesNoOther over_files mid.rows.rows s) (sym same) left)
+          found_before between (subst (λ (s : SqliteOf (FileStore D g)). LeavesNoOther over_files (inside mid.rows.rows) s) (sym same) left)
       found_so between so keeps (at_a_refusal new torn kept same) =
           let saving = groups.torn mid last new between so torn kept in
-          found_in (groups.taken mid last between so keeps).0 (subst (λ (s : SqliteOf (FileStore D g)). WereSettling last s) (sym same) saving)
+          found_in (groups.taken mid last between so keeps).0 (subst (λ (s : SqliteOf (FileStore D g)). WereSettling inside last s) (sym same) saving)
       found_so between so keeps (in_the_save kept leaves) =
           let left = leaves.2 kept in
           found_in (groups.taken mid last between so keeps).0
@@ -175,7 +175,7 @@ module _ {D : Type 0} {g : disk.Ghosts D} (x : Ghosts (GroupedOf (SqliteOf (File
     -- ---- the day goes on
 
     continues :
-        (day : List Happened) (at : ℕ → Member (GroupedOf (SqliteOf (FileStore D g)))) (first last : Post) (log : List Event) → NextProcessesBegin x NoneWaits
+        (day : List Happened) (at : ℕ → Member (GroupedOf R)) (first last : Post) (log : List Event) → NextProcessesBegin x NoneWaits
         → Day x p day at → IsMember p.count m → at m ≡ runs first → last.stopped ≡ false → Finds last → Continues x NoneWaits p day at m log last next
     continues day at first last log next_begins d member here goes found = record {
       rows = hands_over last found;
@@ -184,7 +184,7 @@ module _ {D : Type 0} {g : disk.Ghosts D} (x : Ghosts (GroupedOf (SqliteOf (File
           (subst (λ (t : Post). HandsOver (sight x) At_rest t next) (sym is) (hands_over last found)) starts.begins;
     }
 
-  pub groups_go_on : GroupsHandOver D g D g (sight x) → NextProcessesBegin x NoneWaits → GroupsGoOn D g x
+  pub groups_go_on : GroupsHandOver D g D g inside (sight x) → NextProcessesBegin x NoneWaits → GroupsGoOn D g inside x
   groups_go_on hands next_begins p day at m first mid last next kept lost now d member here ran starts =
       let before = ran.to_the_save.1 ran.to_the_save.0 in
       let since = ran.from_there.1 ran.from_there.0 in
@@ -200,9 +200,9 @@ module _ {D : Type 0} {g : disk.Ghosts D} (x : Ghosts (GroupedOf (SqliteOf (File
         ],
       )
 
-  pub upgrades_go_on : GroupsHandOver D g D g (sight x) → UpgradesGoOn D g x
+  pub upgrades_go_on : GroupsHandOver D g D g inside (sight x) → UpgradesGoOn D g inside x
   upgrades_go_on hands p day at m last next now d member here between leaves starts =
-      let all = hands.in_an_upgrade last now starts.files starts.left starts.begun next.rows.rows between.settled leaves
+      let all = hands.in_an_upgrade last now starts.files starts.left starts.begun (inside next.rows.rows) between.settled leaves
       starts.gives starts.clean starts.may starts.stands (opens p m now next starts) in
       let handed : HandsOver (sight x) Upgrading last next = (
         λ n. reads p m now next starts n ∙ all.2.0 n,

@@ -32,25 +32,25 @@ use Rattle.process_days.specs.Telling.{Order, log_of, day_after, IsInTurn, HasLo
 use Rattle.process_days.specs.Cutting.{EndsStored, StoresNone}
 use Rattle.database_days.specs.GroupSteps.{IsBetweenGroups, NoneWaits}
 
-module _ {D : Type 0} {g : disk.Ghosts D} (x : Ghosts (GroupedOf (SqliteOf (FileStore D g)))) where
+module _ {D : Type 0} {g : disk.Ghosts D} {R : Type 0} (inside : R → SqliteOf (FileStore D g)) (x : Ghosts (GroupedOf R)) where
   -- where a process with this station stood as it ended, and how it left the rows inside
-  pub data Leaves (last : Station (GroupedOf (SqliteOf (FileStore D g)))) (now : SqliteOf (FileStore D g)) : Type 0 where
+  pub data Leaves (last : Station (GroupedOf R)) (now : SqliteOf (FileStore D g)) : Type 0 where
     -- between two calls of its station: they are as the last one left them
-    between_calls : now ≡ last.rows.rows → Leaves last now
+    between_calls : now ≡ inside last.rows.rows → Leaves last now
     -- in a step, or behind one that stopped the station: they are as the step leaves them, however it is answered
     in_a_step :
-        (call : Call) (new : Station (GroupedOf (SqliteOf (FileStore D g)))) (answer : Result Answer StepRefusal)
-        → IsStep x call last new answer → x.kept new.rows → now ≡ new.rows.rows → Leaves last now
+        (call : Call) (new : Station (GroupedOf R)) (answer : Result Answer StepRefusal)
+        → IsStep x call last new answer → x.kept new.rows → now ≡ inside new.rows.rows → Leaves last now
     -- behind the save of all that waited, which was refused
-    at_a_refusal : (new : Station (GroupedOf (SqliteOf (FileStore D g)))) → WasTorn x last new → x.kept new.rows → now ≡ new.rows.rows → Leaves last now
+    at_a_refusal : (new : Station (GroupedOf R)) → WasTorn x last new → x.kept new.rows → now ≡ inside new.rows.rows → Leaves last now
     -- In that save. They are as the clause `leaves` of `put_all` says, which holds however the call ends, also over a disk that does nothing more from
     -- some moment on.
-    in_the_save : IsKept over_files now → LeavesTogether over_files last.rows.rows now last.rows.waits → Leaves last now
+    in_the_save : IsKept over_files now → LeavesTogether over_files (inside last.rows.rows) now last.rows.waits → Leaves last now
 
   -- A process ran from a station between two groups. Its kept events end at its last save, or there are none and it saved nothing. Behind them it
   -- had the station `mid`. By the lost events it went on to the station `last`. Then it ended, of its own accord, killed, or with its machine.
-  pub record RanUntil (first mid last : Station (GroupedOf (SqliteOf (FileStore D g)))) (kept lost : List Event) (now : SqliteOf (FileStore D g)) : Type 0 where
-    pub begins : IsBetweenGroups first
+  pub record RanUntil (first mid last : Station (GroupedOf R)) (kept lost : List Event) (now : SqliteOf (FileStore D g)) : Type 0 where
+    pub begins : IsBetweenGroups inside first
     pub to_the_save : HasLog x NoneWaits (runs first) mid kept
     pub saves : EndsStored kept
     pub from_there : HasLog x NoneWaits (runs mid) last lost
@@ -60,7 +60,7 @@ module _ {D : Type 0} {g : disk.Ghosts D} (x : Ghosts (GroupedOf (SqliteOf (File
 
   -- The next process of this member starts. A crash left some image of the files of these rows, and the files by now stand for it. An open of those
   -- took up rows, over a disk that returned what was written. The process begins with this station over them, and none waits.
-  pub record StartsOver (p : Plants) (m : ℕ) (now : SqliteOf (FileStore D g)) (next : Station (GroupedOf (SqliteOf (FileStore D g)))) : Type 0 where
+  pub record StartsOver (p : Plants) (m : ℕ) (now : SqliteOf (FileStore D g)) (next : Station (GroupedOf R)) : Type 0 where
     pub files : Files D
     pub left : Image
     pub begun : Image
@@ -69,8 +69,8 @@ module _ {D : Type 0} {g : disk.Ghosts D} (x : Ghosts (GroupedOf (SqliteOf (File
     pub clean : AreClean g files.log files.db
     pub may : outcomes g files.log files.db left
     pub stands : StandFor left begun
-    pub taken : AreTakenUp begun given next.rows.rows
-    pub honest : HasCleanDisk (file_state next.rows.rows.conn)
+    pub taken : AreTakenUp begun given (inside next.rows.rows)
+    pub honest : HasCleanDisk (file_state (inside next.rows.rows).conn)
     pub none : next.rows.waits ≡ []
     pub begins : Begins x p m next
 
@@ -91,21 +91,21 @@ pub record Continues {R : Type 0} (g : Ghosts R) (is_settled : R → Type 0) (p 
 -- A process of a member ran in a day over grouped rows in a database. It ended before the save of its last group, in that save, or because it was
 -- refused. The next start finds the same station, with its rows from before the group or from behind all of it. It goes on in the same day, as if
 -- the process had ended at its last save, or behind all its steps. Its own station is between two groups, so the same holds of it again.
-abbrev pub GroupsGoOn : (D : Type 0) (g : disk.Ghosts D) → Ghosts (GroupedOf (SqliteOf (FileStore D g))) → Type 0
-GroupsGoOn D g x =
-    (p : Plants) (day : List Happened) (at : ℕ → Member (GroupedOf (SqliteOf (FileStore D g)))) (m : ℕ)
-    (first mid last next : Station (GroupedOf (SqliteOf (FileStore D g)))) (kept lost : List Event) (now : SqliteOf (FileStore D g))
-    → Day x p day at → IsMember p.count m → at m ≡ runs first → RanUntil x first mid last kept lost now → StartsOver x p m now next
-    → (next.rows.rows.identity ≡ first.rows.rows.identity) × IsBetweenGroups next
+abbrev pub GroupsGoOn : (D : Type 0) (g : disk.Ghosts D) {R : Type 0} → (R → SqliteOf (FileStore D g)) → Ghosts (GroupedOf R) → Type 0
+GroupsGoOn D g {R} inside x =
+    (p : Plants) (day : List Happened) (at : ℕ → Member (GroupedOf R)) (m : ℕ)
+    (first mid last next : Station (GroupedOf R)) (kept lost : List Event) (now : SqliteOf (FileStore D g))
+    → Day x p day at → IsMember p.count m → at m ≡ runs first → RanUntil inside x first mid last kept lost now → StartsOver inside x p m now next
+    → ((inside next.rows.rows).identity ≡ (inside first.rows.rows).identity) × IsBetweenGroups inside next
     × (Continues x NoneWaits p day at m kept mid next ⊎ Continues x NoneWaits p day at m (kept ++ lost) last next)
 
 -- A process of a member upgraded its rows between two groups, however that ended: a crash leaves the station and all rows, in the one layout or in the
 -- other. The next start finds the same station and its rows, at the version before or at version 2, and goes on in the same day, behind an upgrade.
-abbrev pub UpgradesGoOn : (D : Type 0) (g : disk.Ghosts D) → Ghosts (GroupedOf (SqliteOf (FileStore D g))) → Type 0
-UpgradesGoOn D g x =
-    (p : Plants) (day : List Happened) (at : ℕ → Member (GroupedOf (SqliteOf (FileStore D g)))) (m : ℕ)
-    (last next : Station (GroupedOf (SqliteOf (FileStore D g)))) (now : SqliteOf (FileStore D g))
-    → Day x p day at → IsMember p.count m → at m ≡ runs last → IsBetweenGroups last → LeavesAll over_files last.rows.rows now → StartsOver x p m now next
-    → (next.rows.rows.identity ≡ last.rows.rows.identity) × IsBetweenGroups next × HandsOver (sight x) Upgrading last next
-    × ((then : ℕ → Member (GroupedOf (SqliteOf (FileStore D g)))) × Day x p (began m ∷ ended m Upgrading ∷ day) then × (then m ≡ runs next)
+abbrev pub UpgradesGoOn : (D : Type 0) (g : disk.Ghosts D) {R : Type 0} → (R → SqliteOf (FileStore D g)) → Ghosts (GroupedOf R) → Type 0
+UpgradesGoOn D g {R} inside x =
+    (p : Plants) (day : List Happened) (at : ℕ → Member (GroupedOf R)) (m : ℕ)
+    (last next : Station (GroupedOf R)) (now : SqliteOf (FileStore D g))
+    → Day x p day at → IsMember p.count m → at m ≡ runs last → IsBetweenGroups inside last → LeavesAll over_files (inside last.rows.rows) now → StartsOver inside x p m now next
+    → ((inside next.rows.rows).identity ≡ (inside last.rows.rows).identity) × IsBetweenGroups inside next × HandsOver (sight x) Upgrading last next
+    × ((then : ℕ → Member (GroupedOf R)) × Day x p (began m ∷ ended m Upgrading ∷ day) then × (then m ≡ runs next)
     × ((k : ℕ) → k ≢ m → then k ≡ at k))

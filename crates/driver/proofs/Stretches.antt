@@ -90,6 +90,7 @@ cause_then xs ys a b c ends.Store p q = stops_then xs ys c IsByStore q
 cause_then xs ys a b c ends.Socket p q = q ∙ p
 cause_then xs ys a b c ends.Memory p (inl same) = inl (same ∙ p)
 cause_then xs ys a b c ends.Memory p (inr stops) = inr (stops_then xs ys c IsForMemory stops)
+cause_then xs ys a b c ends.Busy p q = q
 
 -- no fault ends a command as done
 pub ends_badly : (f : Fault) → end_of f ≡ ends.Done → ⊥
@@ -112,7 +113,10 @@ ends_badly (faults.Key what) e = cc
 ends_badly (faults.KeyUnread path) e = cc
 ends_badly faults.NoFolders e = cc
 ends_badly (faults.Offers what why) e = cc
+ends_badly (faults.Misplaced what how which) e = cc
+ends_badly (faults.InUse folder) e = cc
 ends_badly (faults.NotEnded seconds) e = cc
+ends_badly (faults.StillHeld seconds process) e = cc
 ends_badly (faults.Socket what) e = cc
 ends_badly (faults.SendFailed member) e = cc
 ends_badly (faults.Refused refusal) e = cc

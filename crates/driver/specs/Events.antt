@@ -131,6 +131,7 @@ HasCause log old new ends.Usage = ⊥
 HasCause log old new ends.Store = Stops log new IsByStore
 HasCause log old new ends.Socket = new ≡ old
 HasCause log old new ends.Memory = (new ≡ old) ⊎ Stops log new IsForMemory
+HasCause log old new ends.Busy = ⊥
 
 -- how a command goes on or ends
 abbrev pub ended : {A : Type 0} → Result A Fault → End

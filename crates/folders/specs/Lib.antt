@@ -1,6 +1,7 @@
 pub mod Acting
 pub mod Changes
 pub mod Doings
+pub mod Entries
 pub mod FaultWords
 pub mod GoneOut
 pub mod Leaving

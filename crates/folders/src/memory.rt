@@ -441,7 +441,7 @@ impl Folders for MemoryFolders {
             return Ok(None);
         }
         let mut file = self.open(alloc, name)?;
-        let bytes = read_between(alloc, &mut file, stamp)?;
+        let bytes = read_between(alloc, &mut file, stamp)?.into_bytes();
         let named = NamedFile::of(alloc, name, &bytes)?;
         keep(&mut self.acts, Act::Read(named))?;
         Ok(Some(bytes))

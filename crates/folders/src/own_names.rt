@@ -8,6 +8,9 @@ use std::alloc::{AllocError, Global};
 /// The folder within the offers through which a file leaves them.
 pub const PASSAGE: &str = ".circuitd";
 
+/// The file in the passage whose lock a station holds that works with the offers. No file of this name is moved, or put back.
+pub const LOCK: &str = ".lock";
+
 /// A name that nobody else makes: of the process of this number that started at this moment, in nanoseconds since 1970, the file of this
 /// count. Where there is no memory for it, `AllocError`.
 pub fn own_name(alloc: Global, process: u32, start: u64, count: u64) -> Result<String, AllocError>

@@ -41,6 +41,22 @@ fn find_again<O: Opened>(file: &mut O, stamp: Stamp) -> Result<(), FolderFault>
     test_same(stamp, now)
 }
 
+/// What was read of a file between two looks that found it unchanged. [`read_between`] alone makes one: who reads a file otherwise has none to hand on.
+#[derive(Drop)]
+pub struct WholeRead {
+    bytes: Vec<u8>,
+}
+
+impl WholeRead {
+    /// What the file held.
+    pub fn into_bytes(self) -> Vec<u8>
+        ensures { result ≡ self.bytes }
+    {
+        let WholeRead { bytes } = self;
+        bytes
+    }
+}
+
 /// What an open file holds. It is seen to be the one that was found with this stamp before it is read, and afterwards; where it is not, or
 /// holds fewer bytes, `Changed`.
 #[tactic(auto, using(crate::proofs::Steps::read_between))]
@@ -48,15 +64,15 @@ pub fn read_between<O: Opened>(
     alloc: Global,
     file: &mut O,
     stamp: Stamp,
-) -> Result<Vec<u8>, FolderFault>
-    ensures length { IfOk result (λ v. length v.items ≡ stamp.length) }
-    ensures between { IfOk result (λ v. IsReadBetween (O.seen file.old) (O.seen file.new) stamp v.items) }
+) -> Result<WholeRead, FolderFault>
+    ensures length { IfOk result (λ r. length r.bytes.items ≡ stamp.length) }
+    ensures between { IfOk result (λ r. IsReadBetween (O.seen file.old) (O.seen file.new) stamp r.bytes.items) }
 {
     find_again(file, stamp)?;
     let bytes = file.bytes(alloc, stamp.length)?;
     find_again(file, stamp)?;
     if bytes.len() as u64 == stamp.length {
-        Ok(bytes)
+        Ok(WholeRead { bytes })
     } else {
         Err(FolderFault::Changed)
     }

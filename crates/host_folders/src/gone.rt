@@ -7,6 +7,7 @@ use crate::copies::free_path;
 use crate::held::{GoneFile, Held, find, path_in};
 use crate::looks::{id_at, within};
 use crate::maker::Maker;
+use crate::open_folder::OpenFolder;
 use crate::part::Part;
 use crate::releases::Releases;
 use ballots::Number;
@@ -57,8 +58,8 @@ fn make_anew(
     releases: &Releases,
     bytes: &[u8],
 ) -> Result<Held, FolderFault> {
-    let path = path_in(maker.rt, releases.path())?;
-    let held = Part::filled(maker, releases.path(), bytes)?.name_as(maker.rt, &path)?;
+    let path = path_in(maker.rt, releases.root())?;
+    let held = Part::filled(maker, releases.root(), bytes)?.name_as(maker.rt, &path)?;
     releases.sync()?;
     Ok(held)
 }
@@ -108,9 +109,13 @@ impl PlantFolders<'_, '_> {
     fn files(&self) -> Result<Numbers, FolderFault> {
         let rt = self.maker.rt;
         let mut found = Numbers::new(rt.alloc())?;
-        add_files(rt, self.releases.path(), FileSort::Released, &mut found)?;
-        let sent = within(rt.alloc(), self.offers, Place::Sent.folder())?;
-        add_files(rt, &sent, FileSort::Sent, &mut found)?;
+        add_files(rt, self.releases.root(), FileSort::Released, &mut found)?;
+        match OpenFolder::below(rt, self.offers, Place::Sent.folder()) {
+            Ok(sent) => add_files(rt, sent.root(), FileSort::Sent, &mut found)?,
+            // A link in its place is not followed.
+            Err(FolderFault::Missing | FolderFault::NoFolder | FolderFault::Changed) => {}
+            Err(fault) => return Err(fault),
+        }
         Ok(found)
     }
 }
@@ -203,7 +208,10 @@ impl GoneOut {
         let GoneOut::Kept(keeper) = self else {
             return Ok(());
         };
-        keeper.look(maker.rt, releases.path())?;
+        if !releases.is_held() {
+            return Err(FolderFault::Missing);
+        }
+        keeper.look(maker.rt, releases.root())?;
         keeper.write(maker, releases)
     }
 
@@ -244,7 +252,7 @@ impl GoneOut {
         ensures { IfOk result (λ w. StartsWith known.now w.numbers w.missing) }
     {
         let alloc = plant.maker.rt.alloc();
-        let found = find(plant.maker.rt, plant.releases.path(), own)?;
+        let found = find(plant.maker.rt, plant.releases.root(), own)?;
         let is_other = found.is_some();
         if let Some(
             GoneFile {
@@ -259,7 +267,7 @@ impl GoneOut {
         }
         let mut went = first_went_out(alloc, known, &plant.files()?)?;
         if is_other {
-            set_aside(plant.maker.rt, plant.releases.path())?;
+            set_aside(plant.maker.rt, plant.releases.root())?;
             went.set_aside = true;
         }
         let keeper = GoneKeeper {

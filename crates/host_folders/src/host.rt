@@ -4,11 +4,11 @@ use crate::gone::{GoneOut, PlantFolders};
 use crate::maker::Maker;
 use crate::moving::set_aside;
 use crate::offers::Offers;
-use crate::places::Misplaced;
 use crate::releases::Releases;
 use ballots::Number;
 use folders::{FolderFault, Folders, Leaving, Listing, NamedFile, News, Stamp, Unwritten, WentOut};
 use gone_out::{Numbers, Origin};
+use station_files::Holder;
 use std::alloc::Global;
 use std::mem;
 
@@ -23,22 +23,22 @@ pub struct HostFolders<'a> {
 
 impl<'a> HostFolders<'a> {
     /// The folders at these paths, which are held from now on. One that is not there, or does not serve, is held once it does; one that
-    /// another process holds is refused.
+    /// another process holds is refused, and which it is told.
     pub fn open(
         rt: &'a HostRuntime,
         offers: String,
         releases: String,
-    ) -> Result<HostFolders<'a>, Misplaced> {
+    ) -> Result<HostFolders<'a>, Holder> {
         let mut maker = Maker::new(rt);
         let mut offers = Offers::new(offers, maker.start());
         let mut releases = Releases::new(rt.alloc(), releases);
         // A `stop` that is laid as soon as the lock is seen is newer than the start.
         offers.note_start(&mut maker);
         if matches!(offers.check(&mut maker), Err(FolderFault::InUse)) {
-            return Err(Misplaced::InUse("offers"));
+            return Err(Holder::Offers);
         }
         if matches!(releases.check(rt), Err(FolderFault::InUse)) {
-            return Err(Misplaced::InUse("releases"));
+            return Err(Holder::Releases);
         }
         Ok(HostFolders {
             maker,
@@ -111,7 +111,7 @@ impl<'a> Folders for HostFolders<'a> {
         // A record that is refused is tried again at the next look.
         let _ = self.gone.write(&mut self.maker, &self.releases);
         self.check_offers()?;
-        set_aside(&mut self.maker, self.offers.path(), leaving, beside)
+        set_aside(&mut self.maker, self.offers.root(), leaving, beside)
     }
 
     fn remove(&mut self, _alloc: Global, name: &str) -> Result<(), FolderFault> {
@@ -129,7 +129,7 @@ impl<'a> Folders for HostFolders<'a> {
         let mut plant = PlantFolders {
             maker: &mut self.maker,
             releases: &self.releases,
-            offers: self.offers.path(),
+            offers: self.offers.root(),
         };
         let went = self.gone.start(&mut plant, own, known)?;
         Ok(Some(went))

@@ -1,6 +1,6 @@
 //! What stands at a path, by looks that open nothing.
 
-use folders::{FileId, FolderFault, Stamp};
+use folders::{Entry, FileId, FolderFault, Stamp};
 use std::alloc::{AllocError, Global};
 use std::fs::Metadata;
 use std::io::ErrorKind;
@@ -71,6 +71,16 @@ pub(crate) fn folder_at(rt: &HostRuntime, path: &str) -> Result<FileId, FolderFa
         Ok(id_of(&data))
     } else {
         Err(FolderFault::NoFolder)
+    }
+}
+
+/// What stands at a path; no link is followed.
+pub(crate) fn entry_at(rt: &HostRuntime, path: &str) -> Result<Entry, FolderFault> {
+    let data = fs::symlink_metadata(rt, path)?;
+    if data.is_dir() {
+        Ok(Entry::Folder(id_of(&data)))
+    } else {
+        Ok(Entry::Other)
     }
 }
 

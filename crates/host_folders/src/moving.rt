@@ -1,12 +1,13 @@
 //! Files that leave the offers: through a passage of their own, where each is judged by what it is.
 
 use crate::copies::{free_path, write_beside};
-use crate::looks::{found_again, id_at, within};
+use crate::looks::{found_again, id_at, plain_file, within};
 use crate::maker::Maker;
+use crate::open_folder::OpenFolder;
 use crate::part::clear_parts;
 use folders::{
-    FolderFault, Leaving, Mover, PASSAGE, PLACES, Place, Return, is_as_read, move_behind,
-    return_of, test_same,
+    FolderFault, Leaving, Mover, PASSAGE, PLACES, Place, Return, is_as_read, may_return,
+    move_behind, return_of, test_same,
 };
 use std::alloc::Global;
 use std::fs;
@@ -15,20 +16,28 @@ use std::io::ErrorKind;
 /// What is told beside a file whose name was taken while it was on its way.
 const NAME_TAKEN: &str = "another file came to stand under its name\n";
 
-/// The folder of a place, which is made where it is not there.
-fn make_place(rt: &HostRuntime, offers: &str, to: Place) -> Result<String, FolderFault> {
-    let folder = within(rt.alloc(), offers, to.folder())?;
-    fs::create_dir_all(rt, folder.as_str())?;
-    Ok(folder)
+/// The folder of a place, which is made where it is not there. No link is followed to it.
+fn place_at(rt: &HostRuntime, offers: &str, to: Place) -> Result<OpenFolder, FolderFault> {
+    OpenFolder::made_below(rt, offers, to.folder())
 }
 
-/// Takes a file from its name into the passage, and answers its path there.
-fn move_away(maker: &mut Maker<'_>, offers: &str, name: &str) -> Result<String, FolderFault> {
-    let passage = within(maker.rt.alloc(), offers, PASSAGE)?;
-    fs::create_dir_all(maker.rt, passage.as_str())?;
-    let own = within(maker.rt.alloc(), &passage, name)?;
+/// Whether what lies at a path in the passage may be put back under its name.
+fn is_returned(rt: &HostRuntime, own: &str, name: &str) -> bool {
+    may_return(name, plain_file(rt, own).is_ok())
+}
+
+/// Takes a file from its name into the passage, and answers its path there. What a process left there before is put back first.
+fn move_away(
+    maker: &mut Maker<'_>,
+    offers: &str,
+    passage: &OpenFolder,
+    name: &str,
+) -> Result<String, FolderFault> {
+    let own = passage.within(maker.rt.alloc(), name)?;
     if id_at(maker.rt, &own)?.is_some() {
-        put_back(maker, offers, &own, name)?;
+        if is_returned(maker.rt, &own, name) {
+            put_back(maker, offers, &own, name)?;
+        }
         return Err(FolderFault::Changed);
     }
     let from = within(maker.rt.alloc(), offers, name)?;
@@ -62,9 +71,9 @@ fn put_back(maker: &mut Maker<'_>, offers: &str, own: &str, name: &str) -> Resul
         Return::Back => give_back(maker.rt, own, &home),
         Return::Stands => Ok(fs::remove_file(maker.rt, own)?),
         Return::Refused => {
-            let folder = make_place(maker.rt, offers, Place::Refused)?;
-            write_beside(maker, &folder, name, NAME_TAKEN)?;
-            let path = free_path(maker.rt, &folder, name, None)?;
+            let folder = place_at(maker.rt, offers, Place::Refused)?;
+            write_beside(maker, folder.root(), name, NAME_TAKEN)?;
+            let path = free_path(maker.rt, folder.root(), name, None)?;
             Ok(fs::rename(maker.rt, own, path.as_str())?)
         }
     }
@@ -88,17 +97,26 @@ fn put_aside(
 #[derive(Drop)]
 struct Way<'w, 'a> {
     maker: &'w mut Maker<'a>,
+    /// What the paths of files among the offers begin with.
     offers: &'w str,
-    folder: &'w str,
+    passage: OpenFolder,
+    place: OpenFolder,
 }
 
-/// The way from the offers to this folder.
-fn way_to<'w, 'a>(maker: &'w mut Maker<'a>, offers: &'w str, folder: &'w str) -> Way<'w, 'a> {
-    Way {
+/// The way from the offers to this place.
+fn way_to<'w, 'a>(
+    maker: &'w mut Maker<'a>,
+    offers: &'w str,
+    to: Place,
+) -> Result<Way<'w, 'a>, FolderFault> {
+    let passage = OpenFolder::made_below(maker.rt, offers, PASSAGE)?;
+    let place = place_at(maker.rt, offers, to)?;
+    Ok(Way {
         maker,
         offers,
-        folder,
-    }
+        passage,
+        place,
+    })
 }
 
 impl Mover for Way<'_, '_> {
@@ -108,12 +126,12 @@ impl Mover for Way<'_, '_> {
         leaving: Leaving<'_>,
         text: &str,
     ) -> Result<(), FolderFault> {
-        write_beside(self.maker, self.folder, leaving.name, text)
+        write_beside(self.maker, self.place.root(), leaving.name, text)
     }
 
     fn move_file(&mut self, _alloc: Global, leaving: Leaving<'_>) -> Result<(), FolderFault> {
-        let own = move_away(self.maker, self.offers, leaving.name)?;
-        let put = put_aside(self.maker.rt, &own, self.folder, leaving);
+        let own = move_away(self.maker, self.offers, &self.passage, leaving.name)?;
+        let put = put_aside(self.maker.rt, &own, self.place.root(), leaving);
         if put.is_err() {
             put_back(self.maker, self.offers, &own, leaving.name)?;
         }
@@ -132,22 +150,33 @@ pub(crate) fn set_aside(
     let alloc = maker.rt.alloc();
     let home = within(alloc, offers, leaving.name)?;
     test_same(leaving.stamp, found_again(maker.rt, &home)?)?;
-    let folder = make_place(maker.rt, offers, leaving.to)?;
-    let mut way = way_to(maker, offers, &folder);
+    let mut way = way_to(maker, offers, leaving.to)?;
     move_behind(alloc, &mut way, leaving, beside)
 }
 
-/// Puts back what lies in the passage: what was on its way as a process ended.
+/// Puts back what lies under a name in the passage, where a process may have left it there.
+fn return_one(
+    maker: &mut Maker<'_>,
+    offers: &str,
+    passage: &OpenFolder,
+    name: &str,
+) -> Result<(), FolderFault> {
+    let own = passage.within(maker.rt.alloc(), name)?;
+    if is_returned(maker.rt, &own, name) {
+        put_back(maker, offers, &own, name)?;
+    }
+    Ok(())
+}
+
+/// Puts back what lies in the passage: what was on its way as a process ended. A link in place of the passage is not followed.
 fn clear_passage(maker: &mut Maker<'_>, offers: &str) -> Result<(), FolderFault> {
-    let passage = within(maker.rt.alloc(), offers, PASSAGE)?;
-    for entry in fs::read_dir(maker.rt, passage.as_str())? {
+    let passage = OpenFolder::below(maker.rt, offers, PASSAGE)?;
+    for entry in fs::read_dir(maker.rt, passage.root())? {
         if let Ok(entry) = entry {
-            let own = within(maker.rt.alloc(), &passage, entry.file_name())?;
             // One that can't be put back now stays for the next start.
-            let _ = put_back(maker, offers, &own, entry.file_name());
+            let _ = return_one(maker, offers, &passage, entry.file_name());
         }
     }
-    fs::remove_dir(maker.rt, passage.as_str())?;
     Ok(())
 }
 
@@ -156,8 +185,9 @@ pub(crate) fn clear_offers(maker: &mut Maker<'_>, offers: &str) -> Result<(), Fo
     let _ = clear_passage(maker, offers);
     let _ = clear_parts(maker.rt, offers);
     for place in PLACES {
-        let folder = within(maker.rt.alloc(), offers, place.folder())?;
-        let _ = clear_parts(maker.rt, &folder);
+        if let Ok(folder) = OpenFolder::below(maker.rt, offers, place.folder()) {
+            let _ = clear_parts(maker.rt, folder.root());
+        }
     }
     Ok(())
 }

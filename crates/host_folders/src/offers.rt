@@ -3,13 +3,13 @@
 ghost use Rattle.std.specs.Prelude.{◌≡◌, ◌≤◌, IfOk, IfSome, length};
 
 use crate::guard::{Guard, Guarded};
-use crate::looks::{found_again, plain_file, stamp_of};
+use crate::looks::{found_again, plain_file, stamp_of, within};
 use crate::maker::Maker;
 use crate::moving::clear_offers;
 use crate::part::Part;
 use folders::{
-    FolderFault, Found, Listing, Opened, PassedOver, STOP, Stamp, is_since, nanos_of, read_between,
-    test_same,
+    FolderFault, Found, Listing, Opened, PassedOver, STOP, Stamp, WholeRead, is_since, nanos_of,
+    read_between, test_same,
 };
 use std::alloc::Global;
 use std::fs::{DirEntry, File, ReadDir};
@@ -76,8 +76,8 @@ impl Opened for OpenFile {
 }
 
 /// What the plain file of this stamp at a path holds. It is seen to be the one that was found, and to stay as it is.
-fn read_whole(rt: &HostRuntime, path: &str, stamp: Stamp) -> Result<Vec<u8>, FolderFault>
-    ensures { IfOk result (λ v. length v.items ≡ stamp.length) }
+fn read_whole(rt: &HostRuntime, path: &str, stamp: Stamp) -> Result<WholeRead, FolderFault>
+    ensures { IfOk result (λ r. length r.bytes.items ≡ stamp.length) }
 {
     let file = File::open(rt, path)?;
     let mut open = OpenFile { file };
@@ -87,19 +87,20 @@ fn read_whole(rt: &HostRuntime, path: &str, stamp: Stamp) -> Result<Vec<u8>, Fol
 impl Offers {
     pub(crate) fn new(path: String, start: u64) -> Offers {
         Offers {
-            guarded: Guarded::new(path),
+            guarded: Guarded::new(path, true),
             walk: None,
             start,
         }
     }
 
-    pub(crate) fn path(&self) -> &str {
-        self.guarded.path.as_str()
+    /// What the paths of its files begin with.
+    pub(crate) fn root(&self) -> &str {
+        self.guarded.root()
     }
 
     /// Takes the start from the clock of the folder.
     pub(crate) fn note_start(&mut self, maker: &mut Maker<'_>) {
-        if let Ok(start) = clock_of(maker, &self.guarded.path) {
+        if let Ok(start) = clock_of(maker, self.guarded.root()) {
             self.start = start;
         }
     }
@@ -109,7 +110,7 @@ impl Offers {
     pub(crate) fn check(&mut self, maker: &mut Maker<'_>) -> Result<bool, FolderFault> {
         let guard = self.guarded.check(maker.rt)?;
         if guard != Guard::Same {
-            clear_offers(maker, &self.guarded.path)?;
+            clear_offers(maker, self.guarded.root())?;
         }
         Ok(guard == Guard::Other)
     }
@@ -167,8 +168,9 @@ impl Offers {
 
     /// Begins a look, in place of one that went on. It fails where the folder may be listed and not searched.
     fn begin(&self, rt: &HostRuntime) -> Result<Walk, FolderFault> {
-        let path = self.guarded.path.as_str();
-        fs::symlink_metadata(rt, self.guarded.within(rt.alloc(), ".")?.as_str())?;
+        // Names are only looked at, so they are listed by the path: below the descriptor each look takes half as long again.
+        let path = self.guarded.path();
+        fs::symlink_metadata(rt, within(rt.alloc(), path, ".")?.as_str())?;
         let entries = fs::read_dir(rt, path)?;
         Ok(Walk { entries, took: 0 })
     }
@@ -221,7 +223,7 @@ impl Offers {
         if stamp.length == 0 {
             return Ok(Some(Vec::new(rt.alloc())));
         }
-        Ok(Some(read_whole(rt, &path, stamp)?))
+        Ok(Some(read_whole(rt, &path, stamp)?.into_bytes()))
     }
 
     /// Takes a plain file away that is older than the start. What can't be looked at is not there.

@@ -36,7 +36,7 @@ pub(crate) struct Releases {
 impl Releases {
     pub(crate) fn new(alloc: Global, path: String) -> Releases {
         Releases {
-            guarded: Guarded::new(path),
+            guarded: Guarded::new(path, false),
             has_new_names: false,
             spares: Vec::new(alloc),
             news: Vec::new(alloc),
@@ -54,12 +54,18 @@ impl Releases {
             }
         }
         self.spares.clear();
-        let _ = clear_parts(rt, &self.guarded.path);
+        let _ = clear_parts(rt, self.guarded.root());
         Ok(())
     }
 
-    pub(crate) fn path(&self) -> &str {
-        self.guarded.path.as_str()
+    /// What the paths of its files begin with.
+    pub(crate) fn root(&self) -> &str {
+        self.guarded.root()
+    }
+
+    /// Whether the folder is held.
+    pub(crate) fn is_held(&self) -> bool {
+        self.guarded.is_held()
     }
 
     /// Waits until the disk has the names that are in the folder now.
@@ -80,7 +86,7 @@ impl Releases {
     pub(crate) fn make_spares(&mut self, maker: &mut Maker<'_>) {
         for _ in self.spares.len()..MOST_SPARES {
             // Where one can't be made, it is tried again at the next look, or made in its turn.
-            let Ok(part) = Part::roomy(maker, &self.guarded.path) else {
+            let Ok(part) = Part::roomy(maker, self.guarded.root()) else {
                 return;
             };
             let _ = self.spares.push(part);
@@ -99,54 +105,49 @@ impl Releases {
         for named in files.iter().take(MOST_BEGUN) {
             let empty = match self.spares.pop() {
                 Some(spare) => spare,
-                None => Part::make(maker, &self.guarded.path)?,
+                None => Part::make(maker, self.guarded.root())?,
             };
             let _ = begun.push_back(empty.fill(maker.rt, named.bytes.as_ref())?);
         }
         Ok(())
     }
 
-    /// Writes a file whole, and again where another comes to stand under its name.
-    fn write_whole(
-        &mut self,
+    /// Writes a file into the folder that is held, by the one that was begun for it where there is one.
+    fn put_held(
+        &self,
         maker: &mut Maker<'_>,
-        path: &str,
-        bytes: &[u8],
+        named: &NamedFile,
+        begun: Option<Part>,
     ) -> Result<(), FolderFault> {
-        for _ in 0..TRIES {
-            let part = Part::filled(maker, &self.guarded.path, bytes)?;
-            match part.name_as(maker.rt, path) {
-                Ok(_) => return Ok(()),
-                Err(FolderFault::Changed) => {
-                    let _ = self.news.push(News::WrittenAnew);
-                }
-                Err(fault) => return Err(fault),
-            }
-        }
-        Err(FolderFault::Changed)
+        let path = self.guarded.within(maker.rt.alloc(), &named.name)?;
+        let part = match begun {
+            Some(part) => part,
+            None => Part::filled(maker, self.guarded.root(), named.bytes.as_ref())?,
+        };
+        part.name_as(maker.rt, &path)?;
+        Ok(())
     }
 
-    /// Writes a file, by the one that was begun for it where there is one.
+    /// Writes a file; and again where another came to stand under its name, or another folder at the path of this one.
     fn put(
         &mut self,
         maker: &mut Maker<'_>,
         named: &NamedFile,
         begun: Option<Part>,
     ) -> Result<(), FolderFault> {
-        self.check(maker.rt)?;
-        self.has_new_names = true;
-        let path = self.guarded.within(maker.rt.alloc(), &named.name)?;
-        let Some(part) = begun else {
-            return self.write_whole(maker, &path, named.bytes.as_ref());
-        };
-        match part.name_as(maker.rt, &path) {
-            Ok(_) => Ok(()),
-            Err(FolderFault::Changed) => {
-                let _ = self.news.push(News::WrittenAnew);
-                self.write_whole(maker, &path, named.bytes.as_ref())
+        let mut begun = begun;
+        for _ in 0..TRIES {
+            self.check(maker.rt)?;
+            self.has_new_names = true;
+            match self.put_held(maker, named, begun.take()) {
+                Ok(()) if self.guarded.stands(maker.rt) => return Ok(()),
+                Ok(()) | Err(FolderFault::Changed) => {
+                    let _ = self.news.push(News::WrittenAnew);
+                }
+                Err(fault) => return Err(fault),
             }
-            Err(fault) => Err(fault),
         }
+        Err(FolderFault::Changed)
     }
 
     /// Writes these files, in order, up to the first that is not written: of those that were begun behind it nothing stays.

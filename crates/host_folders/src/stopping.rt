@@ -1,8 +1,10 @@
 //! The end of a plant's station, asked for by another process.
 
 use crate::looks::within;
+use crate::open_folder::OpenFolder;
+use crate::workers::{WorkedOffers, Worker, worker_at};
 use folders::{FolderFault, STOP};
-use std::fs::{File, OpenOptions, TryLockError};
+use std::fs::{File, OpenOptions};
 use std::io::ErrorKind;
 use std::time::Duration;
 use std::{fs, io, thread};
@@ -36,19 +38,37 @@ pub fn lay_stop(rt: &HostRuntime, offers: &str) -> Result<(), FolderFault> {
     Ok(fs::rename(rt, made.as_str(), stop.as_str())?)
 }
 
-/// Whether another process works with a folder. A host that has no locks for it says that none does.
-fn is_in_use(rt: &HostRuntime, path: &str) -> Result<bool, FolderFault> {
-    let folder = File::open(rt, path)?;
-    Ok(matches!(folder.try_lock(), Err(TryLockError::WouldBlock)))
+/// Whether another process has the lock of a folder, which is taken for that. A host that has no locks for it says that none does.
+fn is_locked(rt: &HostRuntime, path: &str) -> Result<bool, FolderFault> {
+    let folder = OpenFolder::at(rt, path)?;
+    Ok(!folder.is_free())
 }
 
-/// Waits until no other process works with a folder, for so many seconds at most; whether none does.
-pub fn await_end(rt: &HostRuntime, path: &str, seconds: u32) -> Result<bool, FolderFault> {
+/// What works with the offers of a station. A lock is taken only where the host does not list who holds one.
+fn look(rt: &HostRuntime, worked: WorkedOffers<'_>) -> Result<Worker, FolderFault> {
+    match worker_at(rt, worked)? {
+        Worker::Unlisted => {
+            if is_locked(rt, worked.offers)? {
+                Ok(Worker::Unlisted)
+            } else {
+                Ok(Worker::Nobody)
+            }
+        }
+        found => Ok(found),
+    }
+}
+
+/// Waits until no process works with the offers of a station, for so many seconds at most, and answers what does then.
+pub fn await_end(
+    rt: &HostRuntime,
+    worked: WorkedOffers<'_>,
+    seconds: u32,
+) -> Result<Worker, FolderFault> {
     for _ in 0..LOOKS.saturating_mul(seconds) {
-        if !is_in_use(rt, path)? {
-            return Ok(true);
+        if matches!(look(rt, worked)?, Worker::Nobody) {
+            return Ok(Worker::Nobody);
         }
         thread::sleep(rt, Duration::from_millis(PAUSE));
     }
-    Ok(!is_in_use(rt, path)?)
+    look(rt, worked)
 }

@@ -1,12 +1,14 @@
 //! The command `stop`.
 
+ghost use Rattle.std.specs.Prelude.{◌≡◌};
 ghost use Rattle.command_ends.specs.Ends.{end_of, IsOfInput};
 ghost use Rattle.command_ends.specs.Giving.{Gives};
+ghost use Rattle.host_folders.specs.declared.workers.Worker.TheVariants.{Nobody};
 
 use command_ends::{End, Fault, end_with};
 use configuration::{ConfigInput, NoLookUp, read_config};
 use folders::FolderFault;
-use host_folders::{await_end, lay_stop};
+use host_folders::{WorkedOffers, Worker, await_end, lay_stop};
 use std::io::Write;
 use streams::InputFile;
 
@@ -26,6 +28,20 @@ fn of_offers<'a>(what: &'static str, fault: FolderFault) -> Fault<'a>
     }
 }
 
+/// Refuses a station that has not ended in time: something works with its offers still.
+fn test_ended<'a>(worker: Worker) -> Result<(), Fault<'a>>
+    ensures ended { Gives result (λ _. worker ≡ Nobody) }
+{
+    match worker {
+        Worker::Nobody => Ok(()),
+        Worker::Process(process) => Err(Fault::StillHeld {
+            seconds: SECONDS,
+            process,
+        }),
+        Worker::Unlisted => Err(Fault::NotEnded(SECONDS)),
+    }
+}
+
 /// Ends the station of the configuration at a path.
 fn stopped<'a>(rt: &HostRuntime, config: &'a str) -> Result<(), Fault<'a>>
     ensures { Gives result (λ _. Unit {0}) }
@@ -42,9 +58,12 @@ fn stopped<'a>(rt: &HostRuntime, config: &'a str) -> Result<(), Fault<'a>>
     if let Err(fault) = lay_stop(rt, &folders.offers) {
         return Err(of_offers("write", fault));
     }
-    match await_end(rt, &folders.offers, SECONDS) {
-        Ok(true) => Ok(()),
-        Ok(false) => Err(Fault::NotEnded(SECONDS)),
+    let worked = WorkedOffers {
+        offers: &folders.offers,
+        rows: &config.rows,
+    };
+    match await_end(rt, worked, SECONDS) {
+        Ok(worker) => test_ended(worker),
         Err(fault) => Err(of_offers("read", fault)),
     }
 }

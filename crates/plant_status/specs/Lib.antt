@@ -1,3 +1,4 @@
 pub mod Texts
 pub mod Judging
+pub mod Owners
 pub mod Timing

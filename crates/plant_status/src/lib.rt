@@ -12,6 +12,7 @@ mod keeper;
 mod last_heard;
 mod moment;
 mod numbers;
+mod owner;
 mod reading;
 mod status;
 mod under_way;
@@ -24,6 +25,7 @@ pub use file::{NoStatus, StatusFile};
 pub use health::{Health, LONG_MISSING, LONG_UNHEARD, OLD, health_of};
 pub use keeper::{Keeper, PlantCounts};
 pub use moment::Moment;
+pub use owner::{StatusOwner, may_be_replaced, owner_text};
 pub use reading::{Unread, read};
 pub use status::{
     Busy, HeardMember, Missing, NumberSpan, OfferCounts, Purpose, Released, StationId, Status,

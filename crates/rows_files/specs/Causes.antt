@@ -26,6 +26,11 @@ cause_text causes.Damaged = codes "it is no database, or damaged, or without its
 cause_text causes.Unopened = codes "it can't be opened"
 cause_text causes.DiskFull = codes "the disk is full"
 cause_text causes.DiskFailed = codes "the disk failed"
+cause_text causes.Replaced = codes "another file stands at its path, or none: what it held is kept there with .kept behind its name"
+cause_text causes.Unkept = codes "another file stands at its path, or none, and what it held could not be kept: find the file that was here and its log, or the station is lost"
+cause_text causes.Lost = codes "its folder is gone: the station is lost"
+cause_text causes.Kept = codes "what a station saved here last is kept with .kept behind its name: put that and its log in place of these"
+cause_text causes.HalfKept = codes "what a station saved here last was not kept whole: find the file that was here and its log, or the station is lost"
 
 -- a refusal whose fault tells all
 abbrev pub refused_by : RowsFault → RefusedRows

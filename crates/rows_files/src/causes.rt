@@ -40,6 +40,16 @@ pub enum RowsCause {
     DiskFull,
     /// The disk failed.
     DiskFailed,
+    /// Its path led to another file, or to none, while a station was up over it. What it held lies beside it.
+    Replaced,
+    /// So it did, and what it held could not all be written beside it.
+    Unkept,
+    /// Its folder is gone.
+    Lost,
+    /// What an earlier one at its path held lies beside it.
+    Kept,
+    /// A part of that lies there.
+    HalfKept,
 }
 
 impl RowsCause {
@@ -69,6 +79,19 @@ impl RowsCause {
             RowsCause::Unopened => "it can't be opened",
             RowsCause::DiskFull => "the disk is full",
             RowsCause::DiskFailed => "the disk failed",
+            RowsCause::Replaced => {
+                "another file stands at its path, or none: what it held is kept there with .kept behind its name"
+            }
+            RowsCause::Unkept => {
+                "another file stands at its path, or none, and what it held could not be kept: find the file that was here and its log, or the station is lost"
+            }
+            RowsCause::Lost => "its folder is gone: the station is lost",
+            RowsCause::Kept => {
+                "what a station saved here last is kept with .kept behind its name: put that and its log in place of these"
+            }
+            RowsCause::HalfKept => {
+                "what a station saved here last was not kept whole: find the file that was here and its log, or the station is lost"
+            }
         }
     }
 }

@@ -8,7 +8,7 @@ ghost use Rattle.tape_frames.specs.declared.version.Version.{Version as VersionV
 ghost use Rattle.command_ends.specs.Ends.{end_of, IsOfRows};
 ghost use Rattle.rows_files.specs.Creating.{MayBeMade};
 ghost use Rattle.rows_files.specs.Knowing.{KnowsAll};
-ghost use Rattle.rows_files.specs.Telling.{IsDoneOrRefused};
+ghost use Rattle.rows_files.specs.Telling.{IsDoneOrRefused, IsToldStill};
 ghost use Rattle.rows_files.specs.declared.causes.RefusedRows.{RefusedRows as RefusedRowsValue};
 
 use crate::causes::RefusedRows;
@@ -88,6 +88,11 @@ pub trait RowFiles {
     /// Where that is refused nothing is lost: the file and its log hold the rows together.
     fn close(&self, rows: Self::Rows) -> Result<(), RefusedRows>
         ensures { IsDoneOrRefused (refuses self.now) result (λ _. closes self.now rows) };
+
+    /// Lets the rows go of a command that came to a fault, as a kill would. Where their file stands at its path no more, what it holds is kept beside
+    /// that first. The fault stays, or tells why a save was refused; it ends the command as it did.
+    fn let_go<'f>(&self, rows: Self::Rows, fault: Fault<'f>) -> Fault<'f>
+        ensures { IsToldStill (refuses self.now) fault.entry result };
 
     /// Lists the rows in the file at a path, whosever they are, as the command `rows` prints them. A fault is one of the rows, the
     /// output or memory.

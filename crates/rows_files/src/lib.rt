@@ -6,6 +6,7 @@ mod closing;
 mod creating;
 mod files;
 mod found;
+mod standing;
 
 pub use causes::{RefusedRows, RowsCause};
 pub use closing::close_rows;
@@ -15,3 +16,4 @@ pub use found::{
     AT_REST, FoundFile, FoundLog, HEAD_LEN, IN_USE, MARK_AT, Mark, file_of, making_refusal,
     opening_refusal,
 };
+pub use standing::{FoundId, FoundPair, PairIds, Standing, kept_refusal, opened_pair, standing_of};

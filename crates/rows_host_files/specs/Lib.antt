@@ -3,3 +3,4 @@ pub mod Collecting
 pub mod Living
 pub mod Starting
 pub mod Taking
+pub mod Watching

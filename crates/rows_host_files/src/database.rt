@@ -4,16 +4,20 @@ ghost use Rattle.std.specs.Prelude.{◌≡◌, IfOk, OnOk, IfErr};
 ghost use Rattle.std.specs.Io.KnownBytes.{Appends};
 ghost use Rattle.rows_command.specs.RowsText.{layout_text};
 ghost use Rattle.command_ends.specs.Ends.{end_of, IsOfRows};
+ghost use Rattle.rows_files.specs.Telling.{IsToldStill};
 ghost use Rattle.rows_host_files.specs.Living.{EndsAs, WasClosed};
 ghost use Rattle.rows_host_files.specs.Taking.{AreUpgraded, WereUpgraded};
+ghost use Rattle.rows_host_files.specs.Watching.{IsClosedBehindLook};
 ghost use Rattle.rows_host_files.specs.declared.database.RowsTask.TheVariants.{Upgrade};
 
 use crate::causes::refused_by;
+use crate::watched::{Watch, Watched, stands};
 use acceptor_store::SqliteRows;
 use command_ends::Fault;
 use rows_command::{print_rows, upgrade_rows};
-use rows_files::RefusedRows;
+use rows_files::{RefusedRows, RowsCause};
 use rows_life::end_life;
+use rows_saved::{Rows, RowsFault};
 use sqlite::{Alter, FileStore, Files};
 use sqlite_disk::Disk;
 use std::alloc::Global;
@@ -73,18 +77,78 @@ pub(crate) fn close_database<D: Disk + Drop>(
     Ok(())
 }
 
-/// Does this with the rows of a database, and closes it where there is no fault. A store of files meets a function over any
-/// store here alone: each such place costs the prover many seconds.
-pub(crate) fn done_over<D: Disk + Drop, W: Write>(
-    rows: SqliteRows<FileStore<D>>,
+/// Closes a database where its file stands at its path now; else what it holds is kept beside that, and nothing at the path is touched.
+pub(crate) fn close_where_it_stands<D: Disk + Drop, H: Watch>(
+    rows: Watched<SqliteRows<FileStore<D>>, H>,
+) -> Result<(), RefusedRows>
+    ensures { OnOk result (IsClosedBehindLook H.looks (λ s. WasClosed s) rows) }
+{
+    let Watched {
+        rows,
+        mut watch,
+        mut is_gone,
+        refusals: _,
+    } = rows;
+    if !stands(&mut watch, &mut is_gone) {
+        return Err(RefusedRows::for_cause(watch.keep()));
+    }
+    close_database(rows)?;
+    Ok(())
+}
+
+/// A save that was refused for no cause that is known, told with the cause that is known by now; any other fault as it is.
+pub(crate) fn told_with<'f>(fault: Fault<'f>, cause: RowsCause) -> Fault<'f>
+    ensures told { IsToldStill (λ _. Unit {0}) fault.entry result }
+{
+    match fault {
+        Fault::Rows(RowsFault::Store) => Fault::RowsFile(RowsFault::Store, cause.text()),
+        fault => fault,
+    }
+}
+
+/// Lets go of the rows of a command that came to a fault. Where their file does not stand at its path, what it holds is kept beside that, and the
+/// fault tells what came of it.
+pub(crate) fn let_go_of<'f, R: Rows, H: Watch>(rows: Watched<R, H>, fault: Fault<'f>) -> Fault<'f>
+    ensures lets_go { IsToldStill (λ _. Unit {0}) fault.entry result }
+{
+    // The rows stay locked until all is kept.
+    let Watched {
+        rows: _rows,
+        mut watch,
+        mut is_gone,
+        refusals: _,
+    } = rows;
+    if stands(&mut watch, &mut is_gone) {
+        fault
+    } else {
+        told_with(fault, watch.keep())
+    }
+}
+
+/// Does this with the rows of a database, and closes it where there is no fault and its file stands at its path. A store of files meets a function
+/// over any store here alone: each such place costs the prover many seconds.
+pub(crate) fn done_over<D: Disk + Drop, H: Watch, W: Write>(
+    rows: Watched<SqliteRows<FileStore<D>>, H>,
     task: RowsTask,
     out: &mut W,
 ) -> Result<(), Fault<'static>>
     ensures ends { IfErr result (λ fault. IsOfRows (end_of fault)) }
-    ensures upgraded { OnOk result (task ≡ Upgrade → WereUpgraded rows) }
+    ensures upgraded { OnOk result (task ≡ Upgrade → WereUpgraded rows.rows) }
     ensures done { OnOk result (task ≡ Upgrade → Appends (W.contents out.old) (W.contents out.new) layout_text) }
 {
+    let Watched {
+        rows,
+        watch,
+        is_gone,
+        refusals,
+    } = rows;
     let rows = carried_out(rows, task, out)?;
-    close_database(rows)?;
+    let rows = Watched {
+        rows,
+        watch,
+        is_gone,
+        refusals,
+    };
+    close_where_it_stands(rows)?;
     Ok(())
 }

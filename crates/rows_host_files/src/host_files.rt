@@ -3,12 +3,16 @@
 ghost use Rattle.tape_frames.specs.Entries.{version_of};
 ghost use Rattle.rows_host_files.specs.Living.{WasClosed};
 ghost use Rattle.rows_host_files.specs.Taking.{AreOpened, HasMade, HasUpgraded};
+ghost use Rattle.rows_host_files.specs.Watching.{IsClosedBehindLook};
 
 use crate::causes::refused_by;
-use crate::database::{RowsTask, close_database, done_over};
+use crate::database::{RowsTask, close_where_it_stands, done_over, let_go_of};
 use crate::known_rows;
+use crate::look::test_opening;
 use crate::making::Making;
 use crate::opening::rows_at;
+use crate::watch::{HostWatch, found_at, paths_at};
+use crate::watched::{Watch, Watched};
 use acceptor_store::{FileFault, SqliteRows};
 use command_ends::Fault;
 use gone_out::Known;
@@ -23,12 +27,15 @@ use std::io::Write;
 /// promise broken.
 type Database = SqliteRows<FileStore<FileFrom<Wary>>>;
 
+/// The database, saved only while its file stands at its path.
+type WatchedRows = Watched<Database, HostWatch>;
+
 /// The files of the host.
 #[derive(Clone, Copy)]
 pub struct HostFiles;
 
 impl RowFiles for HostFiles {
-    type Rows = Database;
+    type Rows = WatchedRows;
 
     // Whoever has the program has its files; what of a call asks for a file to be made stands in the contracts above.
     ghost may_make = { λ _. Unit {0} };
@@ -38,11 +45,12 @@ impl RowFiles for HostFiles {
 
     ghost leaves = { λ _ _ i version. HasMade ⟦<FileFrom<Wary> as Disk>⟧ i (version_of version) };
 
-    ghost opens = { λ _ _ given rows. AreOpened given rows };
+    ghost opens = { λ _ _ given rows. AreOpened given rows.rows };
 
     ghost upgrades = { λ _ _. HasUpgraded ⟦<FileFrom<Wary> as Disk>⟧ };
 
-    ghost closes = { λ _ rows. WasClosed rows };
+    // A look found file and log at their paths before.
+    ghost closes = { λ _ rows. IsClosedBehindLook ⟦<HostWatch as Watch>⟧.looks (λ s. WasClosed s) rows };
 
     /// What a making that is refused leaves under the other name is removed.
     fn make(&self, rt: &HostRuntime, new: NewRows<'_>) -> Result<(), RefusedRows> {
@@ -61,23 +69,34 @@ impl RowFiles for HostFiles {
         rt: &HostRuntime,
         path: &str,
         identity: Option<Identity>,
-    ) -> Result<Database, RefusedRows> {
-        match rows_at(rt, path, Wary, identity) {
-            Ok(rows) => Ok(rows),
-            Err(refused) => Err(refused),
-        }
+    ) -> Result<WatchedRows, RefusedRows> {
+        test_opening(rt, path)?;
+        let paths = paths_at(rt, path)?;
+        let before = found_at(rt, &paths);
+        let rows = rows_at(rt, path, Wary, identity)?;
+        let watch = HostWatch::behind(rt, paths, before)?;
+        Ok(Watched {
+            rows,
+            watch,
+            is_gone: false,
+            refusals: 0,
+        })
     }
 
-    fn known(&self, alloc: Global, rows: &mut Database) -> Result<Known, RefusedRows> {
-        match known_rows(alloc, rows) {
+    fn known(&self, alloc: Global, rows: &mut WatchedRows) -> Result<Known, RefusedRows> {
+        match known_rows(alloc, &mut rows.rows) {
             Ok(known) => Ok(known),
             Err(fault) => Err(refused_by(FileFault::Rows(fault))),
         }
     }
 
-    fn close(&self, rows: Database) -> Result<(), RefusedRows> {
-        close_database(rows)?;
+    fn close(&self, rows: WatchedRows) -> Result<(), RefusedRows> {
+        close_where_it_stands(rows)?;
         Ok(())
+    }
+
+    fn let_go<'f>(&self, rows: WatchedRows, fault: Fault<'f>) -> Fault<'f> {
+        let_go_of(rows, fault)
     }
 
     fn list<W: Write>(

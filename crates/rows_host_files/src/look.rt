@@ -1,9 +1,11 @@
 //! What stands at the path of a row file, by plain reads: a look writes nothing, and opens nothing but a file.
 
 use rows_files::{
-    FoundFile, FoundLog, HEAD_LEN, RefusedRows, RowsCause, file_of, making_refusal, opening_refusal,
+    FoundFile, FoundLog, HEAD_LEN, RefusedRows, RowsCause, file_of, kept_refusal, making_refusal,
+    opening_refusal,
 };
 use rows_life::{LOG_HEAD_LEN, log_of};
+use station_files::{kept_path, log_path};
 use std::fs::File;
 use std::io::{ErrorKind, Read};
 use std::{fs, io};
@@ -35,7 +37,7 @@ fn head_of(rt: &HostRuntime, path: &str, len: usize) -> io::Result<Vec<u8>> {
 
 /// The log of the file at a path that no link stands at.
 fn log_beside(rt: &HostRuntime, path: &str) -> Result<FoundLog, RefusedRows> {
-    let log = format!(in rt.alloc(); "{path}-wal")?;
+    let log = log_path(rt.alloc(), path)?;
     match fs::symlink_metadata(rt, log.as_str()) {
         Ok(data) if !data.is_file() => Err(RefusedRows::for_cause(RowsCause::Unopened)),
         Ok(_) => {
@@ -107,8 +109,19 @@ fn refused_at(rt: &HostRuntime, path: &str, found: &RowFilePair, cause: RowsCaus
     }
 }
 
+/// Refuses a path beside which something is kept that was saved there: what stands at the path itself is older, or another station's.
+fn test_kept(rt: &HostRuntime, path: &str) -> Result<(), RefusedRows> {
+    let kept = kept_path(rt.alloc(), path)?;
+    let log = log_path(rt.alloc(), &kept)?;
+    match kept_refusal(!is_free(rt, &kept)?, !is_free(rt, &log)?) {
+        None => Ok(()),
+        Some(cause) => Err(RefusedRows::for_cause(cause)),
+    }
+}
+
 /// Refuses a path at which no row file may be made.
 pub(crate) fn test_making(rt: &HostRuntime, path: &str) -> Result<(), RefusedRows> {
+    test_kept(rt, path)?;
     let found = found_at(rt, path)?;
     match making_refusal(found.file(), found.log) {
         None => Ok(()),
@@ -118,6 +131,7 @@ pub(crate) fn test_making(rt: &HostRuntime, path: &str) -> Result<(), RefusedRow
 
 /// Refuses a path at which no row file is to be opened.
 pub(crate) fn test_opening(rt: &HostRuntime, path: &str) -> Result<(), RefusedRows> {
+    test_kept(rt, path)?;
     let found = found_at(rt, path)?;
     match opening_refusal(found.file(), found.log) {
         None => Ok(()),

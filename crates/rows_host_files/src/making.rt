@@ -12,6 +12,7 @@ use acceptor_store::{NewTables, SqliteRows};
 use rows_files::{NewRows, RefusedRows, RowsCause};
 use sqlite::{FileFrom, Wary};
 use sqlite_disk::Disk;
+use station_files::{log_path, making_path};
 use std::fs::{File, TryLockError};
 use std::io::ErrorKind;
 use std::path::{AsPath, Path};
@@ -85,8 +86,8 @@ impl Making {
             return Err(RefusedRows::for_cause(RowsCause::Unopened));
         }
         test_making(rt, path)?;
-        let part = format!(in rt.alloc(); "{path}.making")?;
-        let log = format!(in rt.alloc(); "{path}.making-wal")?;
+        let part = making_path(rt.alloc(), path)?;
+        let log = log_path(rt.alloc(), &part)?;
         let folder = lock_folder(rt, path)?;
         Ok(Making {
             folder,
@@ -108,6 +109,9 @@ impl Making {
         fs::rename(rt, self.path.as_str(), path)?;
         match self.folder.sync_all() {
             Ok(()) => Ok(()),
+            Err(error) if error.kind() == ErrorKind::StorageFull => {
+                Err(RefusedRows::for_cause(RowsCause::DiskFull))
+            }
             Err(_) => Err(RefusedRows::for_cause(RowsCause::DiskFailed)),
         }
     }

@@ -15,6 +15,7 @@ unknown ends.Usage = ends.Usage
 unknown ends.Store = ends.Store
 unknown ends.Socket = ends.Socket
 unknown ends.Memory = ends.Memory
+unknown ends.Busy = ends.Busy
 
 -- want of memory ends it as it ends any command
 abbrev pub end_of_status : StatusFault → End

@@ -7,6 +7,7 @@ use crate::shown::shown;
 use crate::watching::{FRESH, watch};
 use command_ends::{End, Fault, found_with, tell};
 use configuration::{Config, ConfigInput, NoLookUp, read_config};
+use host_folders::{WorkedOffers, Worker, worker_at};
 use plant_status::{Health, Status, ages_of, health_of, seconds_now};
 use std::io::{IsTerminal, Write};
 use streams::{InputFile, hand_on, put_parts};
@@ -41,6 +42,18 @@ fn health_at(rt: &HostRuntime, status: &Status, config: &Config) -> Result<Healt
     }
 }
 
+/// What works with the offers of the station of a configuration; `None` where they can't be looked at.
+fn worker_of(rt: &HostRuntime, config: &Config) -> Option<Worker> {
+    let Some(folders) = &config.folders else {
+        return None;
+    };
+    let worked = WorkedOffers {
+        offers: &folders.offers,
+        rows: &config.rows,
+    };
+    worker_at(rt, worked).ok()
+}
+
 /// What a status tells, and whether its station is well.
 fn told_by(
     rt: &HostRuntime,
@@ -48,9 +61,10 @@ fn told_by(
     status: &Status,
 ) -> Result<(String, bool), StatusFault> {
     let health = health_at(rt, status, asked.config)?;
+    let worker = worker_of(rt, asked.config);
     let text = match asked.shape {
-        Shape::Json => json_of(rt.alloc(), status, &health)?,
-        Shape::Lines | Shape::Watched => shown(rt.alloc(), status, &health)?,
+        Shape::Json => json_of(rt.alloc(), status, &health, worker)?,
+        Shape::Lines | Shape::Watched => shown(rt.alloc(), status, &health, worker)?,
     };
     Ok((text, health.is_well()))
 }

@@ -1,5 +1,6 @@
 //! A status and whether it is well, as one object of JSON.
 
+use host_folders::Worker;
 use plant_status::{Busy, Health, HeardMember, Missing, Moment, NumberSpan, Purpose, Status};
 use serde_json::{Map, Value, push, put};
 use std::alloc::{AllocError, Global};
@@ -12,6 +13,8 @@ enum Leaf {
     /// A moment; null where there is none.
     Moment(Option<Moment>),
     Purpose(Purpose),
+    /// The number of a process; null where there is none.
+    Process(Option<u32>),
 }
 
 impl Leaf {
@@ -23,6 +26,8 @@ impl Leaf {
             Leaf::Moment(None) => Ok(Value::Null),
             Leaf::Moment(Some(moment)) => Ok(Value::String(format!(in alloc; "{moment}")?)),
             Leaf::Purpose(purpose) => Value::try_from_str(alloc, purpose.word()),
+            Leaf::Process(Some(number)) => Ok(Value::from(number)),
+            Leaf::Process(None) => Ok(Value::Null),
         }
     }
 }
@@ -162,6 +167,25 @@ fn health(alloc: Global, health: &Health) -> Result<Value, AllocError> {
     object(alloc, &leaves)
 }
 
+/// The process that holds the offers, where the host lists one.
+fn holder(worker: Option<Worker>) -> Leaf {
+    match worker {
+        Some(Worker::Process(process)) => Leaf::Process(Some(process)),
+        Some(Worker::Nobody | Worker::Unlisted) | None => Leaf::Process(None),
+    }
+}
+
+/// Puts into an object which process holds the offers, and whether the host lists who does.
+fn add_worker(
+    whole: &mut Map<String, Value>,
+    alloc: Global,
+    worker: Option<Worker>,
+) -> Result<(), AllocError> {
+    let is_listed = !matches!(worker, Some(Worker::Unlisted));
+    add(whole, alloc, "holder", holder(worker).value(alloc))?;
+    add(whole, alloc, "listed", Leaf::Truth(is_listed).value(alloc))
+}
+
 /// Puts all that is told into an object.
 fn add_all(
     whole: &mut Map<String, Value>,
@@ -189,14 +213,16 @@ fn add_all(
     add(whole, alloc, "health", health(alloc, found))
 }
 
-/// A status, and whether it is well, as one object on a line.
+/// A status, whether it is well and which process holds the offers, as one object on a line.
 pub(crate) fn json_of(
     alloc: Global,
     status: &Status,
     found: &Health,
+    worker: Option<Worker>,
 ) -> Result<String, AllocError> {
     let mut whole = Map::new(alloc);
     add_all(&mut whole, alloc, status, found)?;
+    add_worker(&mut whole, alloc, worker)?;
     let mut text = Value::Object(whole).to_string(alloc)?;
     text.push_str("\n")?;
     Ok(text)

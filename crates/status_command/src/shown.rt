@@ -1,5 +1,6 @@
 //! A status and whether it is well, as they are printed.
 
+use host_folders::Worker;
 use plant_status::{Health, LONG_MISSING, LONG_UNHEARD, OLD, Status, text_of};
 use std::alloc::{AllocError, Global};
 
@@ -24,9 +25,24 @@ fn put_health(text: &mut String, health: &Health) -> Result<(), AllocError> {
     text.push_str("\n")
 }
 
-/// The text of a status, and behind it the line that says whether it is well.
-pub(crate) fn shown(alloc: Global, status: &Status, health: &Health) -> Result<String, AllocError> {
+/// Puts behind a text which process holds the offers, in a line, where one does, or that the host does not tell.
+fn put_worker(text: &mut String, worker: Option<Worker>) -> Result<(), AllocError> {
+    match worker {
+        Some(Worker::Process(process)) => writeln!(text, "process {process} holds offers"),
+        Some(Worker::Unlisted) => text.push_str("the host does not list who holds offers\n"),
+        Some(Worker::Nobody) | None => Ok(()),
+    }
+}
+
+/// The text of a status, behind it which process holds the offers, and last the line that says whether it is well.
+pub(crate) fn shown(
+    alloc: Global,
+    status: &Status,
+    health: &Health,
+    worker: Option<Worker>,
+) -> Result<String, AllocError> {
     let mut text = text_of(alloc, status)?;
+    put_worker(&mut text, worker)?;
     put_health(&mut text, health)?;
     Ok(text)
 }

@@ -4,5 +4,5 @@ pub returns-clause-upgraded : goal.returns-clause-upgraded
 returns-clause-upgraded g c upgrade = record {
   now = c.in_ok-rows.rows;
   upgraded = c.in_ok-rows.ensures.upgraded upgrade;
-  closed = c.in_ok-close_database.ensures;
+  closed = c.in_ok-close_where_it_stands.ensures.closed;
 }

@@ -1,0 +1,4 @@
+pub mod Files
+pub mod Homes
+pub mod Paths
+pub mod Traces
